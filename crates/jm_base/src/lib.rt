@@ -1,0 +1,15 @@
+//! The words that every crate of the provider shares: texts and lists that contracts see as their
+//! lists, the refusals, and the acknowledgement modes.
+#![tactic(auto)]
+
+mod boxed;
+mod list;
+mod mode;
+mod refusal;
+mod text;
+
+pub use boxed::Boxed;
+pub use list::List;
+pub use mode::Mode;
+pub use refusal::{Cause, MessageFault, Refusal};
+pub use text::Str;

@@ -1,0 +1,6 @@
+/// How a session acknowledges what its consumers receive (Jakarta Messaging 3.1, section 6.2.10).
+#[derive(Clone, Copy, Debug, PartialEq, Eq)]
+pub enum Mode {
+    /// A message is settled in the same step in which it is delivered.
+    Auto,
+}
