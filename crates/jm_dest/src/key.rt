@@ -1,0 +1,53 @@
+ghost use Rattle.std.specs.Prelude.{◌≡◌, IfOk};
+ghost use Rattle.jm_dest.specs.Keys as spec;
+
+use crate::name::{ClientId, Name, SubscriptionName};
+use crate::number::ConsumerId;
+use crate::session::SessionId;
+use std::alloc::AllocError;
+
+/// What a row is held for: a queue, or a subscription of one of three families (Jakarta Messaging
+/// 3.1, section 8.3; the keys are ours).
+#[derive(Debug, PartialEq, Eq, Drop)]
+pub enum Key {
+    /// The queue of that name.
+    Queue(Name),
+    /// The unshared non-durable subscription of one consumer.
+    Own(SessionId, ConsumerId),
+    /// A shared non-durable subscription, by client identifier and name.
+    SharedOwn(Option<ClientId>, SubscriptionName),
+    /// A durable subscription, unshared or shared, by client identifier and name.
+    Durable(Option<ClientId>, SubscriptionName),
+}
+
+fn copy_client(client: &Option<ClientId>) -> Result<Option<ClientId>, AllocError>
+    ensures { IfOk result (λ copy. copy ≡ client.now) }
+{
+    match client {
+        None => Ok(None),
+        Some(client) => Ok(Some(client.copy()?)),
+    }
+}
+
+impl Key {
+    /// An equal key. `AllocError` where a request for memory was refused.
+    pub fn copy(&self) -> Result<Key, AllocError>
+        ensures { IfOk result (λ copy. copy ≡ self.now) }
+    {
+        match self {
+            Key::Queue(name) => Ok(Key::Queue(name.copy()?)),
+            Key::Own(session, consumer) => Ok(Key::Own(*session, *consumer)),
+            Key::SharedOwn(client, name) => {
+                Ok(Key::SharedOwn(copy_client(client)?, name.copy()?))
+            }
+            Key::Durable(client, name) => Ok(Key::Durable(copy_client(client)?, name.copy()?)),
+        }
+    }
+
+    /// Whether both are the same key.
+    pub fn is(&self, other: &Key) -> bool
+        ensures { result ≡ spec.key_eq self.now other.now }
+    {
+        *self == *other
+    }
+}
