@@ -1,7 +1,8 @@
-ghost use Rattle.std.specs.Prelude.{◌≡◌};
+ghost use Rattle.std.specs.Prelude.{◌≡◌, [], ◌∷◌, ◌++◌, OnOk, OnErr};
 ghost use Rattle.std.specs.Cmp.{on_per};
 ghost use Rattle.std.specs.Cmp.Lexicographic.{pointwise, lists_per};
 
+use std::alloc::AllocError;
 use std::marker::Model;
 
 /// A `Vec` that contracts see as the list of its elements, so that a copy equals what it copies.
@@ -42,6 +43,18 @@ impl<T> List<T> {
     {
         let List { items } = self;
         items
+    }
+}
+
+impl<T: Drop> List<T> {
+    /// Adds the element at the end. `AllocError` where a request for memory was refused, and then the
+    /// list is as before.
+    pub fn push(&mut self, item: T) -> Result<(), AllocError>
+        ensures ok { OnOk result (self.new ≡ self.old ++ item ∷ []) }
+        ensures err { OnErr result (self.new ≡ self.old) }
+    {
+        self.items.push(item)?;
+        Ok(())
     }
 }
 

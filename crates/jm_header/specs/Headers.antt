@@ -1,0 +1,59 @@
+-- What a draft is at first, what a stamp makes of it, and when a message is expired (Jakarta
+-- Messaging 3.1, section 3.4).
+use Rattle.std.specs.Prelude.{ℕ, ◌≢◌, ◌≤◌, ◌+◌, ◌^◌, ◌&&◌, ◌==◌, nat_le, nat_lt, if◌then◌else◌, Bool, true, false, None, Result, Ok, Err}
+use Rattle.jm_base.specs.declared.refusal.Refusal.{Refusal}
+use Rattle.jm_base.specs.declared.refusal.Refusal.TheVariants.{OutOfRange}
+use Rattle.jm_dest.specs.declared.destination.Destination.{Destination}
+use Rattle.jm_header.specs.declared.body.Body.TheVariants.{None as no_body}
+use Rattle.jm_header.specs.declared.content.Content.{Content}
+use Rattle.jm_header.specs.declared.content.DeliveryMode.TheVariants.{Persistent}
+use Rattle.jm_header.specs.declared.content.Sender.{Sender}
+use Rattle.jm_header.specs.declared.content.Settings.{Settings}
+
+-- a new draft: PERSISTENT, priority 4, no time to live, no body
+abbrev pub defaults : Settings
+defaults = record {
+  mode = Persistent;
+  priority = 4;
+  time_to_live = 0;
+  correlation = None;
+  message_type = None;
+  body = no_body;
+}
+
+-- the expiration of a message that is sent then: none (0) where the time to live is 0
+abbrev pub expiration_of : ℕ → ℕ → ℕ
+expiration_of time_to_live now = if time_to_live == 0 then 0 else now + time_to_live
+
+-- the number of a send and the moments of its message are within 2^63-1
+abbrev pub is_in_range : ℕ → ℕ → ℕ → Bool
+is_in_range time_to_live number now =
+    nat_le 1 number && nat_lt number (2 ^ 63) && nat_lt (now + time_to_live) (2 ^ 63)
+
+-- the message that a draft becomes when it is sent
+abbrev pub message_of : Settings → Destination → Sender → ℕ → ℕ → Content
+message_of draft destination sender number now = record {
+  sender = sender;
+  number = number;
+  destination = destination;
+  mode = draft.mode;
+  priority = draft.priority;
+  timestamp = now;
+  expiration = expiration_of draft.time_to_live now;
+  correlation = draft.correlation;
+  message_type = draft.message_type;
+  body = draft.body;
+  is_body_read_only = false;
+  are_properties_read_only = false;
+}
+
+-- what a stamp answers: that message, or OutOfRange where a number or a moment passes its range
+abbrev pub stamped : Settings → Destination → Sender → ℕ → ℕ → Result Content Refusal
+stamped draft destination sender number now =
+    if is_in_range draft.time_to_live number now
+    then Ok (message_of draft destination sender number now)
+    else Err OutOfRange
+
+-- a message is expired where it has an expiration, which is not after that moment
+abbrev pub IsExpired : Content → ℕ → Type 0
+IsExpired message now = (message.expiration ≢ 0) × (message.expiration ≤ now)

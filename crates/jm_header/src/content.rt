@@ -1,0 +1,116 @@
+ghost use Rattle.std.specs.Prelude.{◌≡◌, IfOk};
+
+use crate::body::Body;
+use jm_base::Str;
+use jm_dest::{Destination, Moment, Number, SessionId};
+use std::alloc::{AllocError, Global};
+
+/// How a message is delivered (Jakarta Messaging 3.1, section 3.4.2, JMSDeliveryMode).
+#[derive(Clone, Copy, Debug, PartialEq, Eq)]
+pub enum DeliveryMode {
+    /// The message may be lost when the provider stops.
+    NonPersistent,
+    /// The message is stored before its sending is answered.
+    Persistent,
+}
+
+/// The session that sent a message, and the opening of the provider in which it did (ours).
+#[derive(Clone, Copy, Debug, PartialEq, Eq)]
+pub struct Sender {
+    pub opening: Number,
+    pub session: SessionId,
+}
+
+/// The fields of a message, as contracts see it.
+#[derive(Debug, PartialEq, Drop)]
+pub struct Content {
+    /// The session that sent the message.
+    pub sender: Sender,
+    /// The place of the message among the accepted sends of its session, from 1.
+    pub number: u64,
+    /// JMSDestination.
+    pub destination: Destination,
+    /// JMSDeliveryMode.
+    pub mode: DeliveryMode,
+    /// JMSPriority, from 0 to 9.
+    pub priority: u8,
+    /// JMSTimestamp, the moment of the send.
+    pub timestamp: Moment,
+    /// JMSExpiration, where 0 means that the message does not expire.
+    pub expiration: Moment,
+    /// JMSCorrelationID.
+    pub correlation: Option<Str>,
+    /// JMSType.
+    pub message_type: Option<Str>,
+    /// The body.
+    pub body: Body,
+    /// Whether the body is refused to be written.
+    pub is_body_read_only: bool,
+    /// Whether properties are refused to be written.
+    pub are_properties_read_only: bool,
+}
+
+/// The fields of a draft, as contracts see it.
+#[derive(Debug, PartialEq, Drop)]
+pub struct Settings {
+    /// JMSDeliveryMode.
+    pub mode: DeliveryMode,
+    /// JMSPriority, from 0 to 9.
+    pub priority: u8,
+    /// The time to live in milliseconds, where 0 means that the message does not expire.
+    pub time_to_live: u64,
+    /// JMSCorrelationID.
+    pub correlation: Option<Str>,
+    /// JMSType.
+    pub message_type: Option<Str>,
+    /// The body.
+    pub body: Body,
+}
+
+/// An equal text, or none. `AllocError` where a request for memory was refused.
+fn copy_text(text: &Option<Str>) -> Result<Option<Str>, AllocError>
+    ensures { IfOk result (λ copy. copy ≡ text.now) }
+{
+    match text {
+        None => Ok(None),
+        Some(text) => Ok(Some(text.copy()?)),
+    }
+}
+
+impl Content {
+    /// Equal fields. `AllocError` where a request for memory was refused.
+    pub fn copy(&self, alloc: Global) -> Result<Content, AllocError>
+        ensures { IfOk result (λ copy. copy ≡ self.now) }
+    {
+        Ok(Content {
+            sender: self.sender,
+            number: self.number,
+            destination: self.destination.copy()?,
+            mode: self.mode,
+            priority: self.priority,
+            timestamp: self.timestamp,
+            expiration: self.expiration,
+            correlation: copy_text(&self.correlation)?,
+            message_type: copy_text(&self.message_type)?,
+            body: self.body.copy(alloc)?,
+            is_body_read_only: self.is_body_read_only,
+            are_properties_read_only: self.are_properties_read_only,
+        })
+    }
+}
+
+impl Settings {
+    /// Equal fields. `AllocError` where a request for memory was refused.
+    pub fn copy(&self, alloc: Global) -> Result<Settings, AllocError>
+        ensures { IfOk result (λ copy. copy ≡ self.now) }
+    {
+        Ok(Settings {
+            mode: self.mode,
+            priority: self.priority,
+            time_to_live: self.time_to_live,
+            correlation: copy_text(&self.correlation)?,
+            message_type: copy_text(&self.message_type)?,
+            body: self.body.copy(alloc)?,
+        })
+    }
+}

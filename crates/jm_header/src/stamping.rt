@@ -1,0 +1,70 @@
+ghost use Rattle.std.specs.Prelude.{◌≡◌, ◌+◌, ◌<◌, ◌≤◌, ◌^◌, MatchResult};
+ghost use Rattle.jm_base.specs.declared.refusal.Refusal.TheVariants.{OutOfRange};
+ghost use Rattle.jm_header.specs.Headers.{stamped, expiration_of};
+
+use crate::content::{Content, Sender, Settings};
+use crate::draft::Draft;
+use crate::message::Message;
+use jm_base::Refusal;
+use jm_dest::{Destination, Moment};
+
+const NUMBER_MAX: u64 = 0x7fff_ffff_ffff_ffff;
+
+/// The expiration of what is sent at that moment. `OutOfRange` exactly where the timestamp and the
+/// time to live together are past 9,223,372,036,854,775,807.
+fn expiration(time_to_live: u64, now: Moment) -> Result<Moment, Refusal>
+    requires { time_to_live < 2 ^ 63 }
+    ensures { MatchResult result
+        (λ moment. (moment ≡ expiration_of time_to_live now) × (now + time_to_live < 2 ^ 63))
+        (λ refusal. (refusal ≡ OutOfRange) × (2 ^ 63 ≤ now + time_to_live)) }
+{
+    let end = now.get() + time_to_live;
+    if end > NUMBER_MAX {
+        return Err(Refusal::OutOfRange);
+    }
+    Moment::new(if time_to_live == 0 { 0 } else { end as i64 })
+}
+
+/// The message that the draft becomes when its session sends it as the send of that number at that
+/// moment. `OutOfRange` exactly where the number is 0 or past 9,223,372,036,854,775,807, or the
+/// timestamp and the time to live together are past it; then the draft is dropped. Takes no memory.
+pub fn stamp(
+    draft: Draft,
+    destination: Destination,
+    sender: Sender,
+    number: u64,
+    now: Moment,
+) -> Result<Message, Refusal>
+    ensures { result ≡ stamped draft destination sender number now }
+{
+    let (alloc, settings) = draft.into_settings();
+    if number == 0 || number > NUMBER_MAX {
+        return Err(Refusal::OutOfRange);
+    }
+    let expiration = expiration(settings.time_to_live, now)?;
+    let Settings {
+        mode,
+        priority,
+        time_to_live: _,
+        correlation,
+        message_type,
+        body,
+    } = settings;
+    Ok(Message::new(
+        alloc,
+        Content {
+            sender,
+            number,
+            destination,
+            mode,
+            priority,
+            timestamp: now,
+            expiration,
+            correlation,
+            message_type,
+            body,
+            is_body_read_only: false,
+            are_properties_read_only: false,
+        },
+    ))
+}

@@ -1,0 +1,9 @@
+pub mod Owns
+pub mod Life
+pub mod Rows
+pub mod Machine
+pub mod Client
+pub mod Entries
+pub mod Lone
+pub mod Isolation
+pub mod Examples

@@ -1,0 +1,80 @@
+-- Which connections and sessions are open, and which connections are started (Jakarta Messaging 3.1,
+-- sections 6.1 and 6.2; that the caller chooses the numbers is ours).
+use Rattle.std.specs.Prelude.{ℕ, Bool, true, false, ◌&&◌, not, ◌==◌, List, [], ◌∷◌, ◌++◌, filter, map, find, Option, Some, None, is_some, if◌then◌else◌}
+use Rattle.jm_base.specs.declared.mode.Mode.{Mode}
+use Rattle.jm_dest.specs.declared.session.SessionId.{SessionId}
+use Rattle.jm_dest.specs.Names.{session_eq}
+use Rattle.jm_machine.specs.declared.call.Who.{Who}
+use Rattle.jm_machine.specs.declared.call.Who.TheVariants.{Connection, Session}
+use Rattle.jm_machine.specs.declared.call.Request.{Request}
+use Rattle.jm_machine.specs.declared.call.Request.TheVariants.{Open, Start, Stop, CreateSession}
+use Rattle.jm_machine.specs.declared.state.ConnectionState.{ConnectionState}
+use Rattle.jm_machine.specs.declared.state.SessionState.{SessionState}
+use Rattle.jm_machine.specs.Owns.{is_own, is_own_connection}
+
+-- the connections and sessions that were opened, in order
+pub record Life : Type 0 where
+  pub connections : List ConnectionState
+  pub sessions : List SessionState
+
+-- the connection of that number, where it was opened
+abbrev pub connection_of : List ConnectionState → ℕ → Option ConnectionState
+connection_of connections c = find (λ x. x.id == c) connections
+
+-- the session of that number, where it was opened
+abbrev pub session_of : List SessionState → SessionId → Option SessionState
+session_of sessions s = find (λ x. session_eq x.id s) sessions
+
+-- a connection is open from its opening on
+abbrev pub is_open_connection : Option ConnectionState → Bool
+is_open_connection None = false
+is_open_connection (Some x) = true
+
+-- a connection delivers messages while it is started
+abbrev pub is_started_connection : Option ConnectionState → Bool
+is_started_connection None = false
+is_started_connection (Some x) = x.is_started
+
+-- the mode of a session that is open
+abbrev pub open_mode : Option SessionState → Option Mode
+open_mode None = None
+open_mode (Some x) = Some x.mode
+
+-- the mode of that session, where it is open
+abbrev pub mode_of : Life → SessionId → Option Mode
+mode_of life s = open_mode (session_of life.sessions s)
+
+-- the connection of that number is started
+abbrev pub is_started : Life → ℕ → Bool
+is_started life c = is_started_connection (connection_of life.connections c)
+
+-- a session may be opened: its connection is open, and its number was not used
+abbrev pub is_new_session : Life → SessionId → Bool
+is_new_session life s = is_open_connection (connection_of life.connections s.connection) && not (is_some (session_of life.sessions s))
+
+-- a connection, started or stopped where it is that one
+abbrev pub started_if : ℕ → Bool → ConnectionState → ConnectionState
+started_if c on x = if x.id == c then record x { is_started = on } else x
+
+-- the connections, that one started or stopped
+abbrev pub with_started : ℕ → Bool → List ConnectionState → List ConnectionState
+with_started c on connections = map (started_if c on) connections
+
+-- the connections and sessions after a call by a connection that was accepted, or after any call by a
+-- session
+unfoldable pub life_after : Life → Who → Request → Life
+life_after life (Connection c) Open = record life { connections = life.connections ++ record { id = c; is_started = false } ∷ [] }
+life_after life (Connection c) Start = record life { connections = with_started c true life.connections }
+life_after life (Connection c) Stop = record life { connections = with_started c false life.connections }
+life_after life (Session s) (CreateSession mode) =
+    if is_new_session life s
+    then record life { sessions = life.sessions ++ record { id = s; mode = mode } ∷ [] }
+    else life
+life_after life _ _ = life
+
+-- the part that is about the given sessions and their connections
+unfoldable pub own_life : List SessionId → Life → Life
+own_life sessions life = record {
+  connections = filter (λ x. is_own_connection sessions x.id) life.connections;
+  sessions = filter (λ x. is_own sessions x.id) life.sessions;
+}

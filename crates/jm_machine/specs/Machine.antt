@@ -1,0 +1,227 @@
+-- The provider as a machine: one state, and for each call an answer or a refusal.
+use Rattle.std.specs.Prelude.{ℕ, ◌+◌, Bool, true, false, ◌&&◌, ◌||◌, not, ◌==◌, nat_le, List, [], ◌∷◌, ◌++◌, filter, map, find, length, Option, Some, None, is_some, Result, Ok, Err, if◌then◌else◌}
+use Rattle.std.specs.List.{list_any, list_all}
+use Rattle.jm_base.specs.declared.refusal.Refusal.{Refusal}
+use Rattle.jm_base.specs.declared.refusal.Refusal.TheVariants.{IllegalState, Exhausted}
+use Rattle.jm_dest.specs.declared.session.SessionId.{SessionId}
+use Rattle.jm_dest.specs.declared.destination.Destination.{Destination}
+use Rattle.jm_dest.specs.declared.destination.Destination.TheVariants.{Queue, Topic}
+use Rattle.jm_dest.specs.declared.key.Key.{Key}
+use Rattle.jm_dest.specs.declared.key.Key.TheVariants.{Own, Queue as OfQueue}
+use Rattle.jm_dest.specs.Names.{text_eq, session_eq}
+use Rattle.jm_dest.specs.Keys.{key_eq}
+use Rattle.jm_header.specs.declared.content.Content.{Content}
+use Rattle.jm_machine.specs.declared.call.Who.{Who}
+use Rattle.jm_machine.specs.declared.call.Who.TheVariants.{Connection, Session}
+use Rattle.jm_machine.specs.declared.call.Request.{Request}
+use Rattle.jm_machine.specs.declared.call.Request.TheVariants.{Open, Start, Stop, CreateSession, CreateConsumer, Receive}
+use Rattle.jm_machine.specs.declared.call.Call.{Call}
+use Rattle.jm_machine.specs.declared.call.Call.TheVariants.{Ask, Publish}
+use Rattle.jm_machine.specs.declared.answer.Answer.{Answer}
+use Rattle.jm_machine.specs.declared.answer.Answer.TheVariants.{Done, Delivered, Nothing}
+use Rattle.jm_machine.specs.declared.state.Row.{Row}
+use Rattle.jm_machine.specs.declared.state.PlacedRow.{PlacedRow}
+use Rattle.jm_machine.specs.declared.state.Station.{Station}
+use Rattle.jm_machine.specs.declared.state.Definition.{Definition}
+use Rattle.jm_machine.specs.declared.state.Consumer.{Consumer}
+use Rattle.jm_machine.specs.Life.{Life, connection_of, is_open_connection, mode_of, is_started, is_new_session, life_after}
+use Rattle.jm_machine.specs.Rows.{protected, fresh, live, next, raised, left_of, bare, deliver_placed}
+
+-- all that the provider holds
+pub record State : Type 0 where
+  -- the number of this opening of the provider
+  pub opening : ℕ
+  pub life : Life
+  -- the consumers that were made, in order
+  pub consumers : List Consumer
+  -- the subscriptions, each with its rows, in order of creation
+  pub stations : List Station
+  -- the place of the next publication
+  pub next_place : ℕ
+
+-- the state of a new core
+abbrev pub new_core : ℕ → State
+new_core opening = record { opening = opening; life = record { connections = []; sessions = [] }; consumers = []; stations = []; next_place = 1 }
+
+-- what is held under the key
+abbrev pub station_of : Key → List Station → Option Station
+station_of key stations = find (λ x. key_eq x.key key) stations
+
+-- the definition of a subscription that there is
+abbrev pub definition_of : Option Station → Option Definition
+definition_of None = None
+definition_of (Some x) = Some x.definition
+
+-- its rows, without their places
+abbrev pub rows_of : Option Station → List Row
+rows_of None = []
+rows_of (Some x) = bare x.rows
+
+-- a station with other rows
+abbrev pub with_rows : (List PlacedRow → List PlacedRow) → Station → Station
+with_rows f x = record { key = x.key; definition = x.definition; rows = f x.rows }
+
+-- a change of what is held under one key
+abbrev pub at_key : Key → (Station → Station) → List Station → List Station
+at_key key f [] = []
+at_key key f (x ∷ stations) = if key_eq x.key key then f x ∷ stations else x ∷ at_key key f stations
+
+-- all but what is held under the key
+abbrev pub without : Key → List Station → List Station
+without key stations = filter (λ x. not (key_eq x.key key)) stations
+
+-- Publications
+
+-- the destination is the topic
+abbrev pub is_to : List ℕ → Destination → Bool
+is_to topic (Queue name) = false
+is_to topic (Topic name) = text_eq topic name
+
+-- a subscription accepts a publication: the topics are equal (Jakarta Messaging 3.1, section 4.2)
+unfoldable pub accepts : Key → Definition → Content → Bool
+accepts key definition m = is_to definition.topic m.destination
+
+-- a message comes to a subscription, at a place
+abbrev pub offered : Content → ℕ → Station → Station
+offered m place x =
+    if accepts x.key x.definition m
+    then with_rows (λ rows. rows ++ record { place = place; row = fresh m } ∷ []) x
+    else x
+
+-- a message is published: it comes to each subscription that accepts it, and takes one place
+abbrev pub with_message : State → Content → State
+with_message state m = record state { stations = map (offered m state.next_place) state.stations; next_place = state.next_place + 1 }
+
+-- messages are published, in order
+unfoldable pub published : State → List Content → State
+published state [] = state
+published state (m ∷ messages) = published (with_message state m) messages
+
+-- Consumers
+
+-- the consumer is that one of the session
+abbrev pub has_number : SessionId → ℕ → Consumer → Bool
+has_number s c x = session_eq x.session s && (x.id == c)
+
+-- the session's consumer of that number, where it was made
+abbrev pub consumer_of : List Consumer → SessionId → ℕ → Option Consumer
+consumer_of consumers s c = find (has_number s c) consumers
+
+-- a consumer is active from its making on
+abbrev pub is_active : Option Consumer → Bool
+is_active None = false
+is_active (Some x) = true
+
+-- the key that a consumer receives from
+abbrev pub key_at : Option Consumer → Key
+key_at None = OfQueue []
+key_at (Some x) = x.key
+
+-- a new consumer
+abbrev pub new_consumer : SessionId → ℕ → Key → Consumer
+new_consumer s c key = record { session = s; id = c; key = key }
+
+-- what a topic's subscription asks for
+abbrev pub defined : List ℕ → Definition
+defined topic = record { topic = topic }
+
+-- an empty subscription of the key, in place of any other
+abbrev pub put : Key → Definition → State → State
+put key d state = record state { stations = without key state.stations ++ record { key = key; definition = d; rows = [] } ∷ [] }
+
+-- a consumer joins
+abbrev pub joined : SessionId → ℕ → Key → State → State
+joined s c key state = record state { consumers = state.consumers ++ new_consumer s c key ∷ [] }
+
+-- The checks of a call, in the order of the causes
+
+-- a cause, where the check fails
+abbrev pub unless : Bool → Refusal → Option Refusal
+unless true r = None
+unless false r = Some r
+
+-- a consumer may be made: the session is open, and the number was not used in it
+abbrev pub may_begin : Life → List Consumer → SessionId → ℕ → Bool
+may_begin life consumers s c = is_some (mode_of life s) && not (is_some (consumer_of consumers s c))
+
+-- why a request is refused; none where it is not
+unfoldable pub refusal : Life → List Consumer → Who → Request → Option Refusal
+refusal life consumers (Connection c) Open = unless (not (is_some (connection_of life.connections c))) IllegalState
+refusal life consumers (Connection c) Start = unless (is_open_connection (connection_of life.connections c)) IllegalState
+refusal life consumers (Connection c) Stop = unless (is_open_connection (connection_of life.connections c)) IllegalState
+refusal life consumers (Session s) (CreateSession mode) = unless (is_new_session life s) IllegalState
+refusal life consumers (Session s) (CreateConsumer c topic) = unless (may_begin life consumers s c) IllegalState
+refusal life consumers (Session s) (Receive c now) = unless (is_some (mode_of life s) && is_active (consumer_of consumers s c)) IllegalState
+refusal life consumers _ _ = Some IllegalState
+
+-- each message was stamped by this session in this opening
+abbrev pub is_stamped : ℕ → SessionId → List Content → Bool
+is_stamped opening s messages = list_all (λ m. (m.sender.opening == opening) && session_eq m.sender.session s) messages
+
+-- places are left for so many messages
+abbrev pub has_places : ℕ → List Content → Bool
+has_places place messages = nat_le (place + length messages) 9223372036854775808
+
+-- why a publication is refused; none where it is not
+unfoldable pub publish_refusal : State → Who → List Content → Option Refusal
+publish_refusal state (Connection c) messages = Some IllegalState
+publish_refusal state (Session s) messages =
+    if is_some (mode_of state.life s) && is_stamped state.opening s messages
+    then unless (has_places state.next_place messages) Exhausted
+    else Some IllegalState
+
+-- What a call does that is not refused
+
+-- a consumer receives: rows that have lapsed go, and the next one is delivered
+abbrev pub receive : (Row → List Row) → ℕ → Key → State → State
+receive f now key state = record state { stations = at_key key (with_rows (deliver_placed now f)) state.stations }
+
+-- the state after a request that is not refused
+unfoldable pub after : State → Who → Request → State
+after state (Connection c) request = record state { life = life_after state.life (Connection c) request }
+after state (Session s) (CreateSession mode) = record state { life = life_after state.life (Session s) (CreateSession mode) }
+after state (Session s) (CreateConsumer c topic) = joined s c (Own s c) (put (Own s c) (defined topic) state)
+after state (Session s) (Receive c now) =
+    if is_started state.life s.connection
+    then receive (left_of (mode_of state.life s)) now (key_at (consumer_of state.consumers s c)) state
+    else state
+after state (Session s) _ = state
+
+-- what is handed out of a row: the message as it was published, read-only, with its count
+abbrev pub delivery : Option Row → Answer
+delivery None = Nothing
+delivery (Some r) = Delivered (record { message = protected r.message; count = raised r.count })
+
+-- the answer to a receive: on a stopped connection there is nothing
+abbrev pub delivered : Bool → ℕ → List Row → Answer
+delivered started now rows = if started then delivery (next now (live now rows)) else Nothing
+
+-- the answer to a request that is not refused, its key holding these rows
+unfoldable pub answer : Life → List Row → Who → Request → Answer
+answer life rows (Session s) (Receive c now) = delivered (is_started life s.connection) now rows
+answer life rows _ _ = Done
+
+-- the rows that a request is about
+unfoldable pub rows_for : State → Who → Request → List Row
+rows_for state (Session s) (Receive c now) = rows_of (station_of (key_at (consumer_of state.consumers s c)) state.stations)
+rows_for state _ _ = []
+
+-- an answer, or a refusal
+abbrev pub replied : Option Refusal → Answer → Result Answer Refusal
+replied None a = Ok a
+replied (Some r) a = Err r
+
+-- a state, or where a call is refused the one before
+abbrev pub moved : Option Refusal → State → State → State
+moved None new old = new
+moved (Some r) new old = old
+
+-- the reply to a call
+unfoldable pub reply : State → Who → Call → Result Answer Refusal
+reply state who (Ask request) = replied (refusal state.life state.consumers who request) (answer state.life (rows_for state who request) who request)
+reply state who (Publish messages) = replied (publish_refusal state who messages) Done
+
+-- the state after a call
+unfoldable pub step : State → Who → Call → State
+step state who (Ask request) = moved (refusal state.life state.consumers who request) (after state who request) state
+step state who (Publish messages) = moved (publish_refusal state who messages) (published state messages) state

@@ -1,0 +1,75 @@
+ghost use Rattle.std.specs.Prelude.{◌≡◌, ◌↔◌, ◌≤◌, IfOk, IsTrue};
+
+use jm_base::Refusal;
+use jm_header::Message;
+use std::alloc::AllocError;
+
+/// A message that is handed to a consumer, with the count of its deliveries.
+#[derive(Debug, PartialEq, Drop)]
+pub struct Delivery {
+    /// The message as it was published, with both of its parts read-only.
+    pub message: Message,
+    /// How often it was delivered so far, this time included: JMSXDeliveryCount (Jakarta Messaging
+    /// 3.1, section 3.5.11). At 2,147,483,647 it stays.
+    pub count: u32,
+}
+
+/// What the core answers to a call that is not refused.
+#[derive(Debug, PartialEq, Drop)]
+pub enum Answer {
+    /// The call is done.
+    Done,
+    /// The message is sent; it is the session's message of that number, from 1.
+    Sent(u64),
+    /// A message is delivered.
+    Delivered(Delivery),
+    /// There is no message to be delivered.
+    Nothing,
+}
+
+/// What a call is told: an answer, or a refusal, after which the state is as it was.
+pub type Reply = Result<Answer, Refusal>;
+
+impl Delivery {
+    /// Whether the message was delivered before: JMSRedelivered (Jakarta Messaging 3.1, section
+    /// 3.4.7).
+    pub fn redelivered(&self) -> bool
+        ensures { IsTrue result ↔ (2 ≤ self.now.count) }
+    {
+        self.count >= 2
+    }
+
+    /// An equal delivery. `AllocError` where a request for memory was refused.
+    pub fn copy(&self) -> Result<Delivery, AllocError>
+        ensures { IfOk result (λ copy. copy ≡ self.now) }
+    {
+        Ok(Delivery {
+            message: self.message.copy()?,
+            count: self.count,
+        })
+    }
+}
+
+impl Answer {
+    /// An equal answer. `AllocError` where a request for memory was refused.
+    pub fn copy(&self) -> Result<Answer, AllocError>
+        ensures { IfOk result (λ copy. copy ≡ self.now) }
+    {
+        match self {
+            Answer::Done => Ok(Answer::Done),
+            Answer::Sent(number) => Ok(Answer::Sent(*number)),
+            Answer::Delivered(delivery) => Ok(Answer::Delivered(delivery.copy()?)),
+            Answer::Nothing => Ok(Answer::Nothing),
+        }
+    }
+}
+
+/// An equal reply. `AllocError` where a request for memory was refused.
+pub fn copy_reply(reply: &Reply) -> Result<Reply, AllocError>
+    ensures { IfOk result (λ copy. copy ≡ reply.now) }
+{
+    match reply {
+        Ok(answer) => Ok(Ok(answer.copy()?)),
+        Err(refusal) => Ok(Err(*refusal)),
+    }
+}

@@ -1,0 +1,137 @@
+ghost use Rattle.std.specs.Prelude.{◌≡◌, IfOk};
+
+use jm_base::{List, Mode};
+use jm_dest::{ConnectionId, ConsumerId, Destination, Moment, Name, SessionId};
+use jm_header::{Draft, Message};
+use std::alloc::{AllocError, Global};
+
+/// Who makes a call: a connection or a session.
+#[derive(Clone, Copy, Debug, PartialEq, Eq)]
+pub enum Who {
+    Connection(ConnectionId),
+    Session(SessionId),
+}
+
+/// What is asked of the provider by a call that carries no messages.
+#[derive(Debug, PartialEq, Drop)]
+pub enum Request {
+    /// Opens the connection, stopped (Jakarta Messaging 3.1, section 6.1.4).
+    Open,
+    /// Starts the delivery of messages to the connection's consumers.
+    Start,
+    /// Stops the delivery of messages to the connection's consumers.
+    Stop,
+    /// Opens the session in that acknowledgement mode.
+    CreateSession { mode: Mode },
+    /// Makes a consumer of the topic, with an unshared non-durable subscription of its own.
+    CreateConsumer { consumer: ConsumerId, topic: Name },
+    /// Asks for the consumer's next message at that moment.
+    Receive { consumer: ConsumerId, now: Moment },
+}
+
+/// A call of the core.
+#[derive(Debug, PartialEq, Drop)]
+pub enum Call {
+    /// A call that carries no messages.
+    Ask(Request),
+    /// Publishes stamped messages of a session, in the order of the list.
+    Publish(List<Message>),
+}
+
+/// One event of the core: a call, and who makes it.
+#[derive(Debug, PartialEq, Drop)]
+pub struct Step {
+    pub who: Who,
+    pub call: Call,
+}
+
+/// What a client asks: a step other than a publication, or a send, which is stamped on the way.
+#[derive(Drop)]
+pub enum ClientCall {
+    Ask {
+        who: Who,
+        request: Request,
+    },
+    /// Sends the draft to the destination.
+    Send {
+        session: SessionId,
+        draft: Draft,
+        destination: Destination,
+        now: Moment,
+    },
+}
+
+impl Request {
+    /// An equal request. `AllocError` where a request for memory was refused.
+    pub fn copy(&self) -> Result<Request, AllocError>
+        ensures { IfOk result (λ copy. copy ≡ self.now) }
+    {
+        match self {
+            Request::Open => Ok(Request::Open),
+            Request::Start => Ok(Request::Start),
+            Request::Stop => Ok(Request::Stop),
+            Request::CreateSession { mode } => Ok(Request::CreateSession { mode: *mode }),
+            Request::CreateConsumer { consumer, topic } => Ok(Request::CreateConsumer {
+                consumer: *consumer,
+                topic: topic.copy()?,
+            }),
+            Request::Receive { consumer, now } => Ok(Request::Receive {
+                consumer: *consumer,
+                now: *now,
+            }),
+        }
+    }
+}
+
+fn copy_messages(alloc: Global, messages: &[Message]) -> Result<Vec<Message>, AllocError>
+    ensures { IfOk result (λ copies. copies.items ≡ messages.now) }
+{
+    let mut copies = Vec::with_capacity(alloc, messages.len())?;
+    for message in messages {
+        copies.push(message.copy()?)?;
+    }
+    Ok(copies)
+}
+
+impl Step {
+    /// An equal step. `AllocError` where a request for memory was refused.
+    pub fn copy(&self, alloc: Global) -> Result<Step, AllocError>
+        ensures { IfOk result (λ copy. copy ≡ self.now) }
+    {
+        let call = match &self.call {
+            Call::Ask(request) => Call::Ask(request.copy()?),
+            Call::Publish(messages) => {
+                Call::Publish(List::new(copy_messages(alloc, messages.as_slice())?))
+            }
+        };
+        Ok(Step {
+            who: self.who,
+            call,
+        })
+    }
+}
+
+impl ClientCall {
+    /// An equal call. `AllocError` where a request for memory was refused.
+    pub fn copy(&self) -> Result<ClientCall, AllocError>
+        ensures { IfOk result (λ copy. copy ≡ self.now) }
+    {
+        match self {
+            ClientCall::Ask { who, request } => Ok(ClientCall::Ask {
+                who: *who,
+                request: request.copy()?,
+            }),
+            ClientCall::Send {
+                session,
+                draft,
+                destination,
+                now,
+            } => Ok(ClientCall::Send {
+                session: *session,
+                draft: draft.copy()?,
+                destination: destination.copy()?,
+                now: *now,
+            }),
+        }
+    }
+}

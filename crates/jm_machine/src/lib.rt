@@ -1,0 +1,14 @@
+//! The provider as a machine, in definitions: what a client may ask, what is answered, what state
+//! is held, and what one subscription answers alone. The types are those that all layers speak of;
+//! `specs/` is what is to be read in order to believe the product.
+#![tactic(auto)]
+
+mod answer;
+mod call;
+mod entry;
+mod state;
+
+pub use answer::{Answer, Delivery, Reply, copy_reply};
+pub use call::{Call, ClientCall, Request, Step, Who};
+pub use entry::Entry;
+pub use state::{ConnectionState, Consumer, Definition, PlacedRow, Row, SessionState, Station};

@@ -1,0 +1,129 @@
+ghost use Rattle.std.specs.Prelude.{◌≡◌, IfOk};
+
+use jm_base::{List, Mode};
+use jm_dest::{ConnectionId, ConsumerId, Key, Name, SessionId};
+use jm_header::Message;
+use std::alloc::{AllocError, Global};
+
+/// A connection that was opened.
+#[derive(Clone, Copy, Debug, PartialEq, Eq)]
+pub struct ConnectionState {
+    pub id: ConnectionId,
+    pub is_started: bool,
+}
+
+/// A session that was opened.
+#[derive(Clone, Copy, Debug, PartialEq, Eq)]
+pub struct SessionState {
+    pub id: SessionId,
+    pub mode: Mode,
+}
+
+/// A consumer that was made.
+#[derive(Debug, PartialEq, Drop)]
+pub struct Consumer {
+    pub session: SessionId,
+    pub id: ConsumerId,
+    /// What it receives from.
+    pub key: Key,
+}
+
+/// What a subscription asks for.
+#[derive(Debug, PartialEq, Drop)]
+pub struct Definition {
+    pub topic: Name,
+}
+
+/// A message that is held for a subscription, with the count of its deliveries.
+#[derive(Debug, PartialEq, Drop)]
+pub struct Row {
+    pub message: Message,
+    pub count: u32,
+}
+
+/// A row at the place of its publication, from 1.
+#[derive(Debug, PartialEq, Drop)]
+pub struct PlacedRow {
+    pub place: u64,
+    pub row: Row,
+}
+
+/// What is held under a key: a subscription with its definition and its rows, by place.
+#[derive(Debug, PartialEq, Drop)]
+pub struct Station {
+    pub key: Key,
+    pub definition: Definition,
+    pub rows: List<PlacedRow>,
+}
+
+impl Consumer {
+    /// An equal consumer. `AllocError` where a request for memory was refused.
+    pub fn copy(&self) -> Result<Consumer, AllocError>
+        ensures { IfOk result (λ copy. copy ≡ self.now) }
+    {
+        Ok(Consumer {
+            session: self.session,
+            id: self.id,
+            key: self.key.copy()?,
+        })
+    }
+}
+
+impl Definition {
+    /// An equal definition. `AllocError` where a request for memory was refused.
+    pub fn copy(&self) -> Result<Definition, AllocError>
+        ensures { IfOk result (λ copy. copy ≡ self.now) }
+    {
+        Ok(Definition {
+            topic: self.topic.copy()?,
+        })
+    }
+}
+
+impl Row {
+    /// An equal row. `AllocError` where a request for memory was refused.
+    pub fn copy(&self) -> Result<Row, AllocError>
+        ensures { IfOk result (λ copy. copy ≡ self.now) }
+    {
+        Ok(Row {
+            message: self.message.copy()?,
+            count: self.count,
+        })
+    }
+}
+
+impl PlacedRow {
+    /// An equal row. `AllocError` where a request for memory was refused.
+    pub fn copy(&self) -> Result<PlacedRow, AllocError>
+        ensures { IfOk result (λ copy. copy ≡ self.now) }
+    {
+        Ok(PlacedRow {
+            place: self.place,
+            row: self.row.copy()?,
+        })
+    }
+}
+
+fn copy_rows(alloc: Global, rows: &[PlacedRow]) -> Result<Vec<PlacedRow>, AllocError>
+    ensures { IfOk result (λ copies. copies.items ≡ rows.now) }
+{
+    let mut copies = Vec::with_capacity(alloc, rows.len())?;
+    for row in rows {
+        copies.push(row.copy()?)?;
+    }
+    Ok(copies)
+}
+
+impl Station {
+    /// An equal station. `AllocError` where a request for memory was refused.
+    pub fn copy(&self, alloc: Global) -> Result<Station, AllocError>
+        ensures { IfOk result (λ copy. copy ≡ self.now) }
+    {
+        let rows = copy_rows(alloc, self.rows.as_slice())?;
+        Ok(Station {
+            key: self.key.copy()?,
+            definition: self.definition.copy()?,
+            rows: List::new(rows),
+        })
+    }
+}
