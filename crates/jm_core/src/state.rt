@@ -1,0 +1,427 @@
+ghost use Rattle.std.specs.Prelude.{◌≡◌, ◌+◌, ◌≤◌, ◌==◌, ◌&&◌, is_some, length, vec_len, vec_capacity, MatchResult, IfOk, OnOk, OnErr, if◌then◌else◌};
+ghost use Rattle.jm_base.specs.declared.refusal.Refusal.TheVariants.{OutOfRange};
+ghost use Rattle.jm_machine.specs.Life.{with_started as with_started_lem, connection_of as connection_of_lem, mode_of as mode_of_lem, is_started as is_started_lem, is_new_session as is_new_session_lem};
+ghost use Rattle.jm_machine.specs.Machine.{new_core, is_stamped as is_stamped_lem, has_places as has_places_lem, without, joined, put, defined, published as published_lem, consumer_of as consumer_of_lem, is_active, may_begin as may_begin_lem};
+ghost use Rattle.jm_core.specs.Steps.{StepFits};
+
+use crate::deliver::deliver_to;
+use crate::find::{connection_of, consumer_of, is_started, mode_of, same_session, session_of};
+use crate::publish::{copies, published};
+use jm_base::{List, Mode, Refusal};
+use jm_dest::{ConnectionId, ConsumerId, Key, Moment, Name, Number, SessionId};
+use jm_header::Message;
+use jm_machine::{
+    Answer, Call, ConnectionState, Consumer, Definition, Request, SessionState, Station, Step, Who,
+};
+use std::alloc::{AllocError, Global};
+use std::marker::Model;
+
+/// All that the provider holds. Contracts see it as the machine's state.
+#[derive(Drop)]
+pub struct Core {
+    alloc: Global,
+    opening: Number,
+    connections: Vec<ConnectionState>,
+    sessions: Vec<SessionState>,
+    consumers: Vec<Consumer>,
+    stations: Vec<Station>,
+    next_place: u64,
+}
+
+impl Model for Core {
+    ghost use Rattle.std.specs.Prelude.{◌≤◌};
+    ghost use Rattle.jm_machine.specs.Machine.{State};
+
+    ghost Value = { State };
+
+    ghost view = { λ c. record {
+        opening = c.opening;
+        life = record { connections = c.connections.items; sessions = c.sessions.items };
+        consumers = c.consumers.items;
+        stations = c.stations.items;
+        next_place = c.next_place;
+    } };
+
+    ghost invariant = { λ c. c.next_place ≤ 9223372036854775808 };
+}
+
+fn with_started(connection: ConnectionState, id: ConnectionId, on: bool) -> ConnectionState
+    ensures { result ≡ (if connection.id == id then record connection { is_started = on } else connection) }
+{
+    if connection.id == id {
+        ConnectionState {
+            id,
+            is_started: on,
+        }
+    } else {
+        connection
+    }
+}
+
+/// Starts or stops the connection of that number.
+fn set_started(connections: &mut [ConnectionState], id: ConnectionId, on: bool)
+    ensures { connections.new ≡ with_started_lem id on connections.old }
+{
+    for connection in connections.iter_mut() {
+        *connection = with_started(*connection, id, on);
+    }
+}
+
+/// Whether each message was stamped by this session in this opening.
+fn is_stamped(opening: Number, session: &SessionId, messages: &[Message]) -> bool
+    ensures { result ≡ is_stamped_lem opening session.now messages.now }
+{
+    messages.iter().all(|message| {
+        let sender = message.sender();
+        sender.opening == opening && same_session(&sender.session, session)
+    })
+}
+
+fn copy_consumers(alloc: Global, consumers: &[Consumer]) -> Result<Vec<Consumer>, AllocError>
+    ensures { IfOk result (λ copies. copies.items ≡ consumers.now) }
+{
+    let mut copies = Vec::with_capacity(alloc, consumers.len())?;
+    for consumer in consumers {
+        copies.push(consumer.copy()?)?;
+    }
+    Ok(copies)
+}
+
+/// The stations without what is held under the key.
+fn remove_key(stations: &mut Vec<Station>, key: &Key)
+    ensures stations { stations.new.items ≡ without key.now stations.old.items }
+    ensures bound { vec_len stations.new ≤ vec_len stations.old }
+    ensures capacity { vec_capacity stations.new ≡ vec_capacity stations.old }
+{
+    stations.retain(|station| !station.key.is(key));
+}
+
+impl Core {
+    /// A core that holds nothing, in that opening of the provider. `OutOfRange` exactly where the
+    /// number is 0.
+    pub fn new(alloc: Global, opening: u32) -> Result<Core, Refusal>
+        ensures { MatchResult result (λ core. (core ≡ new_core opening) × (1 ≤ opening)) (λ refusal. (refusal ≡ OutOfRange) × (opening ≡ 0)) }
+    {
+        let opening = Number::new(opening)?;
+        Ok(Core {
+            alloc,
+            opening,
+            connections: Vec::new(alloc),
+            sessions: Vec::new(alloc),
+            consumers: Vec::new(alloc),
+            stations: Vec::new(alloc),
+            next_place: 1,
+        })
+    }
+}
+
+impl Core {
+    /// The number of this opening of the provider, from 1.
+    pub fn opening(&self) -> Number
+        ensures { result ≡ self.now.opening }
+    {
+        self.opening
+    }
+
+    /// The connections that were opened, in order.
+    pub fn connections(&self) -> &[ConnectionState]
+        ensures { result.now ≡ self.now.life.connections }
+    {
+        &self.connections
+    }
+
+    /// The sessions that were opened, in order.
+    pub fn sessions(&self) -> &[SessionState]
+        ensures { result.now ≡ self.now.life.sessions }
+    {
+        &self.sessions
+    }
+
+    /// The consumers that were made, in order.
+    pub fn consumers(&self) -> &[Consumer]
+        ensures { result.now ≡ self.now.consumers }
+    {
+        &self.consumers
+    }
+
+    /// The subscriptions with their rows, in order of creation.
+    pub fn stations(&self) -> &[Station]
+        ensures { result.now ≡ self.now.stations }
+    {
+        &self.stations
+    }
+
+    /// The place of the next publication, from 1.
+    pub fn next_place(&self) -> u64
+        ensures { result ≡ self.now.next_place }
+    {
+        self.next_place
+    }
+
+    /// An equal core. `AllocError` where a request for memory was refused.
+    pub fn copy(&self) -> Result<Core, AllocError>
+        ensures { IfOk result (λ copy. copy ≡ self.now) }
+    {
+        let alloc = self.alloc;
+        let connections = Vec::from_slice(alloc, &self.connections)?;
+        let sessions = Vec::from_slice(alloc, &self.sessions)?;
+        let consumers = copy_consumers(alloc, &self.consumers)?;
+        let stations = copies(alloc, &self.stations)?;
+        Ok(Core {
+            alloc,
+            opening: self.opening,
+            connections,
+            sessions,
+            consumers,
+            stations,
+            next_place: self.next_place,
+        })
+    }
+
+    /// Makes one step. A refusal is the first cause that stands, in the order of `Refusal`, and leaves
+    /// the core as it was; so does `Memory`, which comes only where no other cause stands.
+    #[tactic(auto, unfolding(jm_machine::specs::Machine::reply, jm_machine::specs::Machine::step))]
+    pub fn step(&mut self, step: &Step) -> Result<Answer, Refusal>
+        ensures { StepFits self.old step.now.who step.now.call result self.new }
+    {
+        match &step.call {
+            Call::Ask(request) => self.ask(step.who, request),
+            Call::Publish(messages) => self.publish_by(step.who, messages.as_slice()),
+        }
+    }
+
+    #[tactic(auto, unfolding(jm_machine::specs::Machine::refusal, jm_machine::specs::Machine::reply, jm_machine::specs::Machine::step, jm_machine::specs::Machine::after, jm_machine::specs::Machine::answer, jm_machine::specs::Machine::rows_for, jm_machine::specs::Life::life_after))]
+    fn ask(&mut self, who: Who, request: &Request) -> Result<Answer, Refusal>
+        ensures { StepFits self.old who (Call.Ask request.now) result self.new }
+    {
+        match who {
+            Who::Connection(connection) => match request {
+                Request::Open => self.open(connection),
+                Request::Start => self.start(connection),
+                Request::Stop => self.stop(connection),
+                _ => Err(Refusal::IllegalState),
+            },
+            Who::Session(session) => match request {
+                Request::CreateSession { mode } => self.create_session(&session, *mode),
+                Request::CreateConsumer { consumer, topic } => {
+                    self.create_consumer(&session, *consumer, topic)
+                }
+                Request::Receive { consumer, now } => self.receive(&session, *consumer, *now),
+                _ => Err(Refusal::IllegalState),
+            },
+        }
+    }
+
+    fn is_used_connection(&self, id: ConnectionId) -> bool
+        ensures { result ≡ is_some (connection_of_lem self.now.life.connections id) }
+    {
+        connection_of(&self.connections, id).is_some()
+    }
+
+    fn is_started(&self, id: ConnectionId) -> bool
+        ensures { result ≡ is_started_lem self.now.life id }
+    {
+        is_started(&self.connections, id)
+    }
+
+    fn is_open_session(&self, id: &SessionId) -> bool
+        ensures { result ≡ is_some (mode_of_lem self.now.life id.now) }
+    {
+        mode_of(&self.sessions, id).is_some()
+    }
+
+    fn is_new_session(&self, id: &SessionId) -> bool
+        ensures { result ≡ is_new_session_lem self.now.life id.now }
+    {
+        self.is_used_connection(id.connection) && session_of(&self.sessions, id).is_none()
+    }
+
+    fn has_consumer(&self, session: &SessionId, id: ConsumerId) -> bool
+        ensures { result ≡ is_some (consumer_of_lem self.now.consumers session.now id) }
+    {
+        consumer_of(&self.consumers, session, id).is_some()
+    }
+
+    fn may_begin(&self, session: &SessionId, id: ConsumerId) -> bool
+        ensures { result ≡ may_begin_lem self.now.life self.now.consumers session.now id }
+    {
+        self.is_open_session(session) && !self.has_consumer(session, id)
+    }
+
+    fn may_receive(&self, session: &SessionId, id: ConsumerId) -> bool
+        ensures { result ≡ (is_some (mode_of_lem self.now.life session.now) && is_active (consumer_of_lem self.now.consumers session.now id)) }
+    {
+        self.is_open_session(session) && self.has_consumer(session, id)
+    }
+
+    fn may_publish(&self, session: &SessionId, messages: &[Message]) -> bool
+        ensures { result ≡ (is_some (mode_of_lem self.now.life session.now) && is_stamped_lem self.now.opening session.now messages.now) }
+    {
+        self.is_open_session(session) && is_stamped(self.opening, session, messages)
+    }
+
+    /// Whether places are left for the messages.
+    fn has_places(&self, messages: &[Message]) -> bool
+        ensures { result ≡ has_places_lem self.now.next_place messages.now }
+    {
+        messages.len() as u64 <= 9_223_372_036_854_775_808 - self.next_place
+    }
+
+    #[tactic(auto, unfolding(jm_machine::specs::Machine::refusal, jm_machine::specs::Machine::reply, jm_machine::specs::Machine::step, jm_machine::specs::Machine::after, jm_machine::specs::Machine::answer, jm_machine::specs::Machine::rows_for, jm_machine::specs::Life::life_after))]
+    fn open(&mut self, id: ConnectionId) -> Result<Answer, Refusal>
+        ensures { StepFits self.old (Who.Connection id) (Call.Ask Request.Open) result self.new }
+    {
+        if self.is_used_connection(id) {
+            return Err(Refusal::IllegalState);
+        }
+        let connection = ConnectionState {
+            id,
+            is_started: false,
+        };
+        match self.connections.push(connection) {
+            Ok(()) => Ok(Answer::Done),
+            Err(_) => Err(Refusal::Memory),
+        }
+    }
+
+    #[tactic(auto, unfolding(jm_machine::specs::Machine::refusal, jm_machine::specs::Machine::reply, jm_machine::specs::Machine::step, jm_machine::specs::Machine::after, jm_machine::specs::Machine::answer, jm_machine::specs::Machine::rows_for, jm_machine::specs::Life::life_after))]
+    fn start(&mut self, id: ConnectionId) -> Result<Answer, Refusal>
+        ensures { StepFits self.old (Who.Connection id) (Call.Ask Request.Start) result self.new }
+    {
+        if !self.is_used_connection(id) {
+            return Err(Refusal::IllegalState);
+        }
+        set_started(&mut self.connections, id, true);
+        Ok(Answer::Done)
+    }
+
+    #[tactic(auto, unfolding(jm_machine::specs::Machine::refusal, jm_machine::specs::Machine::reply, jm_machine::specs::Machine::step, jm_machine::specs::Machine::after, jm_machine::specs::Machine::answer, jm_machine::specs::Machine::rows_for, jm_machine::specs::Life::life_after))]
+    fn stop(&mut self, id: ConnectionId) -> Result<Answer, Refusal>
+        ensures { StepFits self.old (Who.Connection id) (Call.Ask Request.Stop) result self.new }
+    {
+        if !self.is_used_connection(id) {
+            return Err(Refusal::IllegalState);
+        }
+        set_started(&mut self.connections, id, false);
+        Ok(Answer::Done)
+    }
+
+    #[tactic(auto, unfolding(jm_machine::specs::Machine::refusal, jm_machine::specs::Machine::reply, jm_machine::specs::Machine::step, jm_machine::specs::Machine::after, jm_machine::specs::Machine::answer, jm_machine::specs::Machine::rows_for, jm_machine::specs::Life::life_after))]
+    fn create_session(&mut self, id: &SessionId, mode: Mode) -> Result<Answer, Refusal>
+        ensures { StepFits self.old (Who.Session id.now) (Call.Ask (Request.CreateSession mode)) result self.new }
+    {
+        if !self.is_new_session(id) {
+            return Err(Refusal::IllegalState);
+        }
+        match self.sessions.push(SessionState { id: *id, mode }) {
+            Ok(()) => Ok(Answer::Done),
+            Err(_) => Err(Refusal::Memory),
+        }
+    }
+
+    #[tactic(auto, unfolding(jm_machine::specs::Machine::refusal, jm_machine::specs::Machine::reply, jm_machine::specs::Machine::step, jm_machine::specs::Machine::after, jm_machine::specs::Machine::answer, jm_machine::specs::Machine::rows_for, jm_machine::specs::Life::life_after))]
+    fn create_consumer(
+        &mut self,
+        session: &SessionId,
+        id: ConsumerId,
+        topic: &Name,
+    ) -> Result<Answer, Refusal>
+        ensures { StepFits self.old (Who.Session session.now) (Call.Ask (Request.CreateConsumer id topic.now)) result self.new }
+    {
+        if !self.may_begin(session, id) {
+            return Err(Refusal::IllegalState);
+        }
+        match self.subscribe(session, id, topic) {
+            Ok(()) => Ok(Answer::Done),
+            Err(_) => Err(Refusal::Memory),
+        }
+    }
+
+    /// Adds the consumer with an empty subscription of its own.
+    fn subscribe(
+        &mut self,
+        session: &SessionId,
+        id: ConsumerId,
+        topic: &Name,
+    ) -> Result<(), AllocError>
+        ensures ok { OnOk result (self.new ≡ joined session.now id (Key.Own session.now id) (put (Key.Own session.now id) (defined topic.now) self.old)) }
+        ensures err { OnErr result (self.new ≡ self.old) }
+    {
+        let definition = Definition {
+            topic: topic.copy()?,
+        };
+        self.consumers.reserve(1)?;
+        self.stations.reserve(1)?;
+        let key = Key::Own(*session, id);
+        remove_key(&mut self.stations, &key);
+        self.stations.push_reserved(Station {
+            key: Key::Own(*session, id),
+            definition,
+            rows: List::new(Vec::new(self.alloc)),
+        });
+        self.consumers.push_reserved(Consumer {
+            session: *session,
+            id,
+            key,
+        });
+        Ok(())
+    }
+
+    #[tactic(auto, unfolding(jm_machine::specs::Machine::refusal, jm_machine::specs::Machine::reply, jm_machine::specs::Machine::step, jm_machine::specs::Machine::after, jm_machine::specs::Machine::answer, jm_machine::specs::Machine::rows_for, jm_machine::specs::Life::life_after))]
+    fn receive(
+        &mut self,
+        session: &SessionId,
+        id: ConsumerId,
+        now: Moment,
+    ) -> Result<Answer, Refusal>
+        ensures { StepFits self.old (Who.Session session.now) (Call.Ask (Request.Receive id now)) result self.new }
+    {
+        if !self.may_receive(session, id) {
+            return Err(Refusal::IllegalState);
+        }
+        if !self.is_started(session.connection) {
+            return Ok(Answer::Nothing);
+        }
+        Ok(deliver_to(
+            self.alloc,
+            &self.consumers,
+            &mut self.stations,
+            session,
+            id,
+            now,
+        ))
+    }
+
+    #[tactic(auto, unfolding(jm_machine::specs::Machine::publish_refusal, jm_machine::specs::Machine::reply, jm_machine::specs::Machine::step))]
+    fn publish_by(&mut self, who: Who, messages: &[Message]) -> Result<Answer, Refusal>
+        ensures { StepFits self.old who (Call.Publish messages.now) result self.new }
+    {
+        match who {
+            Who::Connection(_) => Err(Refusal::IllegalState),
+            Who::Session(session) => {
+                if !self.may_publish(&session, messages) {
+                    return Err(Refusal::IllegalState);
+                }
+                if !self.has_places(messages) {
+                    return Err(Refusal::Exhausted);
+                }
+                match self.publish(messages) {
+                    Ok(()) => Ok(Answer::Done),
+                    Err(_) => Err(Refusal::Memory),
+                }
+            }
+        }
+    }
+
+    /// Brings the messages to the subscriptions that accept them, each at a place of its own.
+    fn publish(&mut self, messages: &[Message]) -> Result<(), AllocError>
+        requires { self.old.next_place + length messages.now ≤ 9223372036854775808 }
+        ensures ok { OnOk result (self.new ≡ published_lem self.old messages.now) }
+        ensures err { OnErr result (self.new ≡ self.old) }
+    {
+        let stations = published(self.alloc, &self.stations, messages, self.next_place)?;
+        self.stations = stations;
+        self.next_place += messages.len() as u64;
+        Ok(())
+    }
+}
