@@ -4,12 +4,21 @@ use Rattle.std.proofs.Math.Seq.{take-suc}
 use Rattle.std.specs.Prelude.{filter, find, not, nat_lt}
 use Rattle.std.specs.List.{position_or_len}
 use Rattle.std.proofs.lemmas.Bool.Decides.{nat_tests}
+use Rattle.std.specs.Prelude.{◌&&◌, is_some, Ok}
+use Rattle.jm_base.specs.declared.mode.Mode.{Mode}
+use Rattle.jm_base.specs.declared.mode.Mode.TheVariants.{Auto}
+use Rattle.jm_dest.specs.declared.session.SessionId.{SessionId}
 use Rattle.jm_dest.specs.declared.key.Key.{Key}
 use Rattle.jm_dest.specs.Keys.{key_eq}
 use Rattle.jm_header.specs.declared.content.Content.{Content}
+use Rattle.jm_machine.specs.declared.call.Who.TheVariants.{Session}
+use Rattle.jm_machine.specs.declared.call.Call.TheVariants.{Ask}
+use Rattle.jm_machine.specs.declared.call.Request.TheVariants.{Receive}
 use Rattle.jm_machine.specs.declared.state.Station.{Station}
-use Rattle.jm_machine.specs.Machine.{State, station_of, at_key, offered, with_message, published}
-use Rattle.jm_core.specs.Steps.{published_stations}
+use Rattle.jm_machine.specs.Rows.{live, next, left_of, deliver_placed}
+use Rattle.jm_machine.specs.Life.{mode_of, is_started}
+use Rattle.jm_machine.specs.Machine.{State, station_of, at_key, offered, with_message, published, with_rows, rows_of, key_at, consumer_of, is_active, delivery, reply, step, refusal, after, answer, rows_for}
+use Rattle.jm_core.specs.Steps.{StepFits, published_stations}
 
 -- one element more of a front
 pub one_more : {A : Type 0} (i : ℕ) (xs : List A) (x : A) → i < length xs → x ≡ get_or xs i x → take i xs ++ x ∷ [] ≡ take (i + 1) xs
@@ -57,3 +66,24 @@ key_found k f (x ∷ xs) d (suc i) e h = go (key_found k f xs d i) (key_eq x.key
         let j : position_or_len (λ y. key_eq y.key k) xs ≡ i = omega (arith, rw t at e) in
         let s = r j (omega arith) in
         (rw t (ap (λ ys. x ∷ ys) s.0), rw t s.1)
+
+-- the only mode
+mode_auto : (o : Option Mode) → is_some o ≡ true → o ≡ Some Auto
+mode_auto None h = cc
+mode_auto (Some Auto) h = refl
+
+first_holds : (a b : Bool) → (a && b) ≡ true → a ≡ true
+first_holds true b h = refl
+first_holds false b h = cc
+
+-- a receive on a started connection, that is not refused
+pub receive_fits : (state : State) (s : SessionId) (c now : ℕ) → (is_some (mode_of state.life s) && is_active (consumer_of state.consumers s c)) ≡ true → is_started state.life s.connection ≡ true →
+    StepFits state (Session s) (Ask (Receive c now)) (Ok (delivery (next now (live now (rows_of (station_of (key_at (consumer_of state.consumers s c)) state.stations))))))
+    (record state { stations = at_key (key_at (consumer_of state.consumers s c)) (with_rows (deliver_placed now (left_of (Some Auto)))) state.stations })
+unfolding reply step refusal after answer rows_for
+receive_fits state s c now h t =
+    rw (h, t) (
+      refl,
+      ap (λ (o : Option Mode). record state { stations = at_key (key_at (consumer_of state.consumers s c)) (with_rows (deliver_placed now (left_of o))) state.stations })
+          (sym (mode_auto (mode_of state.life s) (first_holds (is_some (mode_of state.life s)) (is_active (consumer_of state.consumers s c)) h))),
+    )

@@ -2,7 +2,11 @@
 use Rattle.std.specs.Prelude.{◌≡◌, ℕ, ◌+◌, Bool, true, false, List, [], ◌∷◌, map, Option, Some, None, Result, Ok, Err, is_ok, MatchBool}
 use Rattle.jm_base.specs.declared.refusal.Refusal.{Refusal}
 use Rattle.jm_header.specs.declared.content.Content.{Content}
+use Rattle.jm_dest.specs.declared.session.SessionId.{SessionId}
 use Rattle.jm_machine.specs.declared.call.Who.{Who}
+use Rattle.jm_machine.specs.declared.call.Who.TheVariants.{Session}
+use Rattle.jm_machine.specs.declared.call.Call.TheVariants.{Publish}
+use Rattle.jm_machine.specs.declared.answer.Answer.TheVariants.{Done}
 use Rattle.jm_machine.specs.declared.call.Call.{Call}
 use Rattle.jm_machine.specs.declared.call.Step.{Step}
 use Rattle.jm_machine.specs.declared.answer.Answer.{Answer}
@@ -17,6 +21,15 @@ StepFits old who call result new =
     MatchBool (is_want result)
     ((is_ok (reply old who call) ≡ true) × (new ≡ old))
     ((result ≡ reply old who call) × (new ≡ step old who call))
+
+-- the reply to a publication that ended so
+abbrev pub published_reply : Result (Unit {0}) Refusal → Result Answer Refusal
+published_reply (Ok u) = Ok Done
+published_reply (Err r) = Err r
+
+-- what a publication by a session owes
+abbrev pub PublishFits : State → SessionId → List Content → Result (Unit {0}) Refusal → State → Type 0
+PublishFits old s messages result new = StepFits old (Session s) (Publish messages) (published_reply result) new
 
 -- the stations after messages are published, the first at that place
 abbrev pub published_stations : ℕ → List Content → List Station → List Station

@@ -61,8 +61,7 @@ fn next_at(rows: &[PlacedRow], now: Moment) -> Option<usize>
     ensures { result ≡ position (λ x. spec.is_next now (spec.bare rows.now) x.row) rows.now }
 {
     let top = top_priority(rows, now);
-    rows.iter()
-        .position(|x| !x.row.message.expired(now) && x.row.message.priority() == top)
+    rows.iter().position(|x| !x.row.message.expired(now) && x.row.message.priority() == top)
 }
 
 /// What is handed out of a row.
@@ -132,16 +131,16 @@ fn deliver_at(alloc: Global, stations: &mut [Station], key: &Key, now: Moment) -
 pub(crate) fn deliver_to(
     alloc: Global,
     consumers: &[Consumer],
-    stations: &mut [Station],
+    stations: &mut Vec<Station>,
     session: &SessionId,
     id: ConsumerId,
     now: Moment,
 ) -> Answer
     requires { is_active (consumer_of_lem consumers.now session.now id) ≡ true }
     ensures answer { let key = key_at (consumer_of_lem consumers.now session.now id) in
-        result ≡ delivery_lem (spec.next now (spec.live now (rows_of (station_of key stations.old)))) }
+        result ≡ delivery_lem (spec.next now (spec.live now (rows_of (station_of key stations.old.items)))) }
     ensures stations { let key = key_at (consumer_of_lem consumers.now session.now id) in
-        stations.new ≡ at_key key (with_rows (spec.deliver_placed now (spec.left_of (Some Auto)))) stations.old }
+        stations.new.items ≡ at_key key (with_rows (spec.deliver_placed now (spec.left_of (Some Auto)))) stations.old.items }
 {
     match consumer_of(consumers, session, id) {
         Some(consumer) => deliver_at(alloc, stations, &consumer.key, now),

@@ -12,7 +12,10 @@ use jm_dest::{ConnectionId, ConsumerId, Key, SessionId};
 use jm_machine::{ConnectionState, Consumer, SessionState, Station};
 
 /// The connection of that number, where it was opened.
-pub(crate) fn connection_of(connections: &[ConnectionState], id: ConnectionId) -> Option<ConnectionState>
+pub(crate) fn connection_of(
+    connections: &[ConnectionState],
+    id: ConnectionId,
+) -> Option<ConnectionState>
     ensures { result ≡ connection_of_lem connections.now id }
 {
     connections.iter().copied().find(|x| x.id == id)

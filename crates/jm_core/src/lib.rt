@@ -5,6 +5,7 @@
 mod deliver;
 mod find;
 mod publish;
+mod run;
 mod state;
 
 pub use jm_machine::{

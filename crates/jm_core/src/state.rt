@@ -2,7 +2,7 @@ ghost use Rattle.std.specs.Prelude.{◌≡◌, ◌+◌, ◌≤◌, ◌==◌, ◌
 ghost use Rattle.jm_base.specs.declared.refusal.Refusal.TheVariants.{OutOfRange};
 ghost use Rattle.jm_machine.specs.Life.{with_started as with_started_lem, connection_of as connection_of_lem, mode_of as mode_of_lem, is_started as is_started_lem, is_new_session as is_new_session_lem};
 ghost use Rattle.jm_machine.specs.Machine.{new_core, is_stamped as is_stamped_lem, has_places as has_places_lem, without, joined, put, defined, published as published_lem, consumer_of as consumer_of_lem, is_active, may_begin as may_begin_lem};
-ghost use Rattle.jm_core.specs.Steps.{StepFits};
+ghost use Rattle.jm_core.specs.Steps.{StepFits, PublishFits};
 
 use crate::deliver::deliver_to;
 use crate::find::{connection_of, consumer_of, is_started, mode_of, same_session, session_of};
@@ -35,11 +35,11 @@ impl Model for Core {
     ghost Value = { State };
 
     ghost view = { λ c. record {
-        opening = c.opening;
-        life = record { connections = c.connections.items; sessions = c.sessions.items };
-        consumers = c.consumers.items;
-        stations = c.stations.items;
-        next_place = c.next_place;
+      opening = c.opening;
+      life = record { connections = c.connections.items; sessions = c.sessions.items };
+      consumers = c.consumers.items;
+      stations = c.stations.items;
+      next_place = c.next_place;
     } };
 
     ghost invariant = { λ c. c.next_place ≤ 9223372036854775808 };
@@ -49,10 +49,7 @@ fn with_started(connection: ConnectionState, id: ConnectionId, on: bool) -> Conn
     ensures { result ≡ (if connection.id == id then record connection { is_started = on } else connection) }
 {
     if connection.id == id {
-        ConnectionState {
-            id,
-            is_started: on,
-        }
+        ConnectionState { id, is_started: on }
     } else {
         connection
     }
@@ -116,6 +113,10 @@ impl Core {
 }
 
 impl Core {
+    pub(crate) fn alloc(&self) -> Global {
+        self.alloc
+    }
+
     /// The number of this opening of the provider, from 1.
     pub fn opening(&self) -> Number
         ensures { result ≡ self.now.opening }
@@ -191,7 +192,7 @@ impl Core {
     }
 
     #[tactic(auto, unfolding(jm_machine::specs::Machine::refusal, jm_machine::specs::Machine::reply, jm_machine::specs::Machine::step, jm_machine::specs::Machine::after, jm_machine::specs::Machine::answer, jm_machine::specs::Machine::rows_for, jm_machine::specs::Life::life_after))]
-    fn ask(&mut self, who: Who, request: &Request) -> Result<Answer, Refusal>
+    pub(crate) fn ask(&mut self, who: Who, request: &Request) -> Result<Answer, Refusal>
         ensures { StepFits self.old who (Call.Ask request.now) result self.new }
     {
         match who {
@@ -224,7 +225,7 @@ impl Core {
         is_started(&self.connections, id)
     }
 
-    fn is_open_session(&self, id: &SessionId) -> bool
+    pub(crate) fn is_open_session(&self, id: &SessionId) -> bool
         ensures { result ≡ is_some (mode_of_lem self.now.life id.now) }
     {
         mode_of(&self.sessions, id).is_some()
@@ -399,17 +400,30 @@ impl Core {
         match who {
             Who::Connection(_) => Err(Refusal::IllegalState),
             Who::Session(session) => {
-                if !self.may_publish(&session, messages) {
-                    return Err(Refusal::IllegalState);
-                }
-                if !self.has_places(messages) {
-                    return Err(Refusal::Exhausted);
-                }
-                match self.publish(messages) {
-                    Ok(()) => Ok(Answer::Done),
-                    Err(_) => Err(Refusal::Memory),
-                }
+                self.publish_from(&session, messages)?;
+                Ok(Answer::Done)
             }
+        }
+    }
+
+    /// Publishes messages that the session stamped.
+    #[tactic(auto, unfolding(jm_machine::specs::Machine::publish_refusal, jm_machine::specs::Machine::reply, jm_machine::specs::Machine::step))]
+    pub(crate) fn publish_from(
+        &mut self,
+        session: &SessionId,
+        messages: &[Message],
+    ) -> Result<(), Refusal>
+        ensures { PublishFits self.old session.now messages.now result self.new }
+    {
+        if !self.may_publish(session, messages) {
+            return Err(Refusal::IllegalState);
+        }
+        if !self.has_places(messages) {
+            return Err(Refusal::Exhausted);
+        }
+        match self.publish(messages) {
+            Ok(()) => Ok(()),
+            Err(_) => Err(Refusal::Memory),
         }
     }
 

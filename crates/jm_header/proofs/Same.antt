@@ -9,6 +9,7 @@ use Rattle.jm_dest.specs.declared.destination.Destination.{Destination}
 use Rattle.jm_dest.specs.declared.destination.Destination.TheVariants.{Queue, Topic}
 use Rattle.jm_dest.specs.contracts.session.SessionIdPartialEq.TheImpl as session_eq
 use Rattle.jm_dest.specs.contracts.destination.DestinationPartialEq.TheImpl as destination_eq
+use Rattle.jm_property.specs.Same.{table_same}
 use Rattle.jm_header.specs.declared.body.Body.{Body}
 use Rattle.jm_header.specs.declared.body.Body.TheVariants.{None as NoBody, Text, Bytes}
 use Rattle.jm_header.specs.declared.content.Content.{Content}
@@ -81,8 +82,9 @@ content_same a b =
       correlation = e.1.1.1.1.1.1.1.0 i;
       message_type = e.1.1.1.1.1.1.1.1.0 i;
       body = e.1.1.1.1.1.1.1.1.1.0 i;
-      is_body_read_only = e.1.1.1.1.1.1.1.1.1.1.0 i;
-      are_properties_read_only = e.1.1.1.1.1.1.1.1.1.1.1 i;
+      properties = e.1.1.1.1.1.1.1.1.1.1.0 i;
+      is_body_read_only = e.1.1.1.1.1.1.1.1.1.1.1.0 i;
+      are_properties_read_only = e.1.1.1.1.1.1.1.1.1.1.1.1 i;
     })
     (λ e. (
       ap (λ m. m.sender) e,
@@ -105,8 +107,11 @@ content_same a b =
                       (
                         ap (λ m. m.body) e,
                         (
-                          ap (λ m. m.is_body_read_only) e,
-                          ap (λ m. m.are_properties_read_only) e,
+                          ap (λ m. m.properties) e,
+                          (
+                            ap (λ m. m.is_body_read_only) e,
+                            ap (λ m. m.are_properties_read_only) e,
+                          ),
                         ),
                       ),
                     ),
@@ -128,5 +133,6 @@ content_same a b =
     (Decides-and _ _ (text_same a.correlation b.correlation)
     (Decides-and _ _ (text_same a.message_type b.message_type)
     (Decides-and _ _ (body_same a.body b.body)
+    (Decides-and _ _ (table_same a.properties b.properties)
     (Decides-and _ _ (mark_same a.is_body_read_only b.is_body_read_only)
-    (mark_same a.are_properties_read_only b.are_properties_read_only))))))))))))
+    (mark_same a.are_properties_read_only b.are_properties_read_only)))))))))))))

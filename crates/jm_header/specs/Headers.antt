@@ -1,14 +1,18 @@
 -- What a draft is at first, what a stamp makes of it, and when a message is expired (Jakarta
 -- Messaging 3.1, section 3.4).
-use Rattle.std.specs.Prelude.{ℕ, ◌≢◌, ◌≤◌, ◌+◌, ◌^◌, ◌&&◌, ◌==◌, nat_le, nat_lt, if◌then◌else◌, Bool, true, false, None, Result, Ok, Err}
+use Rattle.std.specs.Prelude.{ℕ, ◌≢◌, ◌≤◌, ◌+◌, ◌^◌, ◌&&◌, ◌==◌, nat_le, nat_lt, if◌then◌else◌, Bool, true, false, None, Result, Ok, Err, List, []}
 use Rattle.jm_base.specs.declared.refusal.Refusal.{Refusal}
 use Rattle.jm_base.specs.declared.refusal.Refusal.TheVariants.{OutOfRange}
+use Rattle.jm_base.specs.declared.refusal.MessageFault.{MessageFault}
+use Rattle.jm_base.specs.declared.refusal.MessageFault.TheVariants.{NotWriteable, Memory}
 use Rattle.jm_dest.specs.declared.destination.Destination.{Destination}
 use Rattle.jm_header.specs.declared.body.Body.TheVariants.{None as no_body}
 use Rattle.jm_header.specs.declared.content.Content.{Content}
 use Rattle.jm_header.specs.declared.content.DeliveryMode.TheVariants.{Persistent}
 use Rattle.jm_header.specs.declared.content.Sender.{Sender}
 use Rattle.jm_header.specs.declared.content.Settings.{Settings}
+use Rattle.jm_property.specs.declared.property.Property.{Property}
+use Rattle.jm_property.specs.Properties.{set_fault}
 
 -- a new draft: PERSISTENT, priority 4, no time to live, no body
 abbrev pub defaults : Settings
@@ -19,6 +23,7 @@ defaults = record {
   correlation = None;
   message_type = None;
   body = no_body;
+  properties = [];
 }
 
 -- the expiration of a message that is sent then: none (0) where the time to live is 0
@@ -43,6 +48,7 @@ message_of draft destination sender number now = record {
   correlation = draft.correlation;
   message_type = draft.message_type;
   body = draft.body;
+  properties = draft.properties;
   is_body_read_only = false;
   are_properties_read_only = false;
 }
@@ -57,3 +63,26 @@ stamped draft destination sender number now =
 -- a message is expired where it has an expiration, which is not after that moment
 abbrev pub IsExpired : Content → ℕ → Type 0
 IsExpired message now = (message.expiration ≢ 0) × (message.expiration ≤ now)
+
+-- the draft that a message gives back: its mode, priority, identifiers, body and properties, without a
+-- time to live
+abbrev pub draft_of : Content → Settings
+draft_of message = record {
+  mode = message.mode;
+  priority = message.priority;
+  time_to_live = 0;
+  correlation = message.correlation;
+  message_type = message.message_type;
+  body = message.body;
+  properties = message.properties;
+}
+
+-- why a property of a message is not set: the properties are read-only, the name is not allowed, or
+-- memory is refused
+abbrev pub property_fault : Content → List ℕ → Property → MessageFault
+property_fault message name value =
+    if message.are_properties_read_only then NotWriteable else set_fault name value
+
+-- why the body of a message is not set: it is read-only, or memory is refused
+abbrev pub body_fault : Content → MessageFault
+body_fault message = if message.is_body_read_only then NotWriteable else Memory

@@ -3,6 +3,7 @@ ghost use Rattle.std.specs.Prelude.{◌≡◌, IfOk};
 use crate::body::Body;
 use jm_base::Str;
 use jm_dest::{Destination, Moment, Number, SessionId};
+use jm_property::Properties;
 use std::alloc::{AllocError, Global};
 
 /// How a message is delivered (Jakarta Messaging 3.1, section 3.4.2, JMSDeliveryMode).
@@ -44,6 +45,8 @@ pub struct Content {
     pub message_type: Option<Str>,
     /// The body.
     pub body: Body,
+    /// The properties.
+    pub properties: Properties,
     /// Whether the body is refused to be written.
     pub is_body_read_only: bool,
     /// Whether properties are refused to be written.
@@ -65,6 +68,8 @@ pub struct Settings {
     pub message_type: Option<Str>,
     /// The body.
     pub body: Body,
+    /// The properties.
+    pub properties: Properties,
 }
 
 /// An equal text, or none. `AllocError` where a request for memory was refused.
@@ -93,6 +98,7 @@ impl Content {
             correlation: copy_text(&self.correlation)?,
             message_type: copy_text(&self.message_type)?,
             body: self.body.copy(alloc)?,
+            properties: self.properties.copy()?,
             is_body_read_only: self.is_body_read_only,
             are_properties_read_only: self.are_properties_read_only,
         })
@@ -111,6 +117,7 @@ impl Settings {
             correlation: copy_text(&self.correlation)?,
             message_type: copy_text(&self.message_type)?,
             body: self.body.copy(alloc)?,
+            properties: self.properties.copy()?,
         })
     }
 }

@@ -1,10 +1,16 @@
-ghost use Rattle.std.specs.Prelude.{◌≡◌, IfOk, OnOk, IfErr, OnErr};
-ghost use Rattle.jm_base.specs.declared.refusal.Refusal.TheVariants.{Memory};
+ghost use Rattle.std.specs.Prelude.{◌≡◌, ◌<◌, ◌≤◌, ◌<ℤ◌, pos, Some, IfOk, IsTrue, MatchResult};
+ghost use Rattle.jm_base.specs.declared.refusal.Refusal.TheVariants.{Memory, OutOfRange};
+ghost use Rattle.std.specs.Borrow.{Lends, sem};
 ghost use Rattle.jm_header.specs.Headers.{defaults};
+ghost use Rattle.jm_header.specs.contracts.draft.Draft.{the_row as draft_row};
+ghost use Rattle.jm_property.specs.contracts.properties.Properties.{the_row as properties_row};
+ghost use Rattle.jm_header.specs.Valid.{IsValidSettings};
+ghost use Rattle.jm_property.specs.Properties.{with_property, is_allowed, set_fault};
 
 use crate::body::Body;
 use crate::content::{DeliveryMode, Settings};
-use jm_base::{Refusal, Str};
+use jm_base::{List, MessageFault, Refusal, Str};
+use jm_property::{Properties, Property};
 use std::alloc::{AllocError, Global};
 use std::marker::Model;
 
@@ -42,20 +48,119 @@ impl Draft {
                 correlation: None,
                 message_type: None,
                 body: Body::None,
+                properties: Properties::new(alloc),
             },
         }
+    }
+
+    /// The draft of those settings.
+    pub(crate) fn of_settings(alloc: Global, settings: Settings) -> Draft
+        requires { IsValidSettings settings }
+        ensures { result ≡ settings }
+    {
+        Draft { alloc, settings }
+    }
+
+    /// Sets JMSDeliveryMode (Jakarta Messaging 3.1, section 7.7).
+    pub fn set_mode(&mut self, mode: DeliveryMode)
+        ensures { self.new ≡ record self.old { mode = mode } }
+    {
+        self.settings.mode = mode;
+    }
+
+    /// Sets JMSPriority (Jakarta Messaging 3.1, section 7.8). `OutOfRange` exactly where it is above
+    /// 9, and then the draft is as before.
+    pub fn set_priority(&mut self, priority: u8) -> Result<(), Refusal>
+        ensures { MatchResult result
+            (λ _. (self.new ≡ record self.old { priority = priority }) × (priority ≤ 9))
+            (λ refusal. (self.new ≡ self.old) × (refusal ≡ OutOfRange) × (9 < priority)) }
+    {
+        if priority > 9 {
+            return Err(Refusal::OutOfRange);
+        }
+        self.settings.priority = priority;
+        Ok(())
+    }
+
+    /// Sets the time to live in milliseconds, where 0 means that the message does not expire (Jakarta
+    /// Messaging 3.1, section 7.8). `OutOfRange` exactly where it is negative, and then the draft is
+    /// as before.
+    pub fn set_time_to_live(&mut self, milliseconds: i64) -> Result<(), Refusal>
+        ensures { MatchResult result
+            (λ _. (self.new ≡ record self.old { time_to_live = self.new.time_to_live }) × (pos self.new.time_to_live ≡ milliseconds))
+            (λ refusal. (self.new ≡ self.old) × (refusal ≡ OutOfRange) × (milliseconds <ℤ pos 0)) }
+    {
+        if milliseconds < 0 {
+            return Err(Refusal::OutOfRange);
+        }
+        self.settings.time_to_live = milliseconds as u64;
+        Ok(())
+    }
+
+    /// Sets JMSCorrelationID (Jakarta Messaging 3.1, section 3.4.5). `Memory` where a request for
+    /// memory was refused, and then the draft is as before.
+    pub fn set_correlation(&mut self, correlation: &str) -> Result<(), Refusal>
+        ensures { MatchResult result
+            (λ _. self.new ≡ record self.old { correlation = Some correlation.now })
+            (λ refusal. (self.new ≡ self.old) × (refusal ≡ Memory)) }
+    {
+        let text = String::from_str(self.alloc, correlation)?;
+        self.settings.correlation = Some(Str::new(text));
+        Ok(())
+    }
+
+    /// Sets JMSType (Jakarta Messaging 3.1, section 3.4.8). `Memory` where a request for memory was
+    /// refused, and then the draft is as before.
+    pub fn set_type(&mut self, message_type: &str) -> Result<(), Refusal>
+        ensures { MatchResult result
+            (λ _. self.new ≡ record self.old { message_type = Some message_type.now })
+            (λ refusal. (self.new ≡ self.old) × (refusal ≡ Memory)) }
+    {
+        let text = String::from_str(self.alloc, message_type)?;
+        self.settings.message_type = Some(Str::new(text));
+        Ok(())
     }
 
     /// Sets the body to that text. `Memory` where a request for memory was refused, and then the
     /// draft is as before.
     pub fn set_text(&mut self, text: &str) -> Result<(), Refusal>
-        ensures ok { OnOk result (self.new ≡ record self.old { body = Body.Text text.now }) }
-        ensures cause { IfErr result (λ refusal. refusal ≡ Memory) }
-        ensures err { OnErr result (self.new ≡ self.old) }
+        ensures { MatchResult result
+            (λ _. self.new ≡ record self.old { body = Body.Text text.now })
+            (λ refusal. (self.new ≡ self.old) × (refusal ≡ Memory)) }
     {
         let text = String::from_str(self.alloc, text)?;
         self.settings.body = Body::Text(Str::new(text));
         Ok(())
+    }
+
+    /// Sets the body to those bytes. `Memory` where a request for memory was refused, and then the
+    /// draft is as before.
+    pub fn set_bytes(&mut self, bytes: &[u8]) -> Result<(), Refusal>
+        ensures { MatchResult result
+            (λ _. self.new ≡ record self.old { body = Body.Bytes bytes.now })
+            (λ refusal. (self.new ≡ self.old) × (refusal ≡ Memory)) }
+    {
+        let bytes = Vec::from_slice(self.alloc, bytes)?;
+        self.settings.body = Body::Bytes(List::new(bytes));
+        Ok(())
+    }
+
+    /// Sets a property, as `Properties::set` does. `BadName` where the name may not have that value,
+    /// else `Memory` where a request for memory was refused; then the draft is as before.
+    pub fn set_property(&mut self, name: &str, value: Property) -> Result<(), MessageFault>
+        ensures { MatchResult result
+            (λ _. (self.new ≡ record self.old { properties = with_property self.old.properties name.now value }) × IsTrue (is_allowed name.now value))
+            (λ fault. (self.new ≡ self.old) × (fault ≡ set_fault name.now value)) }
+    {
+        self.properties_mut().set(name, value)
+    }
+
+    /// The properties, which can be written.
+    pub fn properties_mut(&mut self) -> &mut Properties
+        ensures value { result.now ≡ self.old.properties }
+        ensures* writes_back { sem 𝓛 (Lends draft_row properties_row self.entry result (λ properties. record self.entry.now { properties = properties })) }
+    {
+        &mut self.settings.properties
     }
 
     /// An equal draft. `AllocError` where a request for memory was refused.

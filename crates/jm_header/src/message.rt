@@ -1,11 +1,14 @@
-ghost use Rattle.std.specs.Prelude.{◌≡◌, ◌↔◌, IfOk, IsTrue, true, option_copied};
-ghost use Rattle.jm_header.specs.Headers.{IsExpired};
+ghost use Rattle.std.specs.Prelude.{◌≡◌, ◌↔◌, [], IfOk, IsTrue, MatchResult, true, false, option_copied};
+ghost use Rattle.jm_header.specs.Headers.{IsExpired, body_fault, draft_of, property_fault};
 ghost use Rattle.jm_header.specs.Valid.{IsValid};
+ghost use Rattle.jm_property.specs.Properties.{with_property, is_allowed};
 
 use crate::body::Body;
-use crate::content::{Content, DeliveryMode, Sender};
-use jm_base::Str;
+use crate::content::{Content, DeliveryMode, Sender, Settings};
+use crate::draft::Draft;
+use jm_base::{List, MessageFault, Str};
 use jm_dest::{Destination, Moment};
+use jm_property::{Properties, Property};
 use std::alloc::{AllocError, Global};
 use std::marker::Model;
 
@@ -108,6 +111,13 @@ impl Message {
         &self.content.body
     }
 
+    /// The properties.
+    pub fn properties(&self) -> &Properties
+        ensures { result.now ≡ self.now.properties }
+    {
+        &self.content.properties
+    }
+
     /// Whether the message is expired at that moment: its expiration is set, and not later (Jakarta
     /// Messaging 3.1, section 3.4.9). Takes no memory.
     pub fn expired(&self, now: Moment) -> bool
@@ -123,6 +133,98 @@ impl Message {
     {
         self.content.is_body_read_only = true;
         self.content.are_properties_read_only = true;
+    }
+
+    /// Sets a property, as `Properties::set` does. `NotWriteable` where the properties are read-only,
+    /// else `BadName` where the name may not have that value, else `Memory` where a request for memory
+    /// was refused; then the message is as before.
+    pub fn set_property(&mut self, name: &str, value: Property) -> Result<(), MessageFault>
+        ensures { MatchResult result
+            (λ _. (self.new ≡ record self.old { properties = with_property self.old.properties name.now value })
+            × IsTrue (is_allowed name.now value) × (self.old.are_properties_read_only ≡ false))
+            (λ fault. (self.new ≡ self.old) × (fault ≡ property_fault self.old name.now value)) }
+    {
+        if self.content.are_properties_read_only {
+            return Err(MessageFault::NotWriteable);
+        }
+        self.content.properties.set(name, value)
+    }
+
+    /// Sets the body to that text. `NotWriteable` where the body is read-only, else `Memory` where a
+    /// request for memory was refused; then the message is as before.
+    pub fn set_text(&mut self, text: &str) -> Result<(), MessageFault>
+        ensures { MatchResult result
+            (λ _. (self.new ≡ record self.old { body = Body.Text text.now }) × (self.old.is_body_read_only ≡ false))
+            (λ fault. (self.new ≡ self.old) × (fault ≡ body_fault self.old)) }
+    {
+        if self.content.is_body_read_only {
+            return Err(MessageFault::NotWriteable);
+        }
+        let text = String::from_str(self.alloc, text)?;
+        self.content.body = Body::Text(Str::new(text));
+        Ok(())
+    }
+
+    /// Sets the body to those bytes. `NotWriteable` where the body is read-only, else `Memory` where a
+    /// request for memory was refused; then the message is as before.
+    pub fn set_bytes(&mut self, bytes: &[u8]) -> Result<(), MessageFault>
+        ensures { MatchResult result
+            (λ _. (self.new ≡ record self.old { body = Body.Bytes bytes.now }) × (self.old.is_body_read_only ≡ false))
+            (λ fault. (self.new ≡ self.old) × (fault ≡ body_fault self.old)) }
+    {
+        if self.content.is_body_read_only {
+            return Err(MessageFault::NotWriteable);
+        }
+        let bytes = Vec::from_slice(self.alloc, bytes)?;
+        self.content.body = Body::Bytes(List::new(bytes));
+        Ok(())
+    }
+
+    /// Removes all properties, and makes them writeable (Jakarta Messaging 3.1, section 3.5.7). Takes
+    /// no memory.
+    pub fn clear_properties(&mut self)
+        ensures { self.new ≡ record self.old { properties = []; are_properties_read_only = false } }
+    {
+        self.content.properties.clear();
+        self.content.are_properties_read_only = false;
+    }
+
+    /// Removes the body, and makes it writeable (Jakarta Messaging 3.1, section 3.11.1). Takes no
+    /// memory.
+    pub fn clear_body(&mut self)
+        ensures { self.new ≡ record self.old { body = Body.None; is_body_read_only = false } }
+    {
+        self.content.body = Body::None;
+        self.content.is_body_read_only = false;
+    }
+
+    /// A draft with the message's mode, priority, JMSCorrelationID, JMSType, body and properties, and
+    /// time to live 0. Takes no memory.
+    pub fn into_draft(self) -> Draft
+        ensures { result ≡ draft_of self }
+    {
+        let Message { alloc, content } = self;
+        let Content {
+            mode,
+            priority,
+            correlation,
+            message_type,
+            body,
+            properties,
+            ..
+        } = content;
+        Draft::of_settings(
+            alloc,
+            Settings {
+                mode,
+                priority,
+                time_to_live: 0,
+                correlation,
+                message_type,
+                body,
+                properties,
+            },
+        )
     }
 
     /// An equal message. `AllocError` where a request for memory was refused.

@@ -49,6 +49,7 @@ pub fn stamp(
         correlation,
         message_type,
         body,
+        properties,
     } = settings;
     Ok(Message::new(
         alloc,
@@ -63,6 +64,7 @@ pub fn stamp(
             correlation,
             message_type,
             body,
+            properties,
             is_body_read_only: false,
             are_properties_read_only: false,
         },

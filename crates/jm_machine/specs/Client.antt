@@ -28,7 +28,7 @@ begun state = record { state = state; sent = λ s. 0 }
 
 -- one more send of the session
 abbrev pub one_more : SessionId → (SessionId → ℕ) → SessionId → ℕ
-one_more s sent t = if session_eq t s then sent t + 1 else sent t
+one_more s sent t = if session_eq s t then sent s + 1 else sent t
 
 -- a send's message, or why it is not stamped: the session is not open, or a moment is out of range
 abbrev pub stamp_of : Progress → SessionId → Settings → Destination → ℕ → Result Content Refusal

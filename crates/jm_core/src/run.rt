@@ -1,0 +1,109 @@
+//! Runs lists of client calls.
+
+ghost use Rattle.std.specs.Prelude.{◌≡◌, ◌+◌, IfOk, OnOk, OnErr};
+ghost use Rattle.jm_machine.specs.Client.{Progress, begun, stamp_of, CallFits, RepliesFit};
+ghost use Rattle.jm_core.specs.Runs.{sent_of, progress};
+
+use crate::state::Core;
+use jm_base::Refusal;
+use jm_dest::{Destination, Moment, SessionId};
+use jm_header::{Draft, Message, Sender, stamp};
+use jm_machine::{Answer, ClientCall, Reply};
+use std::alloc::AllocError;
+use std::collections::HashMap;
+
+/// The number of each session's newest stamped send.
+type Sends = HashMap<SessionId, u64>;
+
+fn sent_by(sends: &Sends, session: &SessionId) -> u64
+    ensures { result ≡ sent_of sends.now session.now }
+{
+    sends.get(session).copied().unwrap_or(0)
+}
+
+impl Core {
+    /// The message of the session's next send, or why it is not stamped.
+    fn stamp_next(
+        &self,
+        sends: &Sends,
+        session: &SessionId,
+        draft: Draft,
+        destination: Destination,
+        now: Moment,
+    ) -> Result<Message, Refusal>
+        ensures { result ≡ stamp_of (progress self.now sends.now) session.now draft destination now }
+    {
+        if !self.is_open_session(session) {
+            return Err(Refusal::IllegalState);
+        }
+        match sent_by(sends, session).checked_add(1) {
+            None => Err(Refusal::OutOfRange),
+            Some(number) => {
+                let sender = Sender {
+                    opening: self.opening(),
+                    session: *session,
+                };
+                stamp(draft, destination, sender, number, now)
+            }
+        }
+    }
+
+    /// Stamps and publishes a message.
+    fn send(
+        &mut self,
+        sends: &mut Sends,
+        session: &SessionId,
+        draft: Draft,
+        destination: Destination,
+        now: Moment,
+    ) -> Result<Answer, Refusal>
+        ensures { CallFits (progress self.old sends.old) (ClientCall.Send session.now draft destination now) result (progress self.new sends.new) }
+    {
+        match self.stamp_next(sends, session, draft, destination, now) {
+            Err(refusal) => Err(refusal),
+            Ok(message) => {
+                let number = message.number();
+                match sends.insert(*session, number) {
+                    Err(_) => Err(Refusal::Memory),
+                    Ok(_) => {
+                        let messages = [message];
+                        match self.publish_from(session, &messages) {
+                            Ok(()) => Ok(Answer::Sent(number)),
+                            Err(refusal) => Err(refusal),
+                        }
+                    }
+                }
+            }
+        }
+    }
+
+    fn answer(&mut self, sends: &mut Sends, call: ClientCall) -> Result<Answer, Refusal>
+        ensures { CallFits (progress self.old sends.old) call result (progress self.new sends.new) }
+    {
+        match call {
+            ClientCall::Ask { who, request } => self.ask(who, &request),
+            ClientCall::Send {
+                session,
+                draft,
+                destination,
+                now,
+            } => self.send(sends, &session, draft, destination, now),
+        }
+    }
+
+    /// Makes the calls in turn, and gives the reply to each. The numbers of each session's sends count
+    /// from 1 at the start of the list. `AllocError` where no room was found for the replies; then no
+    /// call was made. Where one call wants memory, its reply is `Memory`, and the run goes on.
+    pub fn run(&mut self, calls: Vec<ClientCall>) -> Result<Vec<Reply>, AllocError>
+        ensures ok { IfOk result (λ replies. (end : Progress) × RepliesFit (begun self.old) calls.items replies.items end × (self.new ≡ end.state)) }
+        ensures err { OnErr result (self.new ≡ self.old) }
+    {
+        let alloc = self.alloc();
+        let mut replies = Vec::with_capacity(alloc, calls.len())?;
+        let mut sends = HashMap::new(alloc);
+        for call in calls {
+            replies.push_reserved(self.answer(&mut sends, call));
+        }
+        Ok(replies)
+    }
+}
