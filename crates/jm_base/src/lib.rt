@@ -13,3 +13,6 @@ pub use list::List;
 pub use mode::Mode;
 pub use refusal::{Cause, MessageFault, Refusal};
 pub use text::Str;
+
+#[cfg(test)]
+mod tests;

@@ -13,3 +13,6 @@ pub use jm_machine::{
     Request, Row, SessionState, Station, Step, Who, copy_reply,
 };
 pub use state::Core;
+
+#[cfg(test)]
+mod tests;

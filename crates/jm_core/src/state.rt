@@ -128,28 +128,28 @@ impl Core {
     pub fn connections(&self) -> &[ConnectionState]
         ensures { result.now ≡ self.now.life.connections }
     {
-        &self.connections
+        self.connections.as_slice()
     }
 
     /// The sessions that were opened, in order.
     pub fn sessions(&self) -> &[SessionState]
         ensures { result.now ≡ self.now.life.sessions }
     {
-        &self.sessions
+        self.sessions.as_slice()
     }
 
     /// The consumers that were made, in order.
     pub fn consumers(&self) -> &[Consumer]
         ensures { result.now ≡ self.now.consumers }
     {
-        &self.consumers
+        self.consumers.as_slice()
     }
 
     /// The subscriptions with their rows, in order of creation.
     pub fn stations(&self) -> &[Station]
         ensures { result.now ≡ self.now.stations }
     {
-        &self.stations
+        self.stations.as_slice()
     }
 
     /// The place of the next publication, from 1.

@@ -78,7 +78,7 @@ impl Name {
 /// The client identifier of a connection (Jakarta Messaging 3.1, section 6.1.2): a name.
 #[derive(Debug, PartialEq, Eq, Drop)]
 pub struct ClientId {
-    name: Name,
+    identifier: Name,
 }
 
 impl Model for ClientId {
@@ -89,9 +89,9 @@ impl Model for ClientId {
 
     ghost coded = { coded_list coded_ℕ };
 
-    ghost view = { λ c. c.name };
+    ghost view = { λ c. c.identifier };
 
-    ghost inverse = { λ bytes. record { name = bytes } };
+    ghost inverse = { λ bytes. record { identifier = bytes } };
 }
 
 impl ClientId {
@@ -101,15 +101,15 @@ impl ClientId {
         ensures ok { IfOk result (λ client. (client ≡ text.now) × IsTrue (spec.is_name text.now)) }
         ensures err { IfErr result (λ refusal. refusal ≡ (if spec.is_name text.now then Memory else BadName)) }
     {
-        let name = Name::new(alloc, text)?;
-        Ok(ClientId { name })
+        let identifier = Name::new(alloc, text)?;
+        Ok(ClientId { identifier })
     }
 
     /// The text of the identifier.
     pub fn as_str(&self) -> &str
         ensures { result.now ≡ self.now }
     {
-        self.name.as_str()
+        self.identifier.as_str()
     }
 
     /// An equal identifier. `AllocError` where a request for memory was refused.
@@ -117,7 +117,7 @@ impl ClientId {
         ensures { IfOk result (λ copy. copy ≡ self.now) }
     {
         Ok(ClientId {
-            name: self.name.copy()?,
+            identifier: self.identifier.copy()?,
         })
     }
 }

@@ -85,7 +85,7 @@ impl ConnectionId {
 /// The number of a consumer in its session, chosen by the caller (ours).
 #[derive(Clone, Copy, Debug, PartialEq, Eq, Hash)]
 pub struct ConsumerId {
-    number: Number,
+    inner: Number,
 }
 
 impl Model for ConsumerId {
@@ -96,9 +96,9 @@ impl Model for ConsumerId {
 
     ghost coded = { coded_ℕ };
 
-    ghost view = { λ c. c.number };
+    ghost view = { λ c. c.inner };
 
-    ghost inverse = { λ n. record { number = n } };
+    ghost inverse = { λ n. record { inner = n } };
 }
 
 impl ConsumerId {
@@ -106,8 +106,8 @@ impl ConsumerId {
     pub fn new(number: u32) -> Result<ConsumerId, Refusal>
         ensures { MatchResult result (λ id. (id ≡ number) × (1 ≤ number)) (λ refusal. (refusal ≡ OutOfRange) × (number ≡ 0)) }
     {
-        let number = Number::new(number)?;
-        Ok(ConsumerId { number })
+        let inner = Number::new(number)?;
+        Ok(ConsumerId { inner })
     }
 
     /// The number as it was given.
@@ -115,6 +115,6 @@ impl ConsumerId {
         ensures value { result ≡ self }
         ensures positive { 1 ≤ result }
     {
-        self.number.get()
+        self.inner.get()
     }
 }

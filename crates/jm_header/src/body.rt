@@ -13,7 +13,7 @@ pub enum Body {
 
 impl Body {
     /// An equal body. `AllocError` where a request for memory was refused.
-    pub fn copy(&self, alloc: Global) -> Result<Body, AllocError>
+    pub(crate) fn copy(&self, alloc: Global) -> Result<Body, AllocError>
         ensures { IfOk result (λ copy. copy ≡ self.now) }
     {
         match self {

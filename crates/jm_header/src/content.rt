@@ -11,7 +11,7 @@ use std::alloc::{AllocError, Global};
 pub enum DeliveryMode {
     /// The message may be lost when the provider stops.
     NonPersistent,
-    /// The message is stored before its sending is answered.
+    /// The message is stored, where it is held for a queue or a durable subscription.
     Persistent,
 }
 
@@ -84,7 +84,7 @@ fn copy_text(text: &Option<Str>) -> Result<Option<Str>, AllocError>
 
 impl Content {
     /// Equal fields. `AllocError` where a request for memory was refused.
-    pub fn copy(&self, alloc: Global) -> Result<Content, AllocError>
+    pub(crate) fn copy(&self, alloc: Global) -> Result<Content, AllocError>
         ensures { IfOk result (λ copy. copy ≡ self.now) }
     {
         Ok(Content {
@@ -107,7 +107,7 @@ impl Content {
 
 impl Settings {
     /// Equal fields. `AllocError` where a request for memory was refused.
-    pub fn copy(&self, alloc: Global) -> Result<Settings, AllocError>
+    pub(crate) fn copy(&self, alloc: Global) -> Result<Settings, AllocError>
         ensures { IfOk result (λ copy. copy ≡ self.now) }
     {
         Ok(Settings {

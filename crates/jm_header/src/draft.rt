@@ -61,14 +61,14 @@ impl Draft {
         Draft { alloc, settings }
     }
 
-    /// Sets JMSDeliveryMode (Jakarta Messaging 3.1, section 7.7).
+    /// Sets JMSDeliveryMode (Jakarta Messaging 3.1, section 3.4.2).
     pub fn set_mode(&mut self, mode: DeliveryMode)
         ensures { self.new ≡ record self.old { mode = mode } }
     {
         self.settings.mode = mode;
     }
 
-    /// Sets JMSPriority (Jakarta Messaging 3.1, section 7.8). `OutOfRange` exactly where it is above
+    /// Sets JMSPriority (Jakarta Messaging 3.1, section 3.4.10). `OutOfRange` exactly where it is above
     /// 9, and then the draft is as before.
     pub fn set_priority(&mut self, priority: u8) -> Result<(), Refusal>
         ensures { MatchResult result
@@ -83,7 +83,7 @@ impl Draft {
     }
 
     /// Sets the time to live in milliseconds, where 0 means that the message does not expire (Jakarta
-    /// Messaging 3.1, section 7.8). `OutOfRange` exactly where it is negative, and then the draft is
+    /// Messaging 3.1, section 3.4.9). `OutOfRange` exactly where it is negative, and then the draft is
     /// as before.
     pub fn set_time_to_live(&mut self, milliseconds: i64) -> Result<(), Refusal>
         ensures { MatchResult result

@@ -7,6 +7,8 @@ mod content;
 mod draft;
 mod message;
 mod stamping;
+#[cfg(test)]
+mod tests;
 
 pub use body::Body;
 pub use content::{Content, DeliveryMode, Sender, Settings};

@@ -71,7 +71,8 @@ impl Message {
 
     /// JMSPriority, from 0 to 9.
     pub fn priority(&self) -> u8
-        ensures { result ≡ self.now.priority }
+        ensures value { result ≡ self.now.priority }
+        ensures valid { IsValid self.now }
     {
         self.content.priority
     }
@@ -123,7 +124,7 @@ impl Message {
     pub fn expired(&self, now: Moment) -> bool
         ensures { IsTrue result ↔ IsExpired self.now now }
     {
-        let expiration = self.content.expiration.get();
+        let expiration = self.expiration().get();
         expiration != 0 && now.get() >= expiration
     }
 

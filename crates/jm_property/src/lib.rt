@@ -5,6 +5,8 @@
 mod identifier;
 mod properties;
 mod property;
+#[cfg(test)]
+mod tests;
 
 pub use identifier::is_identifier;
 pub use properties::Properties;

@@ -1,0 +1,53 @@
+-- The tests on sessions and keys decide equality.
+use Rattle.std.proofs.Common.{◌≡◌, ℕ, true, List, [], ◌∷◌, refl, ap, arith, Option, Some, None}
+use Rattle.std.proofs.lemmas.Bool.Decides.{nat_tests}
+use Rattle.jm_dest.specs.declared.session.SessionId.{SessionId}
+use Rattle.jm_dest.specs.declared.key.Key.{Key}
+use Rattle.jm_dest.specs.declared.key.Key.TheVariants.{Queue, Own, SharedOwn, Durable}
+use Rattle.jm_dest.specs.Names.{text_eq, client_eq, session_eq}
+use Rattle.jm_dest.specs.Keys.{key_eq}
+use Rattle.jm_machine.specs.Owns.{is_own, is_own_connection}
+
+text_refl : (a : List ℕ) → text_eq a a ≡ true
+text_refl [] = refl
+text_refl (x ∷ xs) = grind (arith, nat_tests, text_refl xs)
+
+text_same : (a b : List ℕ) → text_eq a b ≡ true → a ≡ b
+text_same [] [] h = refl
+text_same [] (y ∷ ys) h = cc
+text_same (x ∷ xs) [] h = cc
+text_same (x ∷ xs) (y ∷ ys) h = grind (arith, nat_tests, text_same xs ys)
+
+client_refl : (a : Option (List ℕ)) → client_eq a a ≡ true
+client_refl None = refl
+client_refl (Some a) = text_refl a
+
+client_same : (a b : Option (List ℕ)) → client_eq a b ≡ true → a ≡ b
+client_same None None h = refl
+client_same None (Some b) h = cc
+client_same (Some a) None h = cc
+client_same (Some a) (Some b) h = ap (λ t. Some t) (text_same a b h)
+
+pub session_refl : (a : SessionId) → session_eq a a ≡ true
+session_refl a = grind (arith, nat_tests)
+
+pub session_same : (a b : SessionId) → session_eq a b ≡ true → a ≡ b
+session_same a b h = grind (arith, nat_tests)
+
+pub key_refl : (a : Key) → key_eq a a ≡ true
+key_refl (Queue a) = text_refl a
+key_refl (Own s c) = grind (arith, nat_tests, session_refl s)
+key_refl (SharedOwn k n) = grind (arith, nat_tests, client_refl k, text_refl n)
+key_refl (Durable k n) = grind (arith, nat_tests, client_refl k, text_refl n)
+
+pub key_same : (a b : Key) → key_eq a b ≡ true → a ≡ b
+key_same (Queue a) (Queue b) h = ap (λ t. Queue t) (text_same a b h)
+key_same (Own s c) (Own t d) h = grind (arith, nat_tests, session_same s t)
+key_same (SharedOwn k n) (SharedOwn l m) h = grind (arith, nat_tests, client_same k l, text_same n m)
+key_same (Durable k n) (Durable l m) h = grind (arith, nat_tests, client_same k l, text_same n m)
+key_same _ _ h = cc
+
+-- an own session's connection is an own connection
+pub own_connection : (sessions : List SessionId) (s : SessionId) → is_own sessions s ≡ true → is_own_connection sessions s.connection ≡ true
+own_connection [] s h = cc
+own_connection (t ∷ sessions) s h = grind (arith, nat_tests, own_connection sessions s)

@@ -1,0 +1,32 @@
+use std::alloc::AllocError;
+use std::fmt;
+
+/// Why the replies of one subscription alone are not given.
+#[derive(Clone, Copy, Debug, PartialEq, Eq)]
+pub enum LoneFault {
+    /// The key is not that of an unshared topic subscription, or its consumer's number names another
+    /// consumer of the opening too.
+    NotUnshared,
+    /// A request for memory was refused.
+    Memory,
+}
+
+impl From<AllocError> for LoneFault {
+    ghost use Rattle.std.specs.Prelude.{◌≡◌};
+    ghost use Rattle.jm_model.specs.declared.fault.LoneFault.TheVariants.{Memory};
+
+    ghost from_gives = { λ _ fault. fault ≡ Memory };
+
+    fn from(_: AllocError) -> LoneFault {
+        LoneFault::Memory
+    }
+}
+
+impl fmt::Display for LoneFault {
+    fn fmt<W: fmt::Write>(&self, f: &mut fmt::Formatter<W>) -> fmt::Result {
+        f.write_str(match self {
+            LoneFault::NotUnshared => "NotUnshared",
+            LoneFault::Memory => "Memory",
+        })
+    }
+}

@@ -1,0 +1,17 @@
+//! The lone subscription, executable, and the law of isolation.
+#![tactic(auto)]
+
+mod delivery;
+mod fault;
+mod law;
+mod lone;
+mod recorded;
+mod replies;
+
+pub use fault::LoneFault;
+pub use law::law_isolation;
+pub use recorded::entries;
+pub use replies::lone_replies;
+
+#[cfg(test)]
+mod tests;

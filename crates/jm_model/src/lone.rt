@@ -1,0 +1,485 @@
+//! One subscription alone: what it holds, and what it answers to what it is fed.
+
+ghost use Rattle.std.specs.Prelude.{◌≡◌, ◌&&◌, ◌==◌, ◌++◌, [], ◌∷◌, is_some, is_none, filter, IfOk, OnOk, Some, option_to_list, option_copied, option_and_then, if◌then◌else◌};
+ghost use Rattle.jm_dest.specs.Names.{session_eq};
+ghost use Rattle.jm_machine.specs.Owns as owns;
+ghost use Rattle.jm_machine.specs.Life as life;
+ghost use Rattle.jm_dest.specs.Keys.{key_eq};
+ghost use Rattle.jm_machine.specs.Rows as rows_spec;
+ghost use Rattle.jm_machine.specs.Rows.{fresh};
+ghost use Rattle.jm_machine.specs.Machine as machine;
+ghost use Rattle.jm_machine.specs.Lone as spec;
+ghost use Rattle.jm_machine.specs.Lone.Item.{Called};
+ghost use Rattle.jm_model.specs.Owners.{scope};
+
+use crate::delivery::deliver;
+use jm_base::{Mode, Refusal};
+use jm_core::Core;
+use jm_dest::{ConnectionId, ConsumerId, Destination, Key, Moment, Name, SessionId};
+use jm_header::Message;
+use jm_machine::{
+    Answer, ConnectionState, Consumer, Definition, Entry, PlacedRow, Reply, Request, Row,
+    SessionState, Station, Who,
+};
+use std::alloc::{AllocError, Global};
+use std::marker::Model;
+
+/// The consumer whose subscription it is.
+#[derive(Clone, Copy)]
+pub(crate) struct Owner {
+    pub session: SessionId,
+    pub consumer: ConsumerId,
+}
+
+/// What the subscription holds. Contracts see it as the lone subscription of the definitions.
+#[derive(Drop)]
+pub(crate) struct Lone {
+    connections: Vec<ConnectionState>,
+    sessions: Vec<SessionState>,
+    consumers: Vec<Consumer>,
+    definition: Option<Definition>,
+    rows: Vec<Row>,
+}
+
+impl Model for Lone {
+    ghost use Rattle.jm_machine.specs.Lone.{Lone as LoneHeld};
+
+    ghost Value = { LoneHeld };
+
+    ghost view = { λ l. record {
+      life = record { connections = l.connections.items; sessions = l.sessions.items };
+      consumers = l.consumers.items;
+      definition = l.definition;
+      rows = l.rows.items;
+    } };
+}
+
+fn same_session(a: &SessionId, b: &SessionId) -> bool
+    ensures { result ≡ session_eq a.now b.now }
+{
+    a.connection == b.connection && a.number == b.number
+}
+
+impl Owner {
+    /// Whether the session is the owner's.
+    fn is_own(&self, session: &SessionId) -> bool
+        ensures { result ≡ owns.is_own (scope self.now).sessions session.now }
+    {
+        same_session(session, &self.session)
+    }
+
+    /// Whether the connection is that of the owner's session.
+    fn is_own_connection(&self, id: ConnectionId) -> bool
+        ensures { result ≡ owns.is_own_connection (scope self.now).sessions id }
+    {
+        self.session.connection == id
+    }
+
+    /// Whether the session's number is the owner's.
+    fn is(&self, session: &SessionId, id: ConsumerId) -> bool
+        ensures { result ≡ spec.belongs (scope self.now) session.now id }
+    {
+        same_session(session, &self.session) && id == self.consumer
+    }
+
+    fn key(&self) -> Key
+        ensures { result ≡ (scope self.now).key }
+    {
+        Key::Own(self.session, self.consumer)
+    }
+}
+
+fn with_started(connection: ConnectionState, id: ConnectionId, on: bool) -> ConnectionState
+    ensures { result ≡ life.started_if id on connection }
+{
+    if connection.id == id {
+        ConnectionState { id, is_started: on }
+    } else {
+        connection
+    }
+}
+
+/// Starts or stops the connection of that number.
+fn set_started(connections: &mut [ConnectionState], id: ConnectionId, on: bool)
+    ensures { connections.new ≡ life.with_started id on connections.old }
+{
+    for connection in connections.iter_mut() {
+        *connection = with_started(*connection, id, on);
+    }
+}
+
+/// Whether a publication to that destination comes to the subscription.
+#[tactic(auto, unfolding(jm_machine::specs::Machine::accepts))]
+fn accepts(definition: &Option<Definition>, owner: &Owner, message: &Message) -> bool
+    ensures { result ≡ spec.lone_accepts (scope owner.now).key definition.now message.now }
+{
+    match definition {
+        None => false,
+        Some(definition) => match message.destination() {
+            Destination::Queue(_) => false,
+            Destination::Topic(name) => definition.topic == *name,
+        },
+    }
+}
+
+fn own_connections(
+    alloc: Global,
+    owner: &Owner,
+    connections: &[ConnectionState],
+) -> Result<Vec<ConnectionState>, AllocError>
+    ensures { IfOk result (λ own. own.items ≡ filter (λ x. owns.is_own_connection (scope owner.now).sessions x.id) connections.now) }
+{
+    connections
+        .iter()
+        .copied()
+        .filter(|x| owner.is_own_connection(x.id))
+        .collect(alloc)
+}
+
+fn own_sessions(
+    alloc: Global,
+    owner: &Owner,
+    sessions: &[SessionState],
+) -> Result<Vec<SessionState>, AllocError>
+    ensures { IfOk result (λ own. own.items ≡ filter (λ x. owns.is_own (scope owner.now).sessions x.id) sessions.now) }
+{
+    sessions
+        .iter()
+        .copied()
+        .filter(|x| owner.is_own(&x.id))
+        .collect(alloc)
+}
+
+/// The consumers of the owner's subscription.
+fn own_consumers(
+    alloc: Global,
+    key: &Key,
+    consumers: &[Consumer],
+) -> Result<Vec<Consumer>, AllocError>
+    ensures { IfOk result (λ own. own.items ≡ filter (λ x. key_eq x.key key.now) consumers.now) }
+{
+    let mut own = Vec::new(alloc);
+    for consumer in consumers {
+        if consumer.key.is(key) {
+            own.push(consumer.copy()?)?;
+        }
+    }
+    Ok(own)
+}
+
+/// Rows without their places.
+fn bare(alloc: Global, rows: &[PlacedRow]) -> Result<Vec<Row>, AllocError>
+    ensures { IfOk result (λ bare. bare.items ≡ rows_spec.bare rows.now) }
+{
+    let mut bare = Vec::with_capacity(alloc, rows.len())?;
+    for placed in rows {
+        bare.push(placed.row.copy()?)?;
+    }
+    Ok(bare)
+}
+
+/// What is held under the key.
+fn station_of<'a>(stations: &'a [Station], key: &Key) -> Option<&'a Station>
+    ensures { option_copied result ≡ machine.station_of key.now stations.now }
+{
+    stations.iter().find(|station| station.key.is(key))
+}
+
+fn definition_of(station: Option<&Station>) -> Result<Option<Definition>, AllocError>
+    ensures { IfOk result (λ definition. definition ≡ machine.definition_of (option_copied station.entry)) }
+{
+    match station {
+        None => Ok(None),
+        Some(station) => Ok(Some(station.definition.copy()?)),
+    }
+}
+
+fn rows_of(alloc: Global, station: Option<&Station>) -> Result<Vec<Row>, AllocError>
+    ensures { IfOk result (λ rows. rows.items ≡ machine.rows_of (option_copied station.entry)) }
+{
+    match station {
+        None => Ok(Vec::new(alloc)),
+        Some(station) => bare(alloc, station.rows.as_slice()),
+    }
+}
+
+impl Lone {
+    /// What the opening holds of the owner's subscription.
+    #[tactic(auto, unfolding(jm_machine::specs::Lone::lone_of, jm_machine::specs::Life::own_life))]
+    pub(crate) fn of(alloc: Global, opening: &Core, owner: &Owner) -> Result<Lone, AllocError>
+        ensures { IfOk result (λ lone. lone ≡ spec.lone_of (scope owner.now) opening.now) }
+    {
+        let key = owner.key();
+        let connections = own_connections(alloc, owner, opening.connections())?;
+        let sessions = own_sessions(alloc, owner, opening.sessions())?;
+        let consumers = own_consumers(alloc, &key, opening.consumers())?;
+        let definition = definition_of(station_of(opening.stations(), &key))?;
+        let rows = rows_of(alloc, station_of(opening.stations(), &key))?;
+        Ok(Lone {
+            connections,
+            sessions,
+            consumers,
+            definition,
+            rows,
+        })
+    }
+}
+
+impl Lone {
+    fn connection(&self, id: ConnectionId) -> Option<ConnectionState>
+        ensures { result ≡ life.connection_of self.now.life.connections id }
+    {
+        self.connections.iter().copied().find(|x| x.id == id)
+    }
+
+    fn is_started(&self, id: ConnectionId) -> bool
+        ensures { result ≡ life.is_started self.now.life id }
+    {
+        match self.connection(id) {
+            Some(connection) => connection.is_started,
+            None => false,
+        }
+    }
+
+    fn session(&self, id: &SessionId) -> Option<SessionState>
+        ensures { result ≡ life.session_of self.now.life.sessions id.now }
+    {
+        self.sessions
+            .iter()
+            .copied()
+            .find(|x| same_session(&x.id, id))
+    }
+
+    fn is_open_session(&self, id: &SessionId) -> bool
+        ensures { result ≡ is_some (life.mode_of self.now.life id.now) }
+    {
+        self.session(id).is_some()
+    }
+
+    fn is_new_session(&self, id: &SessionId) -> bool
+        ensures { result ≡ life.is_new_session self.now.life id.now }
+    {
+        self.connection(id.connection).is_some() && self.session(id).is_none()
+    }
+
+    fn consumer(&self, session: &SessionId, id: ConsumerId) -> Option<&Consumer>
+        ensures { option_copied result ≡ machine.consumer_of self.now.consumers session.now id }
+    {
+        self.consumers
+            .iter()
+            .find(|x| same_session(&x.session, session) && x.id == id)
+    }
+
+    fn has_consumer(&self, session: &SessionId, id: ConsumerId) -> bool
+        ensures { result ≡ is_some (machine.consumer_of self.now.consumers session.now id) }
+    {
+        self.consumer(session, id).is_some()
+    }
+
+    /// Takes up a connection's request that was accepted.
+    #[tactic(auto, unfolding(jm_machine::specs::Life::life_after))]
+    fn take_up(&mut self, id: ConnectionId, request: &Request) -> Result<(), AllocError>
+        ensures { OnOk result (self.new ≡ record self.old { life = life.life_after self.old.life (Who.Connection id) request.now }) }
+    {
+        match request {
+            Request::Open => self.connections.push(ConnectionState {
+                id,
+                is_started: false,
+            })?,
+            Request::Start => set_started(&mut self.connections, id, true),
+            Request::Stop => set_started(&mut self.connections, id, false),
+            _ => {}
+        }
+        Ok(())
+    }
+
+    /// Opens the session, where it may be opened.
+    #[tactic(auto, unfolding(jm_machine::specs::Life::life_after))]
+    fn create_session(&mut self, id: &SessionId, mode: Mode) -> Result<(), AllocError>
+        ensures { OnOk result (self.new ≡ record self.old { life = life.life_after self.old.life (Who.Session id.now) (Request.CreateSession mode) }) }
+    {
+        if self.is_new_session(id) {
+            self.sessions.push(SessionState { id: *id, mode })?;
+        }
+        Ok(())
+    }
+
+    fn may_begin(&self, session: &SessionId, id: ConsumerId) -> bool
+        ensures { result ≡ machine.may_begin self.now.life self.now.consumers session.now id }
+    {
+        self.is_open_session(session) && !self.has_consumer(session, id)
+    }
+
+    fn may_receive(&self, session: &SessionId, id: ConsumerId) -> bool
+        ensures { result ≡ (is_some (life.mode_of self.now.life session.now) && machine.is_active (machine.consumer_of self.now.consumers session.now id)) }
+    {
+        self.is_open_session(session) && self.has_consumer(session, id)
+    }
+
+    /// Adds the owner with an empty subscription to the topic, in place of any other.
+    fn subscribe(&mut self, alloc: Global, owner: &Owner, topic: &Name) -> Result<(), AllocError>
+        ensures { OnOk result (self.new ≡ spec.lone_joined owner.now.session owner.now.consumer (scope owner.now).key (spec.lone_put (machine.defined topic.now) self.old)) }
+    {
+        self.definition = Some(Definition {
+            topic: topic.copy()?,
+        });
+        self.rows = Vec::new(alloc);
+        self.consumers.push(Consumer {
+            session: owner.session,
+            id: owner.consumer,
+            key: owner.key(),
+        })?;
+        Ok(())
+    }
+
+    /// Makes the owner, where it may be made.
+    #[tactic(auto, unfolding(jm_machine::specs::Machine::refusal, jm_machine::specs::Machine::answer, jm_machine::specs::Lone::lone_did))]
+    fn create_consumer(
+        &mut self,
+        alloc: Global,
+        owner: &Owner,
+        topic: &Name,
+    ) -> Result<Reply, AllocError>
+        ensures { IfOk result (λ reply.
+            let request = Request.CreateConsumer owner.now.consumer topic.now in
+            (reply ≡ spec.lone_reply self.old (Who.Session owner.now.session) request)
+            × (self.new ≡ (if is_none (machine.refusal self.old.life self.old.consumers (Who.Session owner.now.session) request)
+            then spec.lone_did (scope owner.now).key self.old (Who.Session owner.now.session) request else self.old))) }
+    {
+        if !self.may_begin(&owner.session, owner.consumer) {
+            return Ok(Err(Refusal::IllegalState));
+        }
+        self.subscribe(alloc, owner, topic)?;
+        Ok(Ok(Answer::Done))
+    }
+
+    /// Delivers the next message to the owner, where it may receive.
+    #[tactic(auto, unfolding(jm_machine::specs::Machine::refusal, jm_machine::specs::Machine::answer, jm_machine::specs::Lone::lone_did))]
+    fn receive(&mut self, owner: &Owner, now: Moment) -> Reply
+        ensures reply { result ≡ spec.lone_reply self.old (Who.Session owner.now.session) (Request.Receive owner.now.consumer now) }
+        ensures after { let request = Request.Receive owner.now.consumer now in
+            self.new ≡ (if is_none (machine.refusal self.old.life self.old.consumers (Who.Session owner.now.session) request)
+            then spec.lone_did (scope owner.now).key self.old (Who.Session owner.now.session) request else self.old) }
+    {
+        if !self.may_receive(&owner.session, owner.consumer) {
+            return Err(Refusal::IllegalState);
+        }
+        if !self.is_started(owner.session.connection) {
+            return Ok(Answer::Nothing);
+        }
+        Ok(deliver(&mut self.rows, now))
+    }
+
+    /// What is answered to a session's request, and taken up of it.
+    #[tactic(auto, using(crate::proofs::Owners::owner_same), unfolding(jm_machine::specs::Machine::refusal, jm_machine::specs::Machine::answer, jm_machine::specs::Lone::lone_did, jm_machine::specs::Lone::is_answered, jm_machine::specs::Life::life_after))]
+    fn ask(
+        &mut self,
+        alloc: Global,
+        owner: &Owner,
+        session: &SessionId,
+        request: &Request,
+    ) -> Result<Option<Reply>, AllocError>
+        ensures { IfOk result (λ reply.
+            let item = Called (Who.Session session.now) request.now in
+            (option_to_list reply ≡ spec.lone_told (scope owner.now) self.old item) × (self.new ≡ spec.lone_after (scope owner.now) self.old item)) }
+    {
+        match request {
+            Request::CreateSession { mode } => {
+                self.create_session(session, *mode)?;
+                Ok(None)
+            }
+            Request::CreateConsumer { consumer, topic } if owner.is(session, *consumer) => {
+                Ok(Some(self.create_consumer(alloc, owner, topic)?))
+            }
+            Request::Receive { consumer, now } if owner.is(session, *consumer) => {
+                Ok(Some(self.receive(owner, *now)))
+            }
+            _ => Ok(None),
+        }
+    }
+
+    /// A publication comes, where it is accepted.
+    fn publish(&mut self, owner: &Owner, message: &Message) -> Result<(), AllocError>
+        ensures { OnOk result (self.new ≡ (if spec.lone_accepts (scope owner.now).key self.old.definition message.now
+            then record self.old { rows = self.old.rows ++ fresh message.now ∷ [] } else self.old)) }
+    {
+        if accepts(&self.definition, owner, message) {
+            self.rows.push(Row {
+                message: message.copy()?,
+                count: 0,
+            })?;
+        }
+        Ok(())
+    }
+
+    /// A connection's request that was accepted, or refused, is taken up where it is an accepted one of
+    /// the owner's connection.
+    #[tactic(auto, unfolding(jm_machine::specs::Lone::lone_did))]
+    fn ask_connection(
+        &mut self,
+        owner: &Owner,
+        id: ConnectionId,
+        request: &Request,
+        is_accepted: bool,
+    ) -> Result<(), AllocError>
+        ensures { OnOk result (self.new ≡ (if owns.is_own_connection (scope owner.now).sessions id && is_accepted
+            then spec.lone_after (scope owner.now) self.old (Called (Who.Connection id) request.now) else self.old)) }
+    {
+        if is_accepted && owner.is_own_connection(id) {
+            self.take_up(id, request)?;
+        }
+        Ok(())
+    }
+
+    /// Takes up a request with its reply, and answers it where it is a call of the owner's subscription.
+    fn feed_request(
+        &mut self,
+        alloc: Global,
+        owner: &Owner,
+        who: Who,
+        request: &Request,
+        reply: &Reply,
+    ) -> Result<Option<Reply>, AllocError>
+        ensures { IfOk result (λ answer.
+            let items = spec.fed (scope owner.now) self.old (Entry.Asked who request.now reply.now) in
+            (option_to_list answer ≡ spec.lone_replies (scope owner.now) self.old items) × (self.new ≡ spec.lone_end (scope owner.now) self.old items)) }
+    {
+        match who {
+            Who::Connection(id) => {
+                self.ask_connection(owner, id, request, reply.is_ok())?;
+                Ok(None)
+            }
+            Who::Session(session) => {
+                if owner.is_own(&session) {
+                    return self.ask(alloc, owner, &session, request);
+                }
+                Ok(None)
+            }
+        }
+    }
+
+    /// Takes up what an entry feeds to the owner's subscription, and answers it where it is one of its
+    /// calls.
+    pub(crate) fn feed(
+        &mut self,
+        alloc: Global,
+        owner: &Owner,
+        entry: &Entry,
+    ) -> Result<Option<Reply>, AllocError>
+        ensures { IfOk result (λ reply.
+            let items = spec.fed (scope owner.now) self.old entry.now in
+            (option_to_list reply ≡ spec.lone_replies (scope owner.now) self.old items) × (self.new ≡ spec.lone_end (scope owner.now) self.old items)) }
+    {
+        match entry {
+            Entry::Asked {
+                who,
+                request,
+                reply,
+            } => self.feed_request(alloc, owner, *who, request, reply),
+            Entry::Sent(message) => {
+                self.publish(owner, message)?;
+                Ok(None)
+            }
+        }
+    }
+}

@@ -1,0 +1,118 @@
+//! The replies of one subscription alone.
+
+ghost use Rattle.std.specs.Prelude.{◌≡◌, ◌++◌, ◌||◌, not, true, IfOk, OnOk, MatchResult};
+ghost use Rattle.jm_machine.specs.Isolation.{alone, is_unshared as is_unshared_lem};
+ghost use Rattle.jm_machine.specs.Machine.{has_number as has_number_lem};
+ghost use Rattle.jm_model.specs.Faults.{Stands};
+ghost use Rattle.std.specs.List.{list_all, zip};
+ghost use Rattle.jm_dest.specs.Keys.{key_eq};
+ghost use Rattle.jm_machine.specs.Lone as spec;
+ghost use Rattle.jm_model.specs.Owners.{scope};
+ghost use Rattle.jm_model.specs.Places.{placed};
+
+use crate::fault::LoneFault;
+use crate::lone::{Lone, Owner};
+use jm_core::Core;
+use jm_dest::{ConsumerId, Key, SessionId};
+use jm_machine::{Consumer, Entry, Reply};
+use std::alloc::{AllocError, Global};
+
+/// Adds the reply with its place, where there is one.
+fn add_reply(
+    replies: &mut Vec<(usize, Reply)>,
+    place: usize,
+    reply: Option<Reply>,
+) -> Result<(), AllocError>
+    ensures { OnOk result (replies.new.items ≡ replies.old.items ++ placed place reply) }
+{
+    if let Some(reply) = reply {
+        replies.push((place, reply))?;
+    }
+    Ok(())
+}
+
+/// What the owner's subscription answers to the entries, each reply with the place of its entry.
+fn answers(
+    alloc: Global,
+    lone: Lone,
+    owner: &Owner,
+    entries: &[Entry],
+) -> Result<Vec<(usize, Reply)>, AllocError>
+    ensures { IfOk result (λ replies. let scope = scope owner.now in
+        replies.items ≡ zip (spec.places_from 0 scope entries.now) (spec.lone_replies scope lone (spec.feed scope lone entries.now))) }
+{
+    let mut lone = lone;
+    let mut replies = Vec::new(alloc);
+    for (place, entry) in entries.iter().enumerate() {
+        let reply = lone.feed(alloc, owner, entry)?;
+        add_reply(&mut replies, place, reply)?;
+    }
+    Ok(replies)
+}
+
+fn has_number(x: &Consumer, session: &SessionId, id: ConsumerId) -> bool
+    ensures { result ≡ has_number_lem session.now id x.now }
+{
+    x.session.connection == session.connection && x.session.number == session.number && x.id == id
+}
+
+/// Whether the number, where the consumer has it, is that of its own subscription.
+fn is_of_key(x: &Consumer, session: &SessionId, id: ConsumerId, key: &Key) -> bool
+    ensures { result ≡ (not (has_number_lem session.now id x.now) || key_eq x.now.key key.now) }
+{
+    !has_number(x, session, id) || x.key.is(key)
+}
+
+/// Whether the number names no other consumer than that of its own subscription.
+fn names_nothing_else(consumers: &[Consumer], session: &SessionId, id: ConsumerId) -> bool
+    ensures { result ≡ list_all (λ x. not (has_number_lem session.now id x) || key_eq x.key (Key.Own session.now id)) consumers.now }
+{
+    let key = Key::Own(*session, id);
+    consumers.iter().all(|x| is_of_key(x, session, id, &key))
+}
+
+/// Whether the key is that of an unshared topic subscription, and its number names nothing else in the
+/// opening.
+fn is_unshared(key: &Key, opening: &Core) -> bool
+    ensures { result ≡ is_unshared_lem key.now opening.now }
+{
+    match key {
+        Key::Own(session, consumer) => {
+            names_nothing_else(opening.consumers(), session, *consumer)
+        }
+        _ => false,
+    }
+}
+
+/// What the key's subscription answers alone, each reply with the place of its call among the entries,
+/// from 0: it begins with what the opening holds of it, and is fed with the calls of its own session,
+/// with the accepted calls of that session's connection, and with the messages sent that it accepts. Of
+/// the replies in the entries nothing is read but whether a connection's call was accepted.
+///
+/// `NotUnshared` exactly where the key is not that of an unshared topic subscription, or its consumer's
+/// number names another consumer of the opening; else `Memory` where a request for memory was refused.
+pub fn lone_replies(
+    alloc: Global,
+    opening: &Core,
+    entries: &[Entry],
+    key: &Key,
+) -> Result<Vec<(usize, Reply)>, LoneFault>
+    ensures { MatchResult result
+        (λ replies. (replies.items ≡ alone key.now opening.now entries.now) × (is_unshared_lem key.now opening.now ≡ true))
+        (λ fault. Stands fault (is_unshared_lem key.now opening.now)) }
+{
+    if !is_unshared(key, opening) {
+        return Err(LoneFault::NotUnshared);
+    }
+    match key {
+        Key::Own(session, consumer) => {
+            let owner = Owner {
+                session: *session,
+                consumer: *consumer,
+            };
+            let lone = Lone::of(alloc, opening, &owner)?;
+            Ok(answers(alloc, lone, &owner, entries)?)
+        }
+        _ => Err(LoneFault::NotUnshared),
+    }
+}

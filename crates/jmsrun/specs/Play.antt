@@ -1,0 +1,43 @@
+-- What a run of the program does (ours).
+use Rattle.std.specs.Prelude.{◌≡◌, ℕ, Bool, true, false, List, Option, Some, Result, Ok, Err, if◌then◌else◌}
+use Rattle.std.specs.List.{list_any}
+use Rattle.std.specs.Io.KnownBytes.{Appends}
+use Rattle.jm_base.specs.declared.refusal.Refusal.{Refusal}
+use Rattle.jm_base.specs.declared.refusal.Refusal.TheVariants.{Memory, Store}
+use Rattle.jm_machine.specs.Client.{Progress, begun, RepliesFit}
+use Rattle.jm_machine.specs.Machine.{new_core}
+use Rattle.jm_machine.specs.declared.answer.Answer.{Answer}
+use Rattle.jm_machine.specs.declared.call.ClientCall.{ClientCall}
+use Rattle.jmsrun.specs.Calls.{calls_of_text}
+use Rattle.jmsrun.specs.Lines.{lines}
+use Rattle.jmsrun.specs.declared.play.Fault.{Fault}
+use Rattle.jmsrun.specs.declared.play.Fault.TheVariants as fault
+
+-- the replies fit the calls, made in turn on a new provider in opening 1
+abbrev pub IsRun : List ClientCall → List (Result Answer Refusal) → Type 0
+IsRun calls replies = (end : Progress) × RepliesFit (begun (new_core 1)) calls replies end
+
+-- the bytes spell calls, and the replies fit them
+abbrev pub Plays : List ℕ → List (Result Answer Refusal) → Type 0
+Plays bytes replies = (calls : List ClientCall) × (calls_of_text bytes ≡ Some calls) × IsRun calls replies
+
+-- the provider found no memory for a call, or its store failed
+abbrev pub is_shortage : Result Answer Refusal → Bool
+is_shortage (Err Memory) = true
+is_shortage (Err Store) = true
+is_shortage _ = false
+
+-- the exit status where those replies were written
+abbrev pub status_of : List (Result Answer Refusal) → ℕ
+status_of replies = if list_any is_shortage replies then 3 else 0
+
+-- the exit status of a fault
+abbrev pub status_of_fault : Fault → ℕ
+status_of_fault fault.File = 1
+status_of_fault (fault.Scenario _) = 1
+status_of_fault fault.Memory = 3
+
+-- the lines of the replies to the calls that the bytes spell are written, and that is the status
+abbrev pub WritesLines : List ℕ → ℕ → Option (List ℕ) → Option (List ℕ) → Type 0
+WritesLines bytes status old new =
+    (replies : List (Result Answer Refusal)) × Plays bytes replies × Appends old new (lines replies) × (status ≡ status_of replies)

@@ -1,0 +1,144 @@
+ghost use Rattle.std.specs.Prelude.{◌≡◌, ◌++◌, codes, decimal, string_bytes, IfOk};
+ghost use Rattle.jmsrun.specs.Lines as spec;
+
+use jm_base::{Cause, Refusal};
+use jm_dest::SessionId;
+use jm_header::{Body, Message};
+use jm_machine::{Answer, Delivery, Reply};
+use serde_json::Value;
+use std::alloc::{AllocError, Global};
+
+/// The name of the cause of a refused selector.
+fn cause_name(cause: Cause) -> &'static str
+    ensures { result.now ≡ spec.cause_name cause }
+{
+    match cause {
+        Cause::Token => "Token",
+        Cause::Expected => "Expected",
+        Cause::Kind => "Kind",
+        Cause::Number => "Number",
+        Cause::Floating => "Floating",
+        Cause::TooLong => "TooLong",
+        Cause::TooDeep => "TooDeep",
+        Cause::Memory => "Memory",
+    }
+}
+
+/// The name of the refusal, and for a selector its cause and offset. `AllocError` where a request
+/// for memory was refused.
+fn refusal_name(alloc: Global, refusal: Refusal) -> Result<String, AllocError>
+    ensures { IfOk result (λ text. string_bytes text ≡ spec.refusal_name refusal) }
+{
+    let name = match refusal {
+        Refusal::IllegalState => "IllegalState",
+        Refusal::BadName => "BadName",
+        Refusal::OutOfRange => "OutOfRange",
+        Refusal::MessageFormat => "MessageFormat",
+        Refusal::InvalidDestination => "InvalidDestination",
+        Refusal::InvalidSelector { at, cause } => {
+            let cause = cause_name(cause);
+            return format!(in alloc; "InvalidSelector {cause} {at}");
+        }
+        Refusal::InvalidClientId => "InvalidClientId",
+        Refusal::SubscriptionInUse => "SubscriptionInUse",
+        Refusal::Exhausted => "Exhausted",
+        Refusal::Memory => "Memory",
+        Refusal::Store => "Store",
+    };
+    String::from_str(alloc, name)
+}
+
+/// The text of a body. `AllocError` where a request for memory was refused.
+fn body_text(alloc: Global, body: &Body) -> Result<String, AllocError>
+    ensures { IfOk result (λ text. string_bytes text ≡ spec.body_text body.now) }
+{
+    match body {
+        Body::None => String::from_str(alloc, "none"),
+        Body::Text(text) => {
+            let quoted = Value::try_from_str(alloc, text.as_str())?.to_string(alloc)?;
+            format!(in alloc; "text {quoted}")
+        }
+        Body::Bytes(bytes) => {
+            let pairs = hex::encode(alloc, bytes.as_slice())?;
+            format!(in alloc; "bytes {pairs}")
+        }
+    }
+}
+
+/// JMSMessageID: the sending session and the message's number in it. `AllocError` where a request
+/// for memory was refused.
+fn message_id(alloc: Global, message: &Message) -> Result<String, AllocError>
+    ensures { IfOk result (λ text. string_bytes text ≡ spec.message_id message.now) }
+{
+    let opening = message.sender().opening.get();
+    let SessionId { connection, number } = message.sender().session;
+    let connection = connection.get();
+    let session = number.get();
+    let count = message.number();
+    format!(in alloc; "ID:{opening}-{connection}.{session}.{count}")
+}
+
+/// `yes` from the second delivery on.
+fn redelivered_text(count: u32) -> &'static str
+    ensures { result.now ≡ spec.redelivered_text count }
+{
+    if count >= 2 { "yes" } else { "no" }
+}
+
+/// The message's identifier, the count of its deliveries and its mark. `AllocError` where a request
+/// for memory was refused.
+fn delivery_head(alloc: Global, delivery: &Delivery) -> Result<String, AllocError>
+    ensures { IfOk result (λ text. string_bytes text ≡ spec.delivery_head delivery.now) }
+{
+    let id = message_id(alloc, &delivery.message)?;
+    let count = delivery.count;
+    let redelivered = redelivered_text(count);
+    format!(in alloc; "message {id} count={count} redelivered={redelivered}")
+}
+
+/// The text of a delivery. `AllocError` where a request for memory was refused.
+fn delivery_text(alloc: Global, delivery: &Delivery) -> Result<String, AllocError>
+    ensures { IfOk result (λ text. string_bytes text ≡ spec.delivery_text delivery.now) }
+{
+    let head = delivery_head(alloc, delivery)?;
+    let priority = delivery.message.priority();
+    let body = body_text(alloc, delivery.message.body())?;
+    format!(in alloc; "{head} priority={priority} body={body}")
+}
+
+/// The text of a reply. `AllocError` where a request for memory was refused.
+fn reply_text(alloc: Global, reply: &Reply) -> Result<String, AllocError>
+    ensures { IfOk result (λ text. string_bytes text ≡ spec.reply_text reply.now) }
+{
+    match reply {
+        Ok(Answer::Done) => String::from_str(alloc, "ok"),
+        Ok(Answer::Sent(number)) => format!(in alloc; "sent {number}"),
+        Ok(Answer::Nothing) => String::from_str(alloc, "none"),
+        Ok(Answer::Delivered(delivery)) => delivery_text(alloc, delivery),
+        Err(refusal) => {
+            let name = refusal_name(alloc, *refusal)?;
+            format!(in alloc; "refused {name}")
+        }
+    }
+}
+
+/// The line of the reply of that number. `AllocError` where a request for memory was refused.
+fn line(alloc: Global, number: usize, reply: &Reply) -> Result<String, AllocError>
+    ensures { IfOk result (λ text. string_bytes text ≡ spec.line number reply.now) }
+{
+    let text = reply_text(alloc, reply)?;
+    format!(in alloc; "{number} {text}\n")
+}
+
+/// The lines of the replies, in order, numbered from 1. `AllocError` where a request for memory was
+/// refused.
+pub fn write_replies(alloc: Global, replies: &[Reply]) -> Result<String, AllocError>
+    ensures { IfOk result (λ text. string_bytes text ≡ spec.lines replies.now) }
+{
+    let mut lines = String::new(alloc);
+    for (index, reply) in replies.iter().enumerate() {
+        let line = line(alloc, index + 1, reply)?;
+        lines.push_str(line.as_str())?;
+    }
+    Ok(lines)
+}

@@ -1,0 +1,160 @@
+ghost use Rattle.std.specs.Prelude.{◌≡◌, ◌≢◌, Some, None, IfOk, IfSome};
+ghost use Rattle.std.specs.List.{list_any};
+ghost use Rattle.jmsrun.specs.Play as spec;
+ghost use Rattle.jmsrun.specs.Play.{IsRun, Plays, WritesLines, status_of_fault};
+
+use crate::lines::write_replies;
+use crate::scenario::{ScenarioFault, read_scenario};
+use jm_base::Refusal;
+use jm_core::Core;
+use jm_machine::{ClientCall, Reply};
+use std::alloc::{AllocError, Global};
+use std::io::{Read, Write};
+use thiserror::Error;
+
+const SCENARIO_MAX: usize = 16_777_216;
+
+const CHUNK: usize = 4096;
+
+/// The number of the only opening of a provider that keeps nothing.
+const OPENING: u32 = 1;
+
+/// Why the program ends without the lines of its replies.
+#[derive(Debug, PartialEq, Drop, Error)]
+pub enum Fault {
+    /// A read failed, or the scenario has more than 16,777,216 bytes.
+    #[error("file: not readable")]
+    File,
+    /// The bytes are no scenario.
+    #[error(transparent)]
+    Scenario(ScenarioFault),
+    /// A request for memory was refused.
+    #[error("memory")]
+    Memory,
+}
+
+/// How a run of the program ends.
+#[derive(Debug, PartialEq, Drop)]
+pub struct Ending {
+    /// The exit status: 0; 1 for a fault of the file or the scenario, and for a failed write; 3
+    /// where a reply was `Memory` or `Store`, or the program found no memory.
+    pub status: u8,
+    /// What is printed on standard error.
+    pub fault: Option<Fault>,
+}
+
+impl From<AllocError> for Fault {
+    ghost use Rattle.std.specs.Prelude.{◌≡◌};
+    ghost use Rattle.jmsrun.specs.declared.play.Fault.TheVariants.{Memory};
+
+    ghost from_gives = { λ _ fault. fault ≡ Memory };
+
+    fn from(_: AllocError) -> Fault {
+        Fault::Memory
+    }
+}
+
+/// The bytes of the reader to its end, in at most 16,777,217 reads.
+fn read_all<R: Read>(alloc: Global, reader: &mut R) -> Result<Vec<u8>, Fault>
+    ensures { IfOk result (λ bytes. IfSome (R.remaining reader.old) (λ all. bytes.items ≡ all)) }
+{
+    let mut bytes = Vec::new(alloc);
+    'reads: for _ in 0..SCENARIO_MAX + 1 {
+        let mut chunk = [0; CHUNK];
+        let Ok(count) = reader.read(&mut chunk) else {
+            return Err(Fault::File);
+        };
+        if count == 0 {
+            return Ok(bytes);
+        }
+        if bytes.len() + count > SCENARIO_MAX {
+            return Err(Fault::File);
+        }
+        bytes.extend_from_slice(&chunk[..count])?;
+    }
+    Err(Fault::File)
+}
+
+/// The replies to the calls, made in turn on a new provider. `AllocError` where a request for memory
+/// was refused.
+fn run(alloc: Global, calls: Vec<ClientCall>) -> Result<Vec<Reply>, AllocError>
+    ensures { IfOk result (λ replies. IsRun calls.items replies.items) }
+{
+    match Core::new(alloc, OPENING) {
+        Ok(mut core) => core.run(calls),
+        Err(_) => Err(AllocError),
+    }
+}
+
+/// The replies to the calls of the scenario that the reader gives.
+fn replies_of<R: Read>(alloc: Global, reader: &mut R) -> Result<Vec<Reply>, Fault>
+    ensures { IfOk result (λ replies. IfSome (R.remaining reader.old) (λ all. Plays all replies.items)) }
+{
+    let bytes = read_all(alloc, reader)?;
+    match read_scenario(alloc, bytes.as_slice()) {
+        Ok(calls) => Ok(run(alloc, calls)?),
+        Err(ScenarioFault::Memory) => Err(Fault::Memory),
+        Err(fault) => Err(Fault::Scenario(fault)),
+    }
+}
+
+/// Whether the provider found no memory for a call, or its store failed.
+fn is_shortage(reply: &Reply) -> bool
+    ensures { result ≡ spec.is_shortage reply.now }
+{
+    matches!(reply, Err(Refusal::Memory | Refusal::Store))
+}
+
+fn has_shortage(replies: &[Reply]) -> bool
+    ensures { result ≡ list_any spec.is_shortage replies.now }
+{
+    replies.iter().any(|reply| is_shortage(reply))
+}
+
+/// The exit status where those replies were written.
+fn status_of(replies: &[Reply]) -> u8
+    ensures { result ≡ spec.status_of replies.now }
+{
+    if has_shortage(replies) { 3 } else { 0 }
+}
+
+/// The ending of that fault.
+fn ended(fault: Fault) -> Ending
+    ensures { result ≡ record { status = status_of_fault fault; fault = Some fault } }
+{
+    let status = match &fault {
+        Fault::Memory => 3,
+        Fault::File | Fault::Scenario(_) => 1,
+    };
+    Ending {
+        status,
+        fault: Some(fault),
+    }
+}
+
+/// Reads a scenario, makes its calls on a new provider, and writes the line of each reply.
+pub fn play<R: Read, W: Write>(alloc: Global, reader: &mut R, writer: &mut W) -> Ending
+    ensures fault { IfSome result.fault
+        (λ fault. (writer.new ≡ writer.old) × (result.status ≡ status_of_fault fault)) }
+    ensures lines { result.fault ≡ None → result.status ≢ 1 → IfSome (R.remaining reader.old)
+        (λ all. WritesLines all result.status (W.contents writer.old) (W.contents writer.new)) }
+{
+    let replies = match replies_of(alloc, reader) {
+        Ok(replies) => replies,
+        Err(fault) => return ended(fault),
+    };
+    let lines = match write_replies(alloc, &replies) {
+        Ok(lines) => lines,
+        Err(_) => return ended(Fault::Memory),
+    };
+    if writer.write_all(lines.as_bytes()).is_err() || writer.flush().is_err() {
+        return Ending {
+            status: 1,
+            fault: None,
+        };
+    }
+    Ending {
+        status: status_of(&replies),
+        fault: None,
+    }
+}

@@ -1,0 +1,727 @@
+use crate::lines::write_replies;
+use crate::play::{Ending, Fault, play};
+use crate::scenario::{Field, FieldName, ScenarioFault, read_scenario};
+use jm_base::{Cause, Refusal, Str};
+use jm_machine::Answer;
+use std::alloc::Global;
+use std::io;
+use std::io::{Read, Write};
+use std::process::Abort;
+use std::test::Fail;
+
+const FIRST_MESSAGE: &str = "{\"calls\": [
+    {\"op\": \"open\", \"c\": 1},
+    {\"op\": \"open\", \"c\": 2},
+    {\"op\": \"session\", \"s\": [1, 1], \"mode\": \"auto\"},
+    {\"op\": \"session\", \"s\": [2, 1], \"mode\": \"auto\"},
+    {\"op\": \"consumer\", \"s\": [1, 1], \"k\": 1, \"topic\": \"t\"},
+    {\"op\": \"start\", \"c\": 1},
+    {\"op\": \"send\", \"s\": [2, 1], \"topic\": \"t\", \"now\": 1000, \"text\": \"a\"},
+    {\"op\": \"receive\", \"s\": [1, 1], \"k\": 1, \"now\": 1000},
+    {\"op\": \"receive\", \"s\": [1, 1], \"k\": 1, \"now\": 1000}
+]}";
+
+const FIRST_MESSAGE_LINES: &str = "1 ok
+2 ok
+3 ok
+4 ok
+5 ok
+6 ok
+7 sent 1
+8 message ID:1-2.1.1 count=1 redelivered=no priority=4 body=text \"a\"
+9 none
+";
+
+const STOPPED_CONNECTION: &str = "{\"calls\": [
+    {\"op\": \"open\", \"c\": 1},
+    {\"op\": \"open\", \"c\": 2},
+    {\"op\": \"session\", \"s\": [1, 1], \"mode\": \"auto\"},
+    {\"op\": \"session\", \"s\": [2, 1], \"mode\": \"auto\"},
+    {\"op\": \"consumer\", \"s\": [1, 1], \"k\": 1, \"topic\": \"t\"},
+    {\"op\": \"send\", \"s\": [2, 1], \"topic\": \"t\", \"now\": 1000, \"text\": \"a\"},
+    {\"op\": \"receive\", \"s\": [1, 1], \"k\": 1, \"now\": 1000},
+    {\"op\": \"start\", \"c\": 1},
+    {\"op\": \"receive\", \"s\": [1, 1], \"k\": 1, \"now\": 1000},
+    {\"op\": \"send\", \"s\": [2, 1], \"topic\": \"t\", \"now\": 1000, \"text\": \"b\"},
+    {\"op\": \"stop\", \"c\": 1},
+    {\"op\": \"receive\", \"s\": [1, 1], \"k\": 1, \"now\": 1000},
+    {\"op\": \"start\", \"c\": 1},
+    {\"op\": \"receive\", \"s\": [1, 1], \"k\": 1, \"now\": 1000}
+]}";
+
+const STOPPED_CONNECTION_LINES: &str = "1 ok
+2 ok
+3 ok
+4 ok
+5 ok
+6 sent 1
+7 none
+8 ok
+9 message ID:1-2.1.1 count=1 redelivered=no priority=4 body=text \"a\"
+10 sent 2
+11 ok
+12 none
+13 ok
+14 message ID:1-2.1.2 count=1 redelivered=no priority=4 body=text \"b\"
+";
+
+const PRIORITY_ORDER: &str = "{\"calls\": [
+  {\"op\": \"open\", \"c\": 1},
+  {\"op\": \"open\", \"c\": 2},
+  {\"op\": \"session\", \"s\": [1, 1], \"mode\": \"auto\"},
+  {\"op\": \"session\", \"s\": [2, 1], \"mode\": \"auto\"},
+  {\"op\": \"consumer\", \"s\": [1, 1], \"k\": 1, \"topic\": \"t\"},
+  {\"op\": \"start\", \"c\": 1},
+  {\"op\": \"send\", \"s\": [2, 1], \"topic\": \"t\", \"now\": 1000, \"text\": \"a\"},
+  {\"op\": \"send\", \"s\": [2, 1], \"topic\": \"t\", \"now\": 1000, \"priority\": 9, \"text\": \"b\"},
+  {\"op\": \"send\", \"s\": [2, 1], \"topic\": \"t\", \"now\": 1000, \"text\": \"c\"},
+  {\"op\": \"send\", \"s\": [2, 1], \"topic\": \"t\", \"now\": 1000, \"priority\": 0, \"text\": \"d\"},
+  {\"op\": \"receive\", \"s\": [1, 1], \"k\": 1, \"now\": 1000},
+  {\"op\": \"receive\", \"s\": [1, 1], \"k\": 1, \"now\": 1000},
+  {\"op\": \"receive\", \"s\": [1, 1], \"k\": 1, \"now\": 1000},
+  {\"op\": \"receive\", \"s\": [1, 1], \"k\": 1, \"now\": 1000},
+  {\"op\": \"receive\", \"s\": [1, 1], \"k\": 1, \"now\": 1000}
+]}";
+
+const PRIORITY_ORDER_LINES: &str = "1 ok
+2 ok
+3 ok
+4 ok
+5 ok
+6 ok
+7 sent 1
+8 sent 2
+9 sent 3
+10 sent 4
+11 message ID:1-2.1.2 count=1 redelivered=no priority=9 body=text \"b\"
+12 message ID:1-2.1.1 count=1 redelivered=no priority=4 body=text \"a\"
+13 message ID:1-2.1.3 count=1 redelivered=no priority=4 body=text \"c\"
+14 message ID:1-2.1.4 count=1 redelivered=no priority=0 body=text \"d\"
+15 none
+";
+
+const EXPIRY: &str = "{\"calls\": [
+  {\"op\": \"open\", \"c\": 1},
+  {\"op\": \"open\", \"c\": 2},
+  {\"op\": \"session\", \"s\": [1, 1], \"mode\": \"auto\"},
+  {\"op\": \"session\", \"s\": [2, 1], \"mode\": \"auto\"},
+  {\"op\": \"consumer\", \"s\": [1, 1], \"k\": 1, \"topic\": \"t\"},
+  {\"op\": \"start\", \"c\": 1},
+  {\"op\": \"send\", \"s\": [2, 1], \"topic\": \"t\", \"now\": 1000, \"ttl\": 500, \"text\": \"a\"},
+  {\"op\": \"receive\", \"s\": [1, 1], \"k\": 1, \"now\": 1499},
+  {\"op\": \"send\", \"s\": [2, 1], \"topic\": \"t\", \"now\": 1000, \"ttl\": 500, \"text\": \"b\"},
+  {\"op\": \"receive\", \"s\": [1, 1], \"k\": 1, \"now\": 1500},
+  {\"op\": \"receive\", \"s\": [1, 1], \"k\": 1, \"now\": 1400},
+  {\"op\": \"send\", \"s\": [2, 1], \"topic\": \"t\", \"now\": 1000, \"ttl\": 0, \"text\": \"c\"},
+  {\"op\": \"receive\", \"s\": [1, 1], \"k\": 1, \"now\": 9223372036854775807},
+  {\"op\": \"send\", \"s\": [2, 1], \"topic\": \"t\", \"now\": 9223372036854775807, \"ttl\": 1, \"text\": \"d\"},
+  {\"op\": \"send\", \"s\": [2, 1], \"topic\": \"t\", \"now\": 1000, \"text\": \"e\"},
+  {\"op\": \"receive\", \"s\": [1, 1], \"k\": 1, \"now\": 1000},
+  {\"op\": \"consumer\", \"s\": [1, 1], \"k\": 2, \"topic\": \"t\"},
+  {\"op\": \"send\", \"s\": [2, 1], \"topic\": \"t\", \"now\": 1000, \"ttl\": 500, \"text\": \"f\"},
+  {\"op\": \"receive\", \"s\": [1, 1], \"k\": 2, \"now\": 1500},
+  {\"op\": \"receive\", \"s\": [1, 1], \"k\": 1, \"now\": 1400}
+]}";
+
+const EXPIRY_LINES: &str = "1 ok
+2 ok
+3 ok
+4 ok
+5 ok
+6 ok
+7 sent 1
+8 message ID:1-2.1.1 count=1 redelivered=no priority=4 body=text \"a\"
+9 sent 2
+10 none
+11 none
+12 sent 3
+13 message ID:1-2.1.3 count=1 redelivered=no priority=4 body=text \"c\"
+14 refused OutOfRange
+15 sent 4
+16 message ID:1-2.1.4 count=1 redelivered=no priority=4 body=text \"e\"
+17 ok
+18 sent 5
+19 none
+20 message ID:1-2.1.5 count=1 redelivered=no priority=4 body=text \"f\"
+";
+
+const PROPERTIES: &str = "{\"calls\": [
+  {\"op\": \"open\", \"c\": 1},
+  {\"op\": \"open\", \"c\": 2},
+  {\"op\": \"session\", \"s\": [1, 1], \"mode\": \"auto\"},
+  {\"op\": \"session\", \"s\": [2, 1], \"mode\": \"auto\"},
+  {\"op\": \"consumer\", \"s\": [1, 1], \"k\": 1, \"topic\": \"t\"},
+  {\"op\": \"start\", \"c\": 1},
+  {\"op\": \"send\", \"s\": [2, 1], \"topic\": \"t\", \"now\": 1000, \"persistent\": false, \"correlation\": \"c\", \"type\": \"y\", \"props\": [[\"truth\", \"boolean\", true], [\"b\", \"byte\", -128], [\"h\", \"short\", 32767], [\"i\", \"int\", -2147483648], [\"l\", \"long\", 9223372036854775807], [\"x\", \"String\", \"q\"], [\"JMSXGroupID\", \"String\", \"g\"], [\"JMSXGroupSeq\", \"int\", 1]], \"bytes\": \"00ff\"},
+  {\"op\": \"receive\", \"s\": [1, 1], \"k\": 1, \"now\": 1000},
+  {\"op\": \"send\", \"s\": [2, 1], \"topic\": \"t\", \"now\": 1000},
+  {\"op\": \"receive\", \"s\": [1, 1], \"k\": 1, \"now\": 1000}
+]}";
+
+const PROPERTIES_LINES: &str = "1 ok
+2 ok
+3 ok
+4 ok
+5 ok
+6 ok
+7 sent 1
+8 message ID:1-2.1.1 count=1 redelivered=no priority=4 body=bytes 00ff
+9 sent 2
+10 message ID:1-2.1.2 count=1 redelivered=no priority=4 body=none
+";
+
+/// What a run on the scenario ends with, and what it writes.
+fn played(alloc: Global, scenario: &str) -> (Ending, Vec<u8>) {
+    let mut written = Vec::new(alloc);
+    let ending = play(alloc, &mut scenario.as_bytes(), &mut written);
+    (ending, written)
+}
+
+fn plays(rt: &impl Abort, alloc: Global, scenario: &str, lines: &str) {
+    let (ending, written) = played(alloc, scenario);
+    assert!(rt; ending.status == 0 && ending.fault.is_none());
+    assert!(rt; written.as_slice() == lines.as_bytes());
+}
+
+#[test]
+fn first_message(rt: HostRuntime) {
+    plays(&rt, rt.alloc(), FIRST_MESSAGE, FIRST_MESSAGE_LINES);
+}
+
+#[test]
+fn stopped_connection(rt: HostRuntime) {
+    plays(
+        &rt,
+        rt.alloc(),
+        STOPPED_CONNECTION,
+        STOPPED_CONNECTION_LINES,
+    );
+}
+
+#[test]
+fn priority_order(rt: HostRuntime) {
+    plays(&rt, rt.alloc(), PRIORITY_ORDER, PRIORITY_ORDER_LINES);
+}
+
+#[test]
+fn expiry(rt: HostRuntime) {
+    plays(&rt, rt.alloc(), EXPIRY, EXPIRY_LINES);
+}
+
+#[test]
+fn properties_and_writes(rt: HostRuntime) {
+    plays(&rt, rt.alloc(), PROPERTIES, PROPERTIES_LINES);
+}
+
+#[test]
+fn no_calls(rt: HostRuntime) {
+    plays(&rt, rt.alloc(), "{\"calls\":[]}", "");
+}
+
+/// Scenarios, and the text of the fault of each.
+const FAULTS: [(&str, &str); 107] = [
+    ("", "scenario: syntax"),
+    ("{", "scenario: syntax"),
+    ("{\"calls\":[1e400]}", "scenario: syntax"),
+    ("{\"calls\":[]} x", "scenario: syntax"),
+    ("\u{ff}[", "scenario: syntax"),
+    ("[]", "scenario: step 0: field calls"),
+    ("{}", "scenario: step 0: field calls"),
+    ("{\"calls\":1.5}", "scenario: step 0: field calls"),
+    ("{\"calls\":{}}", "scenario: step 0: field calls"),
+    ("{\"held\":1}", "scenario: step 0: field calls"),
+    (
+        "{\"b\":1,\"calls\":[],\"aa\":1.5,\"a\":2}",
+        "scenario: step 0: field a",
+    ),
+    (
+        "{\"Z\":1,\"calls\":[],\"a\":1}",
+        "scenario: step 0: field Z",
+    ),
+    ("{\"held\":1,\"calls\":[1]}", "scenario: step 0: field held"),
+    ("{\"calls\":[7]}", "scenario: step 1: field op"),
+    ("{\"calls\":[1.5]}", "scenario: step 1: field op"),
+    ("{\"calls\":[{}]}", "scenario: step 1: field op"),
+    (
+        "{\"calls\":[{\"op\":1.5,\"c\":1}]}",
+        "scenario: step 1: field op",
+    ),
+    (
+        "{\"calls\":[{\"op\":\"join\"}]}",
+        "scenario: step 1: field op",
+    ),
+    (
+        "{\"calls\":[{\"op\":\"commit\",\"s\":[1,1]}]}",
+        "scenario: step 1: field op",
+    ),
+    (
+        "{\"calls\":[{\"op\":\"open\"}]}",
+        "scenario: step 1: field c",
+    ),
+    (
+        "{\"calls\":[{\"op\":\"open\",\"c\":0}]}",
+        "scenario: step 1: field c",
+    ),
+    (
+        "{\"calls\":[{\"op\":\"open\",\"c\":-1}]}",
+        "scenario: step 1: field c",
+    ),
+    (
+        "{\"calls\":[{\"op\":\"open\",\"c\":4294967296}]}",
+        "scenario: step 1: field c",
+    ),
+    (
+        "{\"calls\":[{\"op\":\"open\",\"c\":18446744073709551615}]}",
+        "scenario: step 1: field c",
+    ),
+    (
+        "{\"calls\":[{\"op\":\"open\",\"c\":18446744073709551616}]}",
+        "scenario: step 1: floating",
+    ),
+    (
+        "{\"calls\":[{\"op\":\"open\",\"c\":-9223372036854775808}]}",
+        "scenario: step 1: field c",
+    ),
+    (
+        "{\"calls\":[{\"op\":\"open\",\"c\":-9223372036854775809}]}",
+        "scenario: step 1: floating",
+    ),
+    (
+        "{\"calls\":[{\"op\":\"open\",\"c\":1.0}]}",
+        "scenario: step 1: floating",
+    ),
+    (
+        "{\"calls\":[{\"op\":\"open\",\"c\":1e2}]}",
+        "scenario: step 1: floating",
+    ),
+    (
+        "{\"calls\":[{\"op\":\"open\",\"c\":-0}]}",
+        "scenario: step 1: floating",
+    ),
+    (
+        "{\"calls\":[{\"op\":\"open\",\"c\":null}]}",
+        "scenario: step 1: field c",
+    ),
+    (
+        "{\"calls\":[{\"op\":\"open\",\"c\":1,\"c\":0}]}",
+        "scenario: step 1: field c",
+    ),
+    (
+        "{\"calls\":[{\"op\":\"open\",\"c\":1,\"client\":\"k\"}]}",
+        "scenario: step 1: field client",
+    ),
+    (
+        "{\"calls\":[{\"op\":\"start\",\"c\":\"1\"}]}",
+        "scenario: step 1: field c",
+    ),
+    (
+        "{\"calls\":[{\"op\":\"stop\",\"c\":[1]}]}",
+        "scenario: step 1: field c",
+    ),
+    (
+        "{\"calls\":[{\"op\":\"session\",\"s\":1.5}]}",
+        "scenario: step 1: floating",
+    ),
+    (
+        "{\"calls\":[{\"op\":\"session\",\"s\":[1.5]}]}",
+        "scenario: step 1: field s",
+    ),
+    (
+        "{\"calls\":[{\"op\":\"session\",\"s\":[1.5,1]}]}",
+        "scenario: step 1: floating",
+    ),
+    (
+        "{\"calls\":[{\"op\":\"session\",\"s\":[0,1.5]}]}",
+        "scenario: step 1: field s",
+    ),
+    (
+        "{\"calls\":[{\"op\":\"session\",\"s\":[1,0]}]}",
+        "scenario: step 1: field s",
+    ),
+    (
+        "{\"calls\":[{\"op\":\"session\",\"s\":[1,1,1]}]}",
+        "scenario: step 1: field s",
+    ),
+    (
+        "{\"calls\":[{\"op\":\"session\",\"s\":[1,1],\"mode\":\"client\"}]}",
+        "scenario: step 1: field mode",
+    ),
+    (
+        "{\"calls\":[{\"op\":\"session\",\"s\":[1,1],\"mode\":0.5}]}",
+        "scenario: step 1: floating",
+    ),
+    (
+        "{\"calls\":[{\"op\":\"session\",\"s\":[1,1]}]}",
+        "scenario: step 1: field mode",
+    ),
+    (
+        "{\"calls\":[{\"op\":\"consumer\",\"s\":[1,1],\"k\":0,\"topic\":1.5}]}",
+        "scenario: step 1: field k",
+    ),
+    (
+        "{\"calls\":[{\"op\":\"consumer\",\"s\":[1,1],\"k\":1,\"topic\":1.5}]}",
+        "scenario: step 1: floating",
+    ),
+    (
+        "{\"calls\":[{\"op\":\"consumer\",\"s\":[1,1],\"k\":1,\"topic\":\"\"}]}",
+        "scenario: step 1: field topic",
+    ),
+    (
+        "{\"calls\":[{\"op\":\"consumer\",\"s\":[1,1],\"k\":1,\"topic\":\"\\u007f\"}]}",
+        "scenario: step 1: field topic",
+    ),
+    (
+        "{\"calls\":[{\"op\":\"consumer\",\"s\":[1,1],\"k\":1}]}",
+        "scenario: step 1: field queue",
+    ),
+    (
+        "{\"calls\":[{\"op\":\"consumer\",\"s\":[1,1],\"k\":1,\"queue\":\"q\"}]}",
+        "scenario: step 1: field queue",
+    ),
+    (
+        "{\"calls\":[{\"op\":\"consumer\",\"s\":[1,1],\"k\":1,\"topic\":\"t\",\"selector\":\"x\",\"noLocal\":true}]}",
+        "scenario: step 1: field noLocal",
+    ),
+    (
+        "{\"calls\":[{\"op\":\"send\",\"s\":[1,1],\"topic\":\"t\",\"now\":1.5}]}",
+        "scenario: step 1: floating",
+    ),
+    (
+        "{\"calls\":[{\"op\":\"send\",\"s\":[1,1],\"topic\":\"t\"}]}",
+        "scenario: step 1: field now",
+    ),
+    (
+        "{\"calls\":[{\"op\":\"send\",\"s\":[1,1],\"topic\":\"t\",\"now\":-1}]}",
+        "scenario: step 1: field now",
+    ),
+    (
+        "{\"calls\":[{\"op\":\"send\",\"s\":[1,1],\"topic\":\"t\",\"now\":9223372036854775808}]}",
+        "scenario: step 1: field now",
+    ),
+    (
+        "{\"calls\":[{\"op\":\"send\",\"s\":[1,1],\"topic\":\"t\",\"now\":1,\"text\":null}]}",
+        "scenario: step 1: field text",
+    ),
+    (
+        "{\"calls\":[{\"op\":\"send\",\"s\":[1,1],\"topic\":\"t\",\"now\":1,\"text\":2.5}]}",
+        "scenario: step 1: floating",
+    ),
+    (
+        "{\"calls\":[{\"op\":\"receive\",\"s\":[1,1],\"k\":[1],\"now\":1}]}",
+        "scenario: step 1: field k",
+    ),
+    (
+        "{\"calls\":[{\"op\":\"receive\",\"s\":[1,1],\"k\":1}]}",
+        "scenario: step 1: field now",
+    ),
+    (
+        "{\"calls\":[{\"op\":\"receive\",\"s\":[1,1],\"k\":1,\"now\":1,\"\u{e9}\":1,\"z\":1}]}",
+        "scenario: step 1: field z",
+    ),
+    (
+        "{\"calls\":[{\"op\":\"open\",\"c\":1},{\"op\":\"open\",\"c\":1.5}]}",
+        "scenario: step 2: floating",
+    ),
+    (
+        "{\"calls\":[{\"op\":\"send\",\"s\":[1,1],\"topic\":\"t\",\"now\":1,\"priority\":10}]}",
+        "scenario: step 1: field priority",
+    ),
+    (
+        "{\"calls\":[{\"op\":\"send\",\"s\":[1,1],\"topic\":\"t\",\"now\":1,\"priority\":-1}]}",
+        "scenario: step 1: field priority",
+    ),
+    (
+        "{\"calls\":[{\"op\":\"send\",\"s\":[1,1],\"topic\":\"t\",\"now\":1,\"priority\":1.5}]}",
+        "scenario: step 1: floating",
+    ),
+    (
+        "{\"calls\":[{\"op\":\"send\",\"s\":[1,1],\"topic\":\"t\",\"now\":1,\"priority\":\"4\"}]}",
+        "scenario: step 1: field priority",
+    ),
+    (
+        "{\"calls\":[{\"op\":\"send\",\"s\":[1,1],\"topic\":\"t\",\"now\":1,\"priority\":null}]}",
+        "scenario: step 1: field priority",
+    ),
+    (
+        "{\"calls\":[{\"op\":\"send\",\"s\":[1,1],\"topic\":\"t\",\"now\":1,\"persistent\":1}]}",
+        "scenario: step 1: field persistent",
+    ),
+    (
+        "{\"calls\":[{\"op\":\"send\",\"s\":[1,1],\"topic\":\"t\",\"now\":1,\"persistent\":0.5}]}",
+        "scenario: step 1: floating",
+    ),
+    (
+        "{\"calls\":[{\"op\":\"send\",\"s\":[1,1],\"topic\":\"t\",\"now\":1,\"ttl\":-1}]}",
+        "scenario: step 1: field ttl",
+    ),
+    (
+        "{\"calls\":[{\"op\":\"send\",\"s\":[1,1],\"topic\":\"t\",\"now\":1,\"ttl\":9223372036854775808}]}",
+        "scenario: step 1: field ttl",
+    ),
+    (
+        "{\"calls\":[{\"op\":\"send\",\"s\":[1,1],\"topic\":\"t\",\"now\":1,\"ttl\":1e3}]}",
+        "scenario: step 1: floating",
+    ),
+    (
+        "{\"calls\":[{\"op\":\"send\",\"s\":[1,1],\"topic\":\"t\",\"now\":1,\"correlation\":1}]}",
+        "scenario: step 1: field correlation",
+    ),
+    (
+        "{\"calls\":[{\"op\":\"send\",\"s\":[1,1],\"topic\":\"t\",\"now\":1,\"correlation\":1.5}]}",
+        "scenario: step 1: floating",
+    ),
+    (
+        "{\"calls\":[{\"op\":\"send\",\"s\":[1,1],\"topic\":\"t\",\"now\":1,\"type\":[]}]}",
+        "scenario: step 1: field type",
+    ),
+    (
+        "{\"calls\":[{\"op\":\"send\",\"s\":[1,1],\"topic\":\"t\",\"now\":1,\"props\":1}]}",
+        "scenario: step 1: field props",
+    ),
+    (
+        "{\"calls\":[{\"op\":\"send\",\"s\":[1,1],\"topic\":\"t\",\"now\":1,\"props\":1.5}]}",
+        "scenario: step 1: floating",
+    ),
+    (
+        "{\"calls\":[{\"op\":\"send\",\"s\":[1,1],\"topic\":\"t\",\"now\":1,\"props\":[1]}]}",
+        "scenario: step 1: field props",
+    ),
+    (
+        "{\"calls\":[{\"op\":\"send\",\"s\":[1,1],\"topic\":\"t\",\"now\":1,\"props\":[1.5]}]}",
+        "scenario: step 1: floating",
+    ),
+    (
+        "{\"calls\":[{\"op\":\"send\",\"s\":[1,1],\"topic\":\"t\",\"now\":1,\"props\":[[\"x\",\"long\"]]}]}",
+        "scenario: step 1: field props",
+    ),
+    (
+        "{\"calls\":[{\"op\":\"send\",\"s\":[1,1],\"topic\":\"t\",\"now\":1,\"props\":[[1.5,\"long\",1]]}]}",
+        "scenario: step 1: floating",
+    ),
+    (
+        "{\"calls\":[{\"op\":\"send\",\"s\":[1,1],\"topic\":\"t\",\"now\":1,\"props\":[[\"x\",1.5,1]]}]}",
+        "scenario: step 1: floating",
+    ),
+    (
+        "{\"calls\":[{\"op\":\"send\",\"s\":[1,1],\"topic\":\"t\",\"now\":1,\"props\":[[\"x\",\"long\",1.5]]}]}",
+        "scenario: step 1: floating",
+    ),
+    (
+        "{\"calls\":[{\"op\":\"send\",\"s\":[1,1],\"topic\":\"t\",\"now\":1,\"props\":[[\"x\",\"float\",1]]}]}",
+        "scenario: step 1: floating",
+    ),
+    (
+        "{\"calls\":[{\"op\":\"send\",\"s\":[1,1],\"topic\":\"t\",\"now\":1,\"props\":[[\"x\",\"double\",\"y\"]]}]}",
+        "scenario: step 1: floating",
+    ),
+    (
+        "{\"calls\":[{\"op\":\"send\",\"s\":[1,1],\"topic\":\"t\",\"now\":1,\"props\":[[\"x\",\"Long\",1]]}]}",
+        "scenario: step 1: field props",
+    ),
+    (
+        "{\"calls\":[{\"op\":\"send\",\"s\":[1,1],\"topic\":\"t\",\"now\":1,\"props\":[[\"x\",\"byte\",128]]}]}",
+        "scenario: step 1: field props",
+    ),
+    (
+        "{\"calls\":[{\"op\":\"send\",\"s\":[1,1],\"topic\":\"t\",\"now\":1,\"props\":[[\"x\",\"byte\",-129]]}]}",
+        "scenario: step 1: field props",
+    ),
+    (
+        "{\"calls\":[{\"op\":\"send\",\"s\":[1,1],\"topic\":\"t\",\"now\":1,\"props\":[[\"x\",\"short\",32768]]}]}",
+        "scenario: step 1: field props",
+    ),
+    (
+        "{\"calls\":[{\"op\":\"send\",\"s\":[1,1],\"topic\":\"t\",\"now\":1,\"props\":[[\"x\",\"int\",2147483648]]}]}",
+        "scenario: step 1: field props",
+    ),
+    (
+        "{\"calls\":[{\"op\":\"send\",\"s\":[1,1],\"topic\":\"t\",\"now\":1,\"props\":[[\"x\",\"long\",9223372036854775808]]}]}",
+        "scenario: step 1: field props",
+    ),
+    (
+        "{\"calls\":[{\"op\":\"send\",\"s\":[1,1],\"topic\":\"t\",\"now\":1,\"props\":[[\"x\",\"boolean\",1]]}]}",
+        "scenario: step 1: field props",
+    ),
+    (
+        "{\"calls\":[{\"op\":\"send\",\"s\":[1,1],\"topic\":\"t\",\"now\":1,\"props\":[[\"x\",\"String\",1]]}]}",
+        "scenario: step 1: field props",
+    ),
+    (
+        "{\"calls\":[{\"op\":\"send\",\"s\":[1,1],\"topic\":\"t\",\"now\":1,\"props\":[[\"\",\"long\",1]]}]}",
+        "scenario: step 1: field props",
+    ),
+    (
+        "{\"calls\":[{\"op\":\"send\",\"s\":[1,1],\"topic\":\"t\",\"now\":1,\"props\":[[\"Null\",\"long\",1]]}]}",
+        "scenario: step 1: field props",
+    ),
+    (
+        "{\"calls\":[{\"op\":\"send\",\"s\":[1,1],\"topic\":\"t\",\"now\":1,\"props\":[[\"JMSx\",\"long\",1]]}]}",
+        "scenario: step 1: field props",
+    ),
+    (
+        "{\"calls\":[{\"op\":\"send\",\"s\":[1,1],\"topic\":\"t\",\"now\":1,\"props\":[[\"JMSXGroupSeq\",\"String\",\"1\"]]}]}",
+        "scenario: step 1: field props",
+    ),
+    (
+        "{\"calls\":[{\"op\":\"send\",\"s\":[1,1],\"topic\":\"t\",\"now\":1,\"props\":[[\"\",\"float\",1]]}]}",
+        "scenario: step 1: floating",
+    ),
+    (
+        "{\"calls\":[{\"op\":\"send\",\"s\":[1,1],\"topic\":\"t\",\"now\":1,\"props\":[[\"x\",\"long\",1],[\"y\"],[\"z\",\"float\",1]]}]}",
+        "scenario: step 1: field props",
+    ),
+    (
+        "{\"calls\":[{\"op\":\"send\",\"s\":[1,1],\"topic\":\"t\",\"now\":1,\"bytes\":\"0\"}]}",
+        "scenario: step 1: field bytes",
+    ),
+    (
+        "{\"calls\":[{\"op\":\"send\",\"s\":[1,1],\"topic\":\"t\",\"now\":1,\"bytes\":\"0G\"}]}",
+        "scenario: step 1: field bytes",
+    ),
+    (
+        "{\"calls\":[{\"op\":\"send\",\"s\":[1,1],\"topic\":\"t\",\"now\":1,\"bytes\":\"FF\"}]}",
+        "scenario: step 1: field bytes",
+    ),
+    (
+        "{\"calls\":[{\"op\":\"send\",\"s\":[1,1],\"topic\":\"t\",\"now\":1,\"bytes\":1}]}",
+        "scenario: step 1: field bytes",
+    ),
+    (
+        "{\"calls\":[{\"op\":\"send\",\"s\":[1,1],\"topic\":\"t\",\"now\":1,\"bytes\":1.5}]}",
+        "scenario: step 1: floating",
+    ),
+    (
+        "{\"calls\":[{\"op\":\"send\",\"s\":[1,1],\"topic\":\"t\",\"now\":1,\"text\":1,\"bytes\":1.5}]}",
+        "scenario: step 1: field bytes",
+    ),
+    (
+        "{\"calls\":[{\"op\":\"send\",\"s\":[1,1],\"topic\":\"t\",\"now\":1,\"text\":\"a\",\"bytes\":\"00\"}]}",
+        "scenario: step 1: field bytes",
+    ),
+    (
+        "{\"calls\":[{\"op\":\"send\",\"s\":[1,1],\"topic\":\"t\",\"now\":1,\"delay\":1,\"replyTo\":1}]}",
+        "scenario: step 1: field delay",
+    ),
+    (
+        "{\"calls\":[{\"op\":\"send\",\"s\":[1,1],\"topic\":\"t\",\"now\":1,\"bytes\":\"0\",\"props\":[[\"x\",\"float\",1]]}]}",
+        "scenario: step 1: floating",
+    ),
+];
+
+#[test]
+fn scenario_faults(rt: HostRuntime) -> Result<(), Fail> {
+    let alloc = rt.alloc();
+    for (scenario, text) in FAULTS {
+        let (ending, written) = played(alloc, scenario);
+        assert!(rt; ending.status == 1 && written.is_empty());
+        let told = match &ending.fault {
+            Some(fault) => format!(in alloc; "{fault}")?,
+            None => String::new(alloc),
+        };
+        assert_eq!(rt; told.as_str(), text, "for {scenario}");
+    }
+    Ok(())
+}
+
+/// Reads whose every byte is a blank; the one of that number fails.
+#[derive(Drop)]
+struct FailingReader {
+    good_reads: usize,
+}
+
+impl Read for FailingReader {
+    fn read(&mut self, buf: &mut [u8]) -> io::Result<usize> {
+        if self.good_reads == 0 {
+            return Err(io::Error::from(io::ErrorKind::BrokenPipe));
+        }
+        self.good_reads -= 1;
+        buf.fill(b' ');
+        Ok(buf.len())
+    }
+}
+
+#[test]
+fn failing_reader(rt: HostRuntime) {
+    for good_reads in [0, 1, 100_000] {
+        let mut written = Vec::new(rt.alloc());
+        let mut reader = FailingReader { good_reads };
+        let ending = play(rt.alloc(), &mut reader, &mut written);
+        assert!(rt; ending.status == 1 && ending.fault == Some(Fault::File));
+        assert!(rt; written.is_empty());
+    }
+}
+
+/// Takes that many bytes, and then fails.
+#[derive(Drop)]
+struct FailingWriter {
+    room: usize,
+}
+
+impl Write for FailingWriter {
+    fn write(&mut self, buf: &[u8]) -> io::Result<usize> {
+        if self.room == 0 {
+            return Err(io::Error::from(io::ErrorKind::BrokenPipe));
+        }
+        let count = buf.len().min(self.room);
+        self.room -= count;
+        Ok(count)
+    }
+
+    fn flush(&mut self) -> io::Result<()> {
+        Ok(())
+    }
+}
+
+#[test]
+fn failing_writer(rt: HostRuntime) {
+    for room in [0, 5] {
+        let mut writer = FailingWriter { room };
+        let ending = play(rt.alloc(), &mut FIRST_MESSAGE.as_bytes(), &mut writer);
+        assert!(rt; ending.status == 1 && ending.fault.is_none());
+    }
+}
+
+#[test]
+fn refusals(rt: HostRuntime) -> Result<(), Fail> {
+    let at_4 = Refusal::InvalidSelector {
+        at: 4,
+        cause: Cause::Expected,
+    };
+    let replies = vec![in rt.alloc();
+        Ok(Answer::Sent(9223372036854775807)),
+        Err(Refusal::IllegalState),
+        Err(at_4),
+        Err(Refusal::OutOfRange),
+        Err(Refusal::Memory),
+        Err(Refusal::Store),
+    ]?;
+    let lines = write_replies(rt.alloc(), &replies)?;
+    let wanted = "1 sent 9223372036854775807
+2 refused IllegalState
+3 refused InvalidSelector Expected 4
+4 refused OutOfRange
+5 refused Memory
+6 refused Store
+";
+    assert_eq!(rt; lines.as_str(), wanted);
+    Ok(())
+}
+
+#[test]
+fn fault_values(rt: HostRuntime) -> Result<(), Fail> {
+    let alloc = rt.alloc();
+    assert!(rt; read_scenario(alloc, b"\xff").is_err_and(|fault| fault == ScenarioFault::Syntax));
+    let now = ScenarioFault::Shape {
+        step: 0,
+        field: FieldName::Known(Field::Calls),
+    };
+    assert!(rt; read_scenario(alloc, b"{}").is_err_and(|fault| fault == now));
+    let held = ScenarioFault::Shape {
+        step: 0,
+        field: FieldName::Unknown(Str::new(String::from_str(alloc, "held")?)),
+    };
+    assert!(rt;
+        read_scenario(alloc, b"{\"calls\":[],\"held\":0}").is_err_and(|fault| fault == held)
+    );
+    Ok(())
+}
