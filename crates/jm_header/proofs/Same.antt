@@ -16,10 +16,12 @@ use Rattle.jm_header.specs.declared.content.Content.{Content}
 use Rattle.jm_header.specs.declared.content.DeliveryMode.{DeliveryMode}
 use Rattle.jm_header.specs.declared.content.DeliveryMode.TheVariants.{Persistent, NonPersistent}
 use Rattle.jm_header.specs.declared.content.Sender.{Sender}
+use Rattle.jm_header.specs.declared.content.Settings.{Settings}
 use Rattle.jm_header.specs.contracts.body.BodyPartialEq.TheImpl as body_eq
 use Rattle.jm_header.specs.contracts.content.SenderPartialEq.TheImpl as sender_eq
 use Rattle.jm_header.specs.contracts.content.DeliveryModePartialEq.TheImpl as mode_eq
 use Rattle.jm_header.specs.contracts.content.ContentPartialEq.TheImpl as content_eq
+use Rattle.jm_header.specs.contracts.content.SettingsPartialEq.TheImpl as settings_eq
 
 pub session_same : (a b : SessionId) → Decides ((session_eq.ghosts).eq a b) (a ≡ b)
 session_same a b =
@@ -56,7 +58,7 @@ body_same (Bytes a) NoBody = ((λ e. cc), (λ e. cc))
 body_same (Bytes a) (Text b) = ((λ e. cc), (λ e. cc))
 body_same (Bytes a) (Bytes b) = Decides-like _ (λ e. ap Bytes e) (λ e. cc) (bytes_decides a b)
 
-text_same : (a b : Option (List ℕ)) → Decides (option_eq (pointwise nat_eq) a b) (a ≡ b)
+pub text_same : (a b : Option (List ℕ)) → Decides (option_eq (pointwise nat_eq) a b) (a ≡ b)
 text_same None None = (λ _. refl, λ _. refl)
 text_same None (Some b) = ((λ e. cc), (λ e. cc))
 text_same (Some a) None = ((λ e. cc), (λ e. cc))
@@ -136,3 +138,42 @@ content_same a b =
     (Decides-and _ _ (table_same a.properties b.properties)
     (Decides-and _ _ (mark_same a.is_body_read_only b.is_body_read_only)
     (mark_same a.are_properties_read_only b.are_properties_read_only)))))))))))))
+
+pub settings_same : (a b : Settings) → Decides ((settings_eq.ghosts).eq a b) (a ≡ b)
+settings_same a b =
+    Decides-like _
+    (λ e. λ i. record {
+      mode = e.0 i;
+      priority = e.1.0 i;
+      time_to_live = e.1.1.0 i;
+      correlation = e.1.1.1.0 i;
+      message_type = e.1.1.1.1.0 i;
+      body = e.1.1.1.1.1.0 i;
+      properties = e.1.1.1.1.1.1 i;
+    })
+    (λ e. (
+      ap (λ s. s.mode) e,
+      (
+        ap (λ s. s.priority) e,
+        (
+          ap (λ s. s.time_to_live) e,
+          (
+            ap (λ s. s.correlation) e,
+            (
+              ap (λ s. s.message_type) e,
+              (
+                ap (λ s. s.body) e,
+                ap (λ s. s.properties) e,
+              ),
+            ),
+          ),
+        ),
+      ),
+    ))
+    (Decides-and _ _ (mode_same a.mode b.mode)
+    (Decides-and _ _ (Decides-eqb a.priority b.priority)
+    (Decides-and _ _ (Decides-eqb a.time_to_live b.time_to_live)
+    (Decides-and _ _ (text_same a.correlation b.correlation)
+    (Decides-and _ _ (text_same a.message_type b.message_type)
+    (Decides-and _ _ (body_same a.body b.body)
+    (table_same a.properties b.properties)))))))

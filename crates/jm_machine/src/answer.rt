@@ -51,6 +51,13 @@ impl Delivery {
 }
 
 impl Answer {
+    /// Whether both are equal in every field.
+    pub fn is(&self, other: &Answer) -> bool
+        ensures { IsTrue result ↔ (self.now ≡ other.now) }
+    {
+        *self == *other
+    }
+
     /// An equal answer. `AllocError` where a request for memory was refused.
     pub fn copy(&self) -> Result<Answer, AllocError>
         ensures { IfOk result (λ copy. copy ≡ self.now) }
@@ -62,6 +69,13 @@ impl Answer {
             Answer::Nothing => Ok(Answer::Nothing),
         }
     }
+}
+
+/// Whether both are the same answer, or the same refusal.
+pub fn same_reply(a: &Reply, b: &Reply) -> bool
+    ensures { IsTrue result ↔ (a.now ≡ b.now) }
+{
+    *a == *b
 }
 
 /// An equal reply. `AllocError` where a request for memory was refused.

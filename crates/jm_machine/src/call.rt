@@ -1,4 +1,4 @@
-ghost use Rattle.std.specs.Prelude.{◌≡◌, IfOk};
+ghost use Rattle.std.specs.Prelude.{◌≡◌, ◌↔◌, IfOk, IsTrue};
 
 use jm_base::{List, Mode};
 use jm_dest::{ConnectionId, ConsumerId, Destination, Moment, Name, SessionId};
@@ -46,7 +46,7 @@ pub struct Step {
 }
 
 /// What a client asks: a step other than a publication, or a send, which is stamped on the way.
-#[derive(Drop)]
+#[derive(PartialEq, Drop)]
 pub enum ClientCall {
     Ask {
         who: Who,
@@ -62,6 +62,13 @@ pub enum ClientCall {
 }
 
 impl Request {
+    /// Whether both are equal in every field.
+    pub fn is(&self, request: &Request) -> bool
+        ensures { IsTrue result ↔ (self.now ≡ request.now) }
+    {
+        *self == *request
+    }
+
     /// An equal request. `AllocError` where a request for memory was refused.
     pub fn copy(&self) -> Result<Request, AllocError>
         ensures { IfOk result (λ copy. copy ≡ self.now) }
@@ -94,6 +101,13 @@ fn copy_messages(alloc: Global, messages: &[Message]) -> Result<Vec<Message>, Al
 }
 
 impl Step {
+    /// Whether both are equal in every field.
+    pub fn is(&self, other: &Step) -> bool
+        ensures { IsTrue result ↔ (self.now ≡ other.now) }
+    {
+        *self == *other
+    }
+
     /// An equal step. `AllocError` where a request for memory was refused.
     pub fn copy(&self, alloc: Global) -> Result<Step, AllocError>
         ensures { IfOk result (λ copy. copy ≡ self.now) }
@@ -112,6 +126,13 @@ impl Step {
 }
 
 impl ClientCall {
+    /// Whether both are equal in every field.
+    pub fn is(&self, call: &ClientCall) -> bool
+        ensures { IsTrue result ↔ (self.now ≡ call.now) }
+    {
+        *self == *call
+    }
+
     /// An equal call. `AllocError` where a request for memory was refused.
     pub fn copy(&self) -> Result<ClientCall, AllocError>
         ensures { IfOk result (λ copy. copy ≡ self.now) }

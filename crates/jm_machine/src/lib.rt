@@ -7,8 +7,10 @@ mod answer;
 mod call;
 mod entry;
 mod state;
+#[cfg(test)]
+mod tests;
 
-pub use answer::{Answer, Delivery, Reply, copy_reply};
+pub use answer::{Answer, Delivery, Reply, copy_reply, same_reply};
 pub use call::{Call, ClientCall, Request, Step, Who};
 pub use entry::Entry;
 pub use state::{ConnectionState, Consumer, Definition, PlacedRow, Row, SessionState, Station};
