@@ -93,6 +93,12 @@ impl From<AllocError> for MessageFault {
 }
 
 impl fmt::Display for Cause {
+    ghost use Rattle.std.specs.Prelude.{Some};
+    ghost use Rattle.jm_base.specs.Shown.{cause_name};
+
+    ghost output = { λ cause. Some (cause_name cause) };
+
+    /// The name.
     fn fmt<W: fmt::Write>(&self, f: &mut fmt::Formatter<W>) -> fmt::Result {
         f.write_str(match self {
             Cause::Token => "Token",
@@ -108,6 +114,11 @@ impl fmt::Display for Cause {
 }
 
 impl fmt::Display for Refusal {
+    ghost use Rattle.std.specs.Prelude.{Some};
+    ghost use Rattle.jm_base.specs.Shown.{refusal_name};
+
+    ghost output = { λ refusal. Some (refusal_name refusal) };
+
     /// The name, and for a selector its cause and offset.
     fn fmt<W: fmt::Write>(&self, f: &mut fmt::Formatter<W>) -> fmt::Result {
         match self {

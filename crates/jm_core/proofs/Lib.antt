@@ -1,3 +1,4 @@
 mod Rows
 mod Stations
+mod Accepted
 mod Sends

@@ -1,6 +1,6 @@
 -- What a delivery is to rows at their places.
-use Rattle.std.proofs.Common.{◌≡◌, ◌<◌, ◌≤◌, ◌+◌, ℕ, Bool, true, false, cond, List, [], ◌∷◌, ◌++◌, map, length, take, drop, get_or, refl, ap, sym, ◌∙◌, arith, Option, Some, None, zero, suc}
-use Rattle.std.specs.Prelude.{filter, find, not, nat_lt, remove, position}
+use Rattle.std.proofs.Common.{◌≡◌, ◌<◌, ◌≤◌, ℕ, Bool, true, false, cond, List, [], ◌∷◌, length, get_or, refl, ap, arith, Some, None, zero, suc}
+use Rattle.std.specs.Prelude.{filter, find, nat_lt, remove, position}
 use Rattle.std.specs.List.{position_or_len}
 use Rattle.std.proofs.lemmas.Bool.Decides.{nat_tests}
 use Rattle.jm_machine.specs.declared.state.Row.{Row}

@@ -1,6 +1,6 @@
 -- What one call is to a run.
 use Rattle.std.proofs.Common.{◌≡◌, ◌⊎◌, inl, inr, ◌+◌, ℕ, Bool, true, false, cond, List, [], ◌∷◌, ◌++◌, length, refl, ap, sym, ◌∙◌, arith, Option, Some, None, Result, Ok, Err}
-use Rattle.std.specs.Prelude.{is_some, is_ok, unwrap_or, MatchBool}
+use Rattle.std.specs.Prelude.{is_some, unwrap_or, MatchBool}
 use Rattle.std.proofs.lemmas.List.{append-nil}
 use Rattle.std.specs.HashMap.{get, Updates}
 use Rattle.std.specs.Map.{lookup}
@@ -22,7 +22,7 @@ use Rattle.jm_machine.specs.declared.answer.Answer.{Answer}
 use Rattle.jm_machine.specs.declared.answer.Answer.TheVariants.{Done, Sent}
 use Rattle.jm_machine.specs.Life.{mode_of}
 use Rattle.jm_machine.specs.Machine.{State, publish_refusal, replied, reply, step}
-use Rattle.jm_machine.specs.Client.{Progress, begun, one_more, stamp_of, reply_to, progress_to, is_want, CallFits, RepliesFit}
+use Rattle.jm_machine.specs.Client.{Progress, begun, one_more, stamp_of, reply_to, progress_to, is_want, may_want, CallFits, RepliesFit}
 use Rattle.jm_core.specs.Steps.{StepFits}
 use Rattle.jm_core.specs.Runs.{Sends, sent_of, progress}
 
@@ -32,7 +32,7 @@ pub ask_fits : (state : State) (sends : Sends) (who : Who) (request : Request) (
 unfolding reply_to progress_to
 ask_fits state sends who request r new h = go (is_want r) h
   where
-    go : (b : Bool) → MatchBool b ((is_ok (reply state who (AskStep request)) ≡ true) × (new ≡ state)) ((r ≡ reply state who (AskStep request)) × (new ≡ step state who (AskStep request))) →
+    go : (b : Bool) → MatchBool b ((may_want (reply state who (AskStep request)) ≡ true) × (new ≡ state)) ((r ≡ reply state who (AskStep request)) × (new ≡ step state who (AskStep request))) →
         MatchBool b ((new ≡ state) × ((sent_of sends ≡ sent_of sends) ⊎ (sent_of sends ≡ (progress_to (progress state sends) (Ask who request)).sent)))
         ((r ≡ reply_to (progress state sends) (Ask who request)) × (progress new sends ≡ progress_to (progress state sends) (Ask who request)))
     go true h = (h.1, inl refl)
@@ -102,7 +102,7 @@ sent_err state old new s draft destination now m e next h u f = rw h (go (is_wan
     sent = sent_more old new s m.number (number_of (progress state old) s draft destination now m h) u
 
     go : (b : Bool) →
-        MatchBool b ((is_ok (replied (publish_refusal state (Session s) (m ∷ [])) Done) ≡ true) × (next ≡ state)) ((Err e ≡ replied (publish_refusal state (Session s) (m ∷ [])) Done) × (next ≡ step state (Session s) (Publish (m ∷ [])))) →
+        MatchBool b ((may_want (replied (publish_refusal state (Session s) (m ∷ [])) Done) ≡ true) × (next ≡ state)) ((Err e ≡ replied (publish_refusal state (Session s) (m ∷ [])) Done) × (next ≡ step state (Session s) (Publish (m ∷ [])))) →
         MatchBool b ((next ≡ state) × ((sent_of new ≡ sent_of old) ⊎ (sent_of new ≡ one_more s (sent_of old))))
         ((Err e ≡ replied (publish_refusal state (Session s) (m ∷ [])) (Sent (sent_of old s + 1)))
         × (progress next new ≡ record { state = step state (Session s) (Publish (m ∷ [])); sent = one_more s (sent_of old) }))

@@ -1,9 +1,7 @@
 -- What a step is to the stations.
-use Rattle.std.proofs.Common.{◌≡◌, ◌<◌, ◌≤◌, ◌+◌, ℕ, Bool, true, false, cond, List, [], ◌∷◌, ◌++◌, map, length, take, drop, get_or, set, refl, ap, sym, ◌∙◌, arith, Option, Some, None, add-zero, add-one, zero, suc}
+use Rattle.std.proofs.Common.{◌≡◌, ◌<◌, ◌≤◌, ◌+◌, ℕ, Bool, true, false, List, [], ◌∷◌, ◌++◌, map, length, take, get_or, set, refl, ap, sym, ◌∙◌, arith, Option, Some, None, add-zero, add-one, zero, suc}
 use Rattle.std.proofs.Math.Seq.{take-suc}
-use Rattle.std.specs.Prelude.{filter, find, not, nat_lt}
 use Rattle.std.specs.List.{position_or_len}
-use Rattle.std.proofs.lemmas.Bool.Decides.{nat_tests}
 use Rattle.std.specs.Prelude.{◌&&◌, is_some, Ok}
 use Rattle.jm_base.specs.declared.mode.Mode.{Mode}
 use Rattle.jm_base.specs.declared.mode.Mode.TheVariants.{Auto}

@@ -1,5 +1,5 @@
 -- What a step and a run of the core owe.
-use Rattle.std.specs.Prelude.{◌≡◌, ℕ, ◌+◌, Bool, true, false, List, [], ◌∷◌, map, Option, Some, None, Result, Ok, Err, is_ok, MatchBool}
+use Rattle.std.specs.Prelude.{◌≡◌, ℕ, ◌+◌, true, List, [], ◌∷◌, map, Result, Ok, Err, MatchBool}
 use Rattle.jm_base.specs.declared.refusal.Refusal.{Refusal}
 use Rattle.jm_header.specs.declared.content.Content.{Content}
 use Rattle.jm_dest.specs.declared.session.SessionId.{SessionId}
@@ -8,18 +8,17 @@ use Rattle.jm_machine.specs.declared.call.Who.TheVariants.{Session}
 use Rattle.jm_machine.specs.declared.call.Call.TheVariants.{Publish}
 use Rattle.jm_machine.specs.declared.answer.Answer.TheVariants.{Done}
 use Rattle.jm_machine.specs.declared.call.Call.{Call}
-use Rattle.jm_machine.specs.declared.call.Step.{Step}
 use Rattle.jm_machine.specs.declared.answer.Answer.{Answer}
 use Rattle.jm_machine.specs.declared.state.Station.{Station}
 use Rattle.jm_machine.specs.Machine.{State, offered, reply, step}
-use Rattle.jm_machine.specs.Client.{is_want}
+use Rattle.jm_machine.specs.Client.{is_want, may_want}
 
 -- a step answers the machine's reply and leaves the machine's state; or it wants memory for a call that
--- the machine does not refuse, and leaves the state as before
+-- the machine does not refuse, or refuses for its selector, and leaves the state as before
 abbrev pub StepFits : State → Who → Call → Result Answer Refusal → State → Type 0
 StepFits old who call result new =
     MatchBool (is_want result)
-    ((is_ok (reply old who call) ≡ true) × (new ≡ old))
+    ((may_want (reply old who call) ≡ true) × (new ≡ old))
     ((result ≡ reply old who call) × (new ≡ step old who call))
 
 -- the reply to a publication that ended so

@@ -1,30 +1,27 @@
 //! Brings publications to the subscriptions that accept them.
 
-ghost use Rattle.std.specs.Prelude.{◌≡◌, ◌+◌, ◌≤◌, length, map, IfOk, OnOk};
-ghost use Rattle.jm_machine.specs.Machine.{accepts as accepts_lem, offered};
+ghost use Rattle.std.specs.Prelude.{◌≡◌, ◌+◌, ◌≤◌, length, map, slice_get, IfOk, OnOk, Some};
+ghost use Rattle.jm_machine.specs.Machine.{offered};
+ghost use Rattle.jm_core.specs.Accepted.{subscription_of};
 ghost use Rattle.jm_core.specs.Steps.{published_stations};
 
-use jm_dest::Destination;
 use jm_header::Message;
 use jm_machine::{PlacedRow, Row, Station};
+use jm_sub::Subs;
 use std::alloc::{AllocError, Global};
 
-/// Whether the subscription accepts the message.
-#[tactic(auto, unfolding(jm_machine::specs::Machine::accepts))]
-fn accepts(station: &Station, message: &Message) -> bool
-    ensures { result ≡ accepts_lem station.now.key station.now.definition message.now }
-{
-    match message.destination() {
-        Destination::Queue(_) => false,
-        Destination::Topic(name) => station.definition.topic == *name,
-    }
-}
-
-/// Adds the message to the station, where it accepts it.
-fn offer(station: &mut Station, message: &Message, place: u64) -> Result<(), AllocError>
+/// Adds the message to the station, where the subscription that stands there accepts it.
+fn offer(
+    subs: &Subs,
+    at: usize,
+    station: &mut Station,
+    message: &Message,
+    place: u64,
+) -> Result<(), AllocError>
+    requires { slice_get subs.now.list at ≡ Some (subscription_of station.old) }
     ensures { OnOk result (station.new ≡ offered message.now place station.old) }
 {
-    if accepts(station, message) {
+    if subs.accepts_at(at, message) {
         let row = Row {
             message: message.copy()?,
             count: 0,
@@ -34,12 +31,18 @@ fn offer(station: &mut Station, message: &Message, place: u64) -> Result<(), All
     Ok(())
 }
 
-/// Adds the message to each station that accepts it.
-fn offer_all(stations: &mut [Station], message: &Message, place: u64) -> Result<(), AllocError>
+/// Adds the message to each station whose subscription accepts it.
+fn offer_all(
+    subs: &Subs,
+    stations: &mut [Station],
+    message: &Message,
+    place: u64,
+) -> Result<(), AllocError>
+    requires { subs.now.list ≡ map subscription_of stations.old }
     ensures { OnOk result (stations.new ≡ map (offered message.now place) stations.old) }
 {
-    for station in stations.iter_mut() {
-        offer(station, message, place)?;
+    for (at, station) in stations.iter_mut().enumerate() {
+        offer(subs, at, station, message, place)?;
     }
     Ok(())
 }
@@ -58,17 +61,19 @@ pub(crate) fn copies(alloc: Global, stations: &[Station]) -> Result<Vec<Station>
 /// The stations after the messages are published, in order, the first at that place.
 pub(crate) fn published(
     alloc: Global,
+    subs: &Subs,
     stations: &[Station],
     messages: &[Message],
     place: u64,
 ) -> Result<Vec<Station>, AllocError>
-    requires { place + length messages.now ≤ 9223372036854775808 }
+    requires places { place + length messages.now ≤ 9223372036854775808 }
+    requires same { subs.now.list ≡ map subscription_of stations.now }
     ensures { IfOk result (λ after. after.items ≡ published_stations place messages.now stations.now) }
 {
     let mut after = copies(alloc, stations)?;
     let mut at = place;
     for message in messages {
-        offer_all(&mut after, message, at)?;
+        offer_all(subs, &mut after, message, at)?;
         at += 1;
     }
     Ok(after)

@@ -1,22 +1,27 @@
-ghost use Rattle.std.specs.Prelude.{◌≡◌, ◌+◌, ◌≤◌, ◌==◌, ◌&&◌, is_some, length, vec_len, vec_capacity, MatchResult, IfOk, OnOk, OnErr, if◌then◌else◌};
-ghost use Rattle.jm_base.specs.declared.refusal.Refusal.TheVariants.{OutOfRange};
+ghost use Rattle.std.specs.Prelude.{◌≡◌, ◌≢◌, ◌+◌, ◌≤◌, ◌==◌, ◌&&◌, is_some, length, map, vec_len, vec_capacity, MatchResult, IfOk, IfErr, OnOk, OnErr, Some, None, if◌then◌else◌};
+ghost use Rattle.jm_base.specs.declared.refusal.Refusal.TheVariants.{OutOfRange, Memory};
 ghost use Rattle.jm_machine.specs.Life.{with_started as with_started_lem, connection_of as connection_of_lem, mode_of as mode_of_lem, is_started as is_started_lem, is_new_session as is_new_session_lem};
 ghost use Rattle.jm_machine.specs.Machine.{new_core, is_stamped as is_stamped_lem, has_places as has_places_lem, without, joined, put, defined, published as published_lem, consumer_of as consumer_of_lem, is_active, may_begin as may_begin_lem};
+ghost use Rattle.jm_machine.specs.Selectors.{selector_refusal};
+ghost use Rattle.jm_core.specs.Accepted.{HoldsAccepted, subscription_of};
 ghost use Rattle.jm_core.specs.Steps.{StepFits, PublishFits};
 
 use crate::deliver::deliver_to;
 use crate::find::{connection_of, consumer_of, is_started, mode_of, same_session, session_of};
 use crate::publish::{copies, published};
-use jm_base::{List, Mode, Refusal};
+use jm_base::{List, Mode, Refusal, Str};
 use jm_dest::{ConnectionId, ConsumerId, Key, Moment, Name, Number, SessionId};
 use jm_header::Message;
 use jm_machine::{
-    Answer, Call, ConnectionState, Consumer, Definition, Request, SessionState, Station, Step, Who,
+    Answer, Call, ConnectionState, Consumer, Request, SessionState, Station, Step, Who,
 };
+use jm_sub::Subs;
 use std::alloc::{AllocError, Global};
 use std::marker::Model;
 
-/// All that the provider holds. Contracts see it as the machine's state.
+/// All that the provider holds. Contracts see it as the machine's state. The subscriptions of `subs`,
+/// each with the tree of its selector, are those of `stations`, in the same order; and each row is
+/// accepted by the subscription that holds it.
 #[derive(Drop)]
 pub struct Core {
     alloc: Global,
@@ -24,13 +29,14 @@ pub struct Core {
     connections: Vec<ConnectionState>,
     sessions: Vec<SessionState>,
     consumers: Vec<Consumer>,
+    subs: Subs,
     stations: Vec<Station>,
     next_place: u64,
 }
 
 impl Model for Core {
-    ghost use Rattle.std.specs.Prelude.{◌≤◌};
     ghost use Rattle.jm_machine.specs.Machine.{State};
+    ghost use Rattle.jm_core.specs.Accepted.{IsSound};
 
     ghost Value = { State };
 
@@ -42,7 +48,7 @@ impl Model for Core {
       next_place = c.next_place;
     } };
 
-    ghost invariant = { λ c. c.next_place ≤ 9223372036854775808 };
+    ghost invariant = { λ c. IsSound c.subs.list c.stations.items c.next_place };
 }
 
 fn with_started(connection: ConnectionState, id: ConnectionId, on: bool) -> ConnectionState
@@ -106,6 +112,7 @@ impl Core {
             connections: Vec::new(alloc),
             sessions: Vec::new(alloc),
             consumers: Vec::new(alloc),
+            subs: Subs::new(alloc),
             stations: Vec::new(alloc),
             next_place: 1,
         })
@@ -145,9 +152,12 @@ impl Core {
         self.consumers.as_slice()
     }
 
-    /// The subscriptions with their rows, in order of creation.
+    /// The subscriptions with their rows, in order of creation. Each row was accepted: its message goes
+    /// to the subscription's topic, and the tree of the subscription's selector is TRUE for it, or there
+    /// is no selector.
     pub fn stations(&self) -> &[Station]
-        ensures { result.now ≡ self.now.stations }
+        ensures stations { result.now ≡ self.now.stations }
+        ensures accepted { HoldsAccepted self.now.stations }
     {
         self.stations.as_slice()
     }
@@ -167,6 +177,7 @@ impl Core {
         let connections = Vec::from_slice(alloc, &self.connections)?;
         let sessions = Vec::from_slice(alloc, &self.sessions)?;
         let consumers = copy_consumers(alloc, &self.consumers)?;
+        let subs = self.subs.copy()?;
         let stations = copies(alloc, &self.stations)?;
         Ok(Core {
             alloc,
@@ -174,6 +185,7 @@ impl Core {
             connections,
             sessions,
             consumers,
+            subs,
             stations,
             next_place: self.next_place,
         })
@@ -204,9 +216,11 @@ impl Core {
             },
             Who::Session(session) => match request {
                 Request::CreateSession { mode } => self.create_session(&session, *mode),
-                Request::CreateConsumer { consumer, topic } => {
-                    self.create_consumer(&session, *consumer, topic)
-                }
+                Request::CreateConsumer {
+                    consumer,
+                    topic,
+                    selector,
+                } => self.create_consumer(&session, *consumer, topic, selector),
                 Request::Receive { consumer, now } => self.receive(&session, *consumer, *now),
                 _ => Err(Refusal::IllegalState),
             },
@@ -326,35 +340,41 @@ impl Core {
         session: &SessionId,
         id: ConsumerId,
         topic: &Name,
+        selector: &Option<Str>,
     ) -> Result<Answer, Refusal>
-        ensures { StepFits self.old (Who.Session session.now) (Call.Ask (Request.CreateConsumer id topic.now)) result self.new }
+        ensures { StepFits self.old (Who.Session session.now) (Call.Ask (Request.CreateConsumer id topic.now selector.now)) result self.new }
     {
         if !self.may_begin(session, id) {
             return Err(Refusal::IllegalState);
         }
-        match self.subscribe(session, id, topic) {
+        match self.subscribe(session, id, topic, selector) {
             Ok(()) => Ok(Answer::Done),
-            Err(_) => Err(Refusal::Memory),
+            Err(refusal) => Err(refusal),
         }
     }
 
-    /// Adds the consumer with an empty subscription of its own.
+    /// Adds the consumer with an empty subscription of its own. A refused selector gives its refusal.
     fn subscribe(
         &mut self,
         session: &SessionId,
         id: ConsumerId,
         topic: &Name,
-    ) -> Result<(), AllocError>
-        ensures ok { OnOk result (self.new ≡ joined session.now id (Key.Own session.now id) (put (Key.Own session.now id) (defined topic.now) self.old)) }
+        selector: &Option<Str>,
+    ) -> Result<(), Refusal>
+        ensures ok { OnOk result (self.new ≡ joined session.now id (Key.Own session.now id) (put (Key.Own session.now id) (defined topic.now selector.now) self.old)) }
+        ensures valid { OnOk result (selector_refusal selector.now ≡ None) }
+        ensures refused { IfErr result (λ refusal. refusal ≢ Memory → selector_refusal selector.now ≡ Some refusal) }
         ensures err { OnErr result (self.new ≡ self.old) }
     {
-        let definition = Definition {
-            topic: topic.copy()?,
-        };
+        let decision = self
+            .subs
+            .decide_create(Key::Own(*session, id), topic, selector)?;
+        let definition = decision.definition().copy()?;
         self.consumers.reserve(1)?;
         self.stations.reserve(1)?;
         let key = Key::Own(*session, id);
         remove_key(&mut self.stations, &key);
+        self.subs.apply(decision);
         self.stations.push_reserved(Station {
             key: Key::Own(*session, id),
             definition,
@@ -433,7 +453,13 @@ impl Core {
         ensures ok { OnOk result (self.new ≡ published_lem self.old messages.now) }
         ensures err { OnErr result (self.new ≡ self.old) }
     {
-        let stations = published(self.alloc, &self.stations, messages, self.next_place)?;
+        let stations = published(
+            self.alloc,
+            &self.subs,
+            &self.stations,
+            messages,
+            self.next_place,
+        )?;
         self.stations = stations;
         self.next_place += messages.len() as u64;
         Ok(())

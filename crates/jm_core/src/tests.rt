@@ -1,7 +1,8 @@
 use super::*;
-use jm_base::{List, Mode, Refusal};
+use jm_base::{List, Mode, Refusal, Str};
 use jm_dest::{ConnectionId, ConsumerId, Destination, Moment, Name, Number, SessionId};
 use jm_header::{Body, Draft, Sender, stamp};
+use jm_property::Property;
 use std::alloc::{AllocError, Global};
 use std::process::Abort;
 use std::test::Fail;
@@ -14,10 +15,14 @@ enum Op {
     Stop(u32),
     Session(u32),
     Consumer(u32, u32),
+    /// A consumer with that selector.
+    Selective(u32, u32, &'static str),
     /// A receive of the consumer at that moment.
     Receive(u32, u32, i64),
     /// A text of that priority and time to live, sent at that moment.
     Send(u32, &'static str, u8, i64, i64),
+    /// A text with the property x.
+    SendWith(u32, &'static str, i64),
 }
 
 fn at(connection: u32) -> Result<SessionId, Refusal> {
@@ -34,10 +39,30 @@ fn by_session(connection: u32, request: Request) -> Result<ClientCall, Refusal> 
     Ok(ClientCall::Ask { who, request })
 }
 
-fn consumer(alloc: Global, connection: u32, number: u32) -> Result<ClientCall, Refusal> {
+fn consumer(
+    alloc: Global,
+    connection: u32,
+    number: u32,
+    selector: Option<Str>,
+) -> Result<ClientCall, Refusal> {
     let consumer = ConsumerId::new(number)?;
     let topic = Name::new(alloc, "t")?;
-    by_session(connection, Request::CreateConsumer { consumer, topic })
+    let request = Request::CreateConsumer {
+        consumer,
+        topic,
+        selector,
+    };
+    by_session(connection, request)
+}
+
+fn selective(
+    alloc: Global,
+    connection: u32,
+    number: u32,
+    selector: &str,
+) -> Result<ClientCall, Refusal> {
+    let selector = Str::new(String::from_str(alloc, selector)?);
+    consumer(alloc, connection, number, Some(selector))
 }
 
 fn receive(connection: u32, number: u32, now: i64) -> Result<ClientCall, Refusal> {
@@ -51,6 +76,14 @@ fn text(alloc: Global, text: &str, priority: u8, time_to_live: i64) -> Result<Dr
     draft.set_text(text)?;
     draft.set_priority(priority)?;
     draft.set_time_to_live(time_to_live)?;
+    Ok(draft)
+}
+
+fn text_with(alloc: Global, body: &str, x: i64) -> Result<Draft, Refusal> {
+    let mut draft = text(alloc, body, 4, 0)?;
+    if draft.set_property("x", Property::Long(x)).is_err() {
+        return Err(Refusal::BadName);
+    }
     Ok(draft)
 }
 
@@ -69,11 +102,13 @@ fn call(alloc: Global, op: Op) -> Result<ClientCall, Refusal> {
         Op::Start(c) => by_connection(c, Request::Start),
         Op::Stop(c) => by_connection(c, Request::Stop),
         Op::Session(c) => by_session(c, Request::CreateSession { mode: Mode::Auto }),
-        Op::Consumer(c, k) => consumer(alloc, c, k),
+        Op::Consumer(c, k) => consumer(alloc, c, k, None),
+        Op::Selective(c, k, selector) => selective(alloc, c, k, selector),
         Op::Receive(c, k, now) => receive(c, k, now),
         Op::Send(c, body, priority, time_to_live, now) => {
             send(alloc, c, text(alloc, body, priority, time_to_live)?, now)
         }
+        Op::SendWith(c, body, x) => send(alloc, c, text_with(alloc, body, x)?, 1000),
     }
 }
 
@@ -246,6 +281,43 @@ fn expiry(rt: HostRuntime) {
         &rt,
         replies(rt.alloc(), &ops),
         "ok ok ok ok ok ok sent 1 a#1 sent 2 none none sent 3 a#1 OutOfRange ok sent 4 none c#1 ",
+    );
+}
+
+#[test]
+fn selected_messages(rt: HostRuntime) {
+    let ops = [
+        Op::Open(1),
+        Op::Session(1),
+        Op::Selective(1, 1, "x > 0"),
+        Op::Start(1),
+        Op::SendWith(1, "a", 1),
+        Op::SendWith(1, "b", 0),
+        Op::Send(1, "c", 4, 0, 1000),
+        Op::Receive(1, 1, 1000),
+        Op::Receive(1, 1, 1000),
+    ];
+    expect(
+        &rt,
+        replies(rt.alloc(), &ops),
+        "ok ok ok ok sent 1 sent 2 sent 3 a#1 none ",
+    );
+}
+
+#[test]
+fn refused_selector(rt: HostRuntime) {
+    let ops = [
+        Op::Open(1),
+        Op::Session(1),
+        Op::Selective(1, 1, "x = "),
+        Op::Receive(1, 1, 1000),
+        Op::Selective(1, 1, "x > 0"),
+        Op::Selective(1, 1, "x = "),
+    ];
+    expect(
+        &rt,
+        replies(rt.alloc(), &ops),
+        "ok ok InvalidSelector Expected 4 IllegalState ok IllegalState ",
     );
 }
 

@@ -1,1 +1,3 @@
-mod Same
+pub mod Same
+pub mod Selectors
+pub mod SelectorExamples

@@ -1,7 +1,7 @@
 -- What clients ask of a run, and the replies that fit it.
 use Rattle.std.specs.Prelude.{◌≡◌, ◌⊎◌, ℕ, ◌+◌, Bool, true, false, List, [], ◌∷◌, Option, Some, None, is_some, Result, Ok, Err, MatchBool, if◌then◌else◌}
 use Rattle.jm_base.specs.declared.refusal.Refusal.{Refusal}
-use Rattle.jm_base.specs.declared.refusal.Refusal.TheVariants.{IllegalState, Memory}
+use Rattle.jm_base.specs.declared.refusal.Refusal.TheVariants.{IllegalState, InvalidSelector, Memory}
 use Rattle.jm_dest.specs.declared.session.SessionId.{SessionId}
 use Rattle.jm_dest.specs.declared.destination.Destination.{Destination}
 use Rattle.jm_dest.specs.Names.{session_eq}
@@ -61,6 +61,13 @@ progress_to p (Send s draft destination now) = send_progress p s (stamp_of p s d
 abbrev pub is_want : Result Answer Refusal → Bool
 is_want (Err Memory) = true
 is_want _ = false
+
+-- a want of memory may come in place of that reply of the machine: the call is not refused, or it is
+-- refused for what its check needs memory to see, which is the text of a selector
+abbrev pub may_want : Result Answer Refusal → Bool
+may_want (Ok a) = true
+may_want (Err (InvalidSelector at cause)) = true
+may_want (Err _) = false
 
 -- a reply fits a call: it is the machine's, and the run goes on; or it is a want of memory, the state is
 -- as before, and of a send the number may be used

@@ -18,92 +18,93 @@ use Rattle.jm_machine.specs.declared.answer.Answer.{Answer}
 use Rattle.jm_machine.specs.declared.answer.Answer.TheVariants.{Done, Sent, Delivered, Nothing}
 use Rattle.jm_machine.specs.Life.{life_after, own_life}
 use Rattle.jm_machine.specs.Rows.{protected, is_next, left_of}
-use Rattle.jm_machine.specs.Machine.{new_core, accepts, published, refusal, publish_refusal, after, answer, rows_for, reply, step}
+use Rattle.jm_machine.specs.Selectors.{selector_refusal, selects}
+use Rattle.jm_machine.specs.Machine.{new_core, defined, accepts, published, refusal, publish_refusal, after, answer, rows_for, reply, step}
 use Rattle.jm_machine.specs.Client.{Progress, begun, reply_to, progress_to, replies_to}
 use Rattle.jm_machine.specs.Entries.{entries_of, life_after_entry, committed, state_after_entry}
 use Rattle.jm_machine.specs.Lone.{lone_of, lone_did, is_answered, feed}
 use Rattle.jm_machine.specs.Isolation.{alone}
 
 -- a run of a new core in opening 1
-abbrev new_run : Progress
+abbrev pub new_run : Progress
 new_run = begun (new_core 1)
 
 -- session 1.1 and session 2.1
-abbrev receiver : SessionId
+abbrev pub receiver : SessionId
 receiver = record { connection = 1; number = 1 }
 
-abbrev publisher : SessionId
+abbrev pub publisher : SessionId
 publisher = record { connection = 2; number = 1 }
 
 -- the topic t
-abbrev topic : List ℕ
+abbrev pub topic : List ℕ
 topic = 116 ∷ []
 
 -- a draft of a text of one letter
-abbrev text : ℕ → Settings
+abbrev pub text : ℕ → Settings
 text letter = record defaults { body = Text (letter ∷ []) }
 
 -- the publisher sends a draft to the topic
-abbrev send : ℕ → Settings → ClientCall
+abbrev pub send : ℕ → Settings → ClientCall
 send now draft = Send publisher draft (Topic topic) now
 
 -- a consumer of session 1.1 receives
-abbrev receive : ℕ → ℕ → ClientCall
+abbrev pub receive : ℕ → ℕ → ClientCall
 receive c now = Ask (Session receiver) (Receive c now)
 
 -- replies
-abbrev ok : Result Answer Refusal
+abbrev pub ok : Result Answer Refusal
 ok = Ok Done
 
-abbrev none : Result Answer Refusal
+abbrev pub none : Result Answer Refusal
 none = Ok Nothing
 
-abbrev got : Settings → ℕ → ℕ → ℕ → Result Answer Refusal
+abbrev pub got : Settings → ℕ → ℕ → ℕ → Result Answer Refusal
 got draft n now count = Ok (Delivered (record {
   message = protected (message_of draft (Topic topic) (record { opening = 1; session = publisher }) n now);
   count = count;
 }))
 
 -- both connections and sessions, and consumer 1 of the topic
-abbrev opened : List ClientCall
+abbrev pub opened : List ClientCall
 opened =
     Ask (Connection 1) Open ∷ Ask (Connection 2) Open ∷ Ask (Session receiver) (CreateSession Auto) ∷ Ask (Session publisher) (CreateSession Auto)
-    ∷ Ask (Session receiver) (CreateConsumer 1 topic) ∷ []
+    ∷ Ask (Session receiver) (CreateConsumer 1 topic None) ∷ []
 
-abbrev started : List ClientCall
+abbrev pub started : List ClientCall
 started = opened ++ Ask (Connection 1) Start ∷ []
 
-abbrev five : List (Result Answer Refusal)
+abbrev pub five : List (Result Answer Refusal)
 five = ok ∷ ok ∷ ok ∷ ok ∷ ok ∷ []
 
-abbrev six : List (Result Answer Refusal)
+abbrev pub six : List (Result Answer Refusal)
 six = five ++ ok ∷ []
 
 -- one message from a publisher to a subscriber
-abbrev first_message_calls : List ClientCall
+abbrev pub first_message_calls : List ClientCall
 first_message_calls = started ++ send 1000 (text 97) ∷ receive 1 1000 ∷ receive 1 1000 ∷ []
 
-abbrev first_message_replies : List (Result Answer Refusal)
+abbrev pub first_message_replies : List (Result Answer Refusal)
 first_message_replies = six ++ Ok (Sent 1) ∷ got (text 97) 1 1000 1 ∷ none ∷ []
 
 pub first_message : replies_to new_run first_message_calls ≡ first_message_replies
-unfolding life_after is_next left_of accepts published refusal publish_refusal after answer rows_for reply step reply_to progress_to
+unfolding life_after is_next left_of selector_refusal selects defined accepts published refusal publish_refusal after answer rows_for reply step reply_to progress_to
 first_message = refl
 
 -- what the consumer's subscription answers alone: calls 5, 8 and 9
 pub first_message_alone : alone (Own receiver 1) (new_core 1) (entries_of 1 first_message_calls first_message_replies)
     ≡ (4, ok) ∷ (7, got (text 97) 1 1000 1) ∷ (8, none) ∷ []
-unfolding life_after own_life is_next left_of accepts published refusal publish_refusal after answer rows_for reply step reply_to progress_to life_after_entry committed state_after_entry lone_of lone_did is_answered feed
+unfolding life_after own_life is_next left_of selector_refusal selects defined accepts published refusal publish_refusal after answer rows_for reply step reply_to progress_to life_after_entry committed state_after_entry lone_of lone_did is_answered feed
 first_message_alone = refl
 
 -- a stopped connection delivers nothing
 pub stopped_connection : replies_to new_run (opened ++ send 1000 (text 97) ∷ receive 1 1000 ∷ Ask (Connection 1) Start ∷ receive 1 1000 ∷ send 1000 (text 98) ∷ Ask (Connection 1) Stop ∷ receive 1 1000 ∷ Ask (Connection 1) Start ∷ receive 1 1000 ∷ [])
     ≡ five ++ Ok (Sent 1) ∷ none ∷ ok ∷ got (text 97) 1 1000 1 ∷ Ok (Sent 2) ∷ ok ∷ none ∷ ok ∷ got (text 98) 2 1000 1 ∷ []
-unfolding life_after is_next left_of accepts published refusal publish_refusal after answer rows_for reply step reply_to progress_to
+unfolding life_after is_next left_of selector_refusal selects defined accepts published refusal publish_refusal after answer rows_for reply step reply_to progress_to
 stopped_connection = refl
 
 -- a draft of another priority
-abbrev of_priority : ℕ → ℕ → Settings
+abbrev pub of_priority : ℕ → ℕ → Settings
 of_priority priority letter = record (text letter) { priority = priority }
 
 -- by priority, then by place
@@ -111,35 +112,35 @@ pub priority_order : replies_to new_run (started ++ send 1000 (of_priority 4 97)
     ∷ receive 1 1000 ∷ receive 1 1000 ∷ receive 1 1000 ∷ receive 1 1000 ∷ [])
     ≡ six ++ Ok (Sent 1) ∷ Ok (Sent 2) ∷ Ok (Sent 3) ∷ Ok (Sent 4)
     ∷ got (of_priority 9 98) 2 1000 1 ∷ got (of_priority 4 97) 1 1000 1 ∷ got (of_priority 4 99) 3 1000 1 ∷ got (of_priority 0 100) 4 1000 1 ∷ []
-unfolding life_after is_next left_of accepts published refusal publish_refusal after answer rows_for reply step reply_to progress_to
+unfolding life_after is_next left_of selector_refusal selects defined accepts published refusal publish_refusal after answer rows_for reply step reply_to progress_to
 priority_order = refl
 
 -- a draft with a time to live
-abbrev living : ℕ → ℕ → Settings
+abbrev pub living : ℕ → ℕ → Settings
 living time letter = record (text letter) { time_to_live = time }
 
 -- a message is given before its expiration; from it on it is dropped, for good
 pub expiry : replies_to new_run (started ++ send 1000 (living 500 97) ∷ receive 1 1499 ∷ send 1000 (living 500 97) ∷ receive 1 1500 ∷ receive 1 1400 ∷ [])
     ≡ six ++ Ok (Sent 1) ∷ got (living 500 97) 1 1000 1 ∷ Ok (Sent 2) ∷ none ∷ none ∷ []
-unfolding life_after is_next left_of accepts published refusal publish_refusal after answer rows_for reply step reply_to progress_to
+unfolding life_after is_next left_of selector_refusal selects defined accepts published refusal publish_refusal after answer rows_for reply step reply_to progress_to
 expiry = refl
 
 -- with no time to live it is given at any moment; past the greatest moment there is no expiration, and
 -- the number of the send stays free
 pub greatest_moment : replies_to new_run (started ++ send 1000 (text 97) ∷ receive 1 9223372036854775807 ∷ send 9223372036854775807 (living 1 97) ∷ send 1000 (text 98) ∷ [])
     ≡ six ++ Ok (Sent 1) ∷ got (text 97) 1 1000 1 ∷ Err OutOfRange ∷ Ok (Sent 2) ∷ []
-unfolding life_after is_next left_of accepts published refusal publish_refusal after answer rows_for reply step reply_to progress_to
+unfolding life_after is_next left_of selector_refusal selects defined accepts published refusal publish_refusal after answer rows_for reply step reply_to progress_to
 greatest_moment = refl
 
 -- a receive drops expired messages of its own subscription alone, at its own moment alone
-pub each_sweeps_its_own : replies_to new_run (started ++ Ask (Session receiver) (CreateConsumer 2 topic) ∷ send 1000 (living 500 97) ∷ receive 2 1500 ∷ receive 1 1400 ∷ [])
+pub each_sweeps_its_own : replies_to new_run (started ++ Ask (Session receiver) (CreateConsumer 2 topic None) ∷ send 1000 (living 500 97) ∷ receive 2 1500 ∷ receive 1 1400 ∷ [])
     ≡ six ++ ok ∷ Ok (Sent 1) ∷ none ∷ got (living 500 97) 1 1000 1 ∷ []
-unfolding life_after is_next left_of accepts published refusal publish_refusal after answer rows_for reply step reply_to progress_to
+unfolding life_after is_next left_of selector_refusal selects defined accepts published refusal publish_refusal after answer rows_for reply step reply_to progress_to
 each_sweeps_its_own = refl
 
 -- a session and a connection are used once, and a session sends only while it is open
-pub used_numbers : replies_to new_run (started ++ Ask (Connection 1) Open ∷ Ask (Session receiver) (CreateSession Auto) ∷ Ask (Session receiver) (CreateConsumer 1 topic)
+pub used_numbers : replies_to new_run (started ++ Ask (Connection 1) Open ∷ Ask (Session receiver) (CreateSession Auto) ∷ Ask (Session receiver) (CreateConsumer 1 topic None)
     ∷ receive 2 1000 ∷ Ask (Connection 3) Start ∷ Ask (Connection 1) (Receive 1 1000) ∷ Send (record { connection = 3; number = 1 }) (text 97) (Topic topic) 1000 ∷ [])
     ≡ six ++ Err IllegalState ∷ Err IllegalState ∷ Err IllegalState ∷ Err IllegalState ∷ Err IllegalState ∷ Err IllegalState ∷ Err IllegalState ∷ []
-unfolding life_after is_next left_of accepts published refusal publish_refusal after answer rows_for reply step reply_to progress_to
+unfolding life_after is_next left_of selector_refusal selects defined accepts published refusal publish_refusal after answer rows_for reply step reply_to progress_to
 used_numbers = refl

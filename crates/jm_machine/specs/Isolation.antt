@@ -29,7 +29,7 @@ pub data Reached : State → Type 0 where
 
 -- the number that a creating request gives to its consumer
 abbrev pub number_made : Request → Option ℕ
-number_made (CreateConsumer c topic) = Some c
+number_made (CreateConsumer c topic selector) = Some c
 number_made _ = None
 
 abbrev pub is_number : ℕ → Option ℕ → Bool

@@ -1,6 +1,7 @@
 pub mod Owns
 pub mod Life
 pub mod Rows
+pub mod Selectors
 pub mod Machine
 pub mod Client
 pub mod Entries

@@ -84,7 +84,7 @@ lone_receive f now lone = record lone { rows = deliver now f lone.rows }
 unfoldable pub lone_did : Key → Lone → Who → Request → Lone
 lone_did key lone (Connection c) request = record lone { life = life_after lone.life (Connection c) request }
 lone_did key lone (Session s) (CreateSession mode) = record lone { life = life_after lone.life (Session s) (CreateSession mode) }
-lone_did key lone (Session s) (CreateConsumer c topic) = lone_joined s c key (lone_put (defined topic) lone)
+lone_did key lone (Session s) (CreateConsumer c topic selector) = lone_joined s c key (lone_put (defined topic selector) lone)
 lone_did key lone (Session s) (Receive c now) = if is_started lone.life s.connection then lone_receive (left_of (mode_of lone.life s)) now lone else lone
 lone_did key lone (Session s) _ = lone
 
@@ -94,7 +94,7 @@ belongs scope s c = is_own scope.sessions s && scope.numbers s c
 
 -- whether a request that names a consumer names one of the key's; of any other request nothing
 abbrev pub about : Scope → SessionId → Request → Option Bool
-about scope s (CreateConsumer c topic) = Some (belongs scope s c)
+about scope s (CreateConsumer c topic selector) = Some (belongs scope s c)
 about scope s (Receive c now) = Some (belongs scope s c)
 about scope s _ = None
 

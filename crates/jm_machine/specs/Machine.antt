@@ -25,6 +25,7 @@ use Rattle.jm_machine.specs.declared.state.Station.{Station}
 use Rattle.jm_machine.specs.declared.state.Definition.{Definition}
 use Rattle.jm_machine.specs.declared.state.Consumer.{Consumer}
 use Rattle.jm_machine.specs.Life.{Life, connection_of, is_open_connection, mode_of, is_started, is_new_session, life_after}
+use Rattle.jm_machine.specs.Selectors.{selector_read, selector_refusal, standing, read_selects}
 use Rattle.jm_machine.specs.Rows.{protected, fresh, live, next, raised, left_of, bare, deliver_placed}
 
 -- all that the provider holds
@@ -77,9 +78,10 @@ abbrev pub is_to : List ℕ → Destination → Bool
 is_to topic (Queue name) = false
 is_to topic (Topic name) = text_eq topic name
 
--- a subscription accepts a publication: the topics are equal (Jakarta Messaging 3.1, section 4.2)
+-- a subscription accepts a publication: the topics are equal, and the selector is absent or TRUE for the
+-- message (Jakarta Messaging 3.1, sections 4.2 and 3.8.1)
 unfoldable pub accepts : Key → Definition → Content → Bool
-accepts key definition m = is_to definition.topic m.destination
+accepts key definition m = is_to definition.topic m.destination && read_selects (selector_read definition.selector) m
 
 -- a message comes to a subscription, at a place
 abbrev pub offered : Content → ℕ → Station → Station
@@ -121,9 +123,9 @@ key_at (Some x) = x.key
 abbrev pub new_consumer : SessionId → ℕ → Key → Consumer
 new_consumer s c key = record { session = s; id = c; key = key }
 
--- what a topic's subscription asks for
-abbrev pub defined : List ℕ → Definition
-defined topic = record { topic = topic }
+-- what a topic's subscription asks for; a selector whose text holds no token is none
+unfoldable pub defined : List ℕ → Option (List ℕ) → Definition
+defined topic selector = record { topic = topic; selector = standing selector (selector_read selector) }
 
 -- an empty subscription of the key, in place of any other
 abbrev pub put : Key → Definition → State → State
@@ -140,6 +142,11 @@ abbrev pub unless : Bool → Refusal → Option Refusal
 unless true r = None
 unless false r = Some r
 
+-- the first of two causes, where one stands
+abbrev pub first_cause : Option Refusal → Option Refusal → Option Refusal
+first_cause None later = later
+first_cause (Some r) later = Some r
+
 -- a consumer may be made: the session is open, and the number was not used in it
 abbrev pub may_begin : Life → List Consumer → SessionId → ℕ → Bool
 may_begin life consumers s c = is_some (mode_of life s) && not (is_some (consumer_of consumers s c))
@@ -150,7 +157,7 @@ refusal life consumers (Connection c) Open = unless (not (is_some (connection_of
 refusal life consumers (Connection c) Start = unless (is_open_connection (connection_of life.connections c)) IllegalState
 refusal life consumers (Connection c) Stop = unless (is_open_connection (connection_of life.connections c)) IllegalState
 refusal life consumers (Session s) (CreateSession mode) = unless (is_new_session life s) IllegalState
-refusal life consumers (Session s) (CreateConsumer c topic) = unless (may_begin life consumers s c) IllegalState
+refusal life consumers (Session s) (CreateConsumer c topic selector) = first_cause (unless (may_begin life consumers s c) IllegalState) (selector_refusal selector)
 refusal life consumers (Session s) (Receive c now) = unless (is_some (mode_of life s) && is_active (consumer_of consumers s c)) IllegalState
 refusal life consumers _ _ = Some IllegalState
 
@@ -180,7 +187,7 @@ receive f now key state = record state { stations = at_key key (with_rows (deliv
 unfoldable pub after : State → Who → Request → State
 after state (Connection c) request = record state { life = life_after state.life (Connection c) request }
 after state (Session s) (CreateSession mode) = record state { life = life_after state.life (Session s) (CreateSession mode) }
-after state (Session s) (CreateConsumer c topic) = joined s c (Own s c) (put (Own s c) (defined topic) state)
+after state (Session s) (CreateConsumer c topic selector) = joined s c (Own s c) (put (Own s c) (defined topic selector) state)
 after state (Session s) (Receive c now) =
     if is_started state.life s.connection
     then receive (left_of (mode_of state.life s)) now (key_at (consumer_of state.consumers s c)) state

@@ -1,6 +1,7 @@
 ghost use Rattle.std.specs.Prelude.{◌≡◌, ◌↔◌, IfOk, IsTrue};
 
-use jm_base::{List, Mode};
+use crate::selector::copy_selector;
+use jm_base::{List, Mode, Str};
 use jm_dest::{ConnectionId, ConsumerId, Destination, Moment, Name, SessionId};
 use jm_header::{Draft, Message};
 use std::alloc::{AllocError, Global};
@@ -22,11 +23,21 @@ pub enum Request {
     /// Stops the delivery of messages to the connection's consumers.
     Stop,
     /// Opens the session in that acknowledgement mode.
-    CreateSession { mode: Mode },
-    /// Makes a consumer of the topic, with an unshared non-durable subscription of its own.
-    CreateConsumer { consumer: ConsumerId, topic: Name },
+    CreateSession {
+        mode: Mode,
+    },
+    /// Makes a consumer of the topic, with an unshared non-durable subscription of its own, to the
+    /// messages that the selector's text selects, or to all where there is none.
+    CreateConsumer {
+        consumer: ConsumerId,
+        topic: Name,
+        selector: Option<Str>,
+    },
     /// Asks for the consumer's next message at that moment.
-    Receive { consumer: ConsumerId, now: Moment },
+    Receive {
+        consumer: ConsumerId,
+        now: Moment,
+    },
 }
 
 /// A call of the core.
@@ -78,9 +89,14 @@ impl Request {
             Request::Start => Ok(Request::Start),
             Request::Stop => Ok(Request::Stop),
             Request::CreateSession { mode } => Ok(Request::CreateSession { mode: *mode }),
-            Request::CreateConsumer { consumer, topic } => Ok(Request::CreateConsumer {
+            Request::CreateConsumer {
+                consumer,
+                topic,
+                selector,
+            } => Ok(Request::CreateConsumer {
                 consumer: *consumer,
                 topic: topic.copy()?,
+                selector: copy_selector(selector)?,
             }),
             Request::Receive { consumer, now } => Ok(Request::Receive {
                 consumer: *consumer,

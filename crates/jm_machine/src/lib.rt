@@ -6,6 +6,7 @@
 mod answer;
 mod call;
 mod entry;
+mod selector;
 mod state;
 #[cfg(test)]
 mod tests;

@@ -1,6 +1,7 @@
 ghost use Rattle.std.specs.Prelude.{◌≡◌, IfOk};
 
-use jm_base::{List, Mode};
+use crate::selector::copy_selector;
+use jm_base::{List, Mode, Str};
 use jm_dest::{ConnectionId, ConsumerId, Key, Name, SessionId};
 use jm_header::Message;
 use std::alloc::{AllocError, Global};
@@ -32,6 +33,8 @@ pub struct Consumer {
 #[derive(Debug, PartialEq, Drop)]
 pub struct Definition {
     pub topic: Name,
+    /// The selector's text as it was handed in, and none where it holds no token.
+    pub selector: Option<Str>,
 }
 
 /// A message that is held for a subscription, with the count of its deliveries.
@@ -76,6 +79,7 @@ impl Definition {
     {
         Ok(Definition {
             topic: self.topic.copy()?,
+            selector: copy_selector(&self.selector)?,
         })
     }
 }

@@ -1,8 +1,8 @@
 use crate::{
     Answer, Call, ClientCall, Delivery, Reply, Request, Step, Who, copy_reply, same_reply,
 };
-use jm_base::{List, Mode, Refusal};
-use jm_dest::{ConnectionId, Destination, Moment, Number, SessionId};
+use jm_base::{List, Mode, Refusal, Str};
+use jm_dest::{ConnectionId, ConsumerId, Destination, Moment, Name, Number, SessionId};
 use jm_header::{Draft, Message, Sender, stamp};
 use std::alloc::Global;
 use std::process::Abort;
@@ -69,4 +69,25 @@ fn copied_client_call_is_the_same(rt: HostRuntime) -> Result<(), Fail> {
     };
     assert!(rt; opened.copy()?.is(&opened));
     Ok(())
+}
+
+fn create_consumer(alloc: Global, selector: &str) -> Result<Request, Refusal> {
+    Ok(Request::CreateConsumer {
+        consumer: ConsumerId::new(1)?,
+        topic: Name::new(alloc, "t")?,
+        selector: Some(Str::new(String::from_str(alloc, selector)?)),
+    })
+}
+
+/// Whether a copy of a request is the same, and one with another selector is not.
+fn keeps_selector(alloc: Global) -> Result<(bool, bool), Refusal> {
+    let above = create_consumer(alloc, "x > 0")?;
+    let below = create_consumer(alloc, "x < 0")?;
+    let copy = above.copy()?;
+    Ok((copy.is(&above), below.is(&above)))
+}
+
+#[test]
+fn copied_selector_is_the_same(rt: HostRuntime) {
+    assert!(rt; matches!(keeps_selector(rt.alloc()), Ok((true, false))));
 }

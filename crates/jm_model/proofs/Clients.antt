@@ -52,7 +52,7 @@ opening_moved (Some r) x y p = refl
 opening_after : (state : State) (who : Who) (request : Request) → (after state who request).opening ≡ state.opening
 unfolding after
 opening_after state (Connection c) request = refl
-opening_after state (Session s) (CreateConsumer c topic) = refl
+opening_after state (Session s) (CreateConsumer c topic selector) = refl
 opening_after state (Session s) (Receive c now) =
     opening_if (is_started state.life s.connection) (receive (left_of (mode_of state.life s)) now (key_at (consumer_of state.consumers s c)) state) state state.opening refl refl
 opening_after state (Session s) _ = refl

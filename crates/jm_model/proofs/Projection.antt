@@ -69,7 +69,7 @@ pub own_refusal : (S : Scope) (state : State) (s : SessionId) (request : Request
     refusal (lone_of S state).life (lone_of S state).consumers (Session s) request ≡ refusal state.life state.consumers (Session s) request
 unfolding lone_of refusal
 own_refusal S state s (CreateSession mode) o p n = rw (own_new S.sessions state.life s o)
-own_refusal S state s (CreateConsumer c topic) o p n = rw (own_mode S.sessions state.life s o, consumer_own S s c n state.consumers p)
+own_refusal S state s (CreateConsumer c topic selector) o p n = rw (own_mode S.sessions state.life s o, consumer_own S s c n state.consumers p)
 own_refusal S state s (Receive c now) o p n = rw (own_mode S.sessions state.life s o, consumer_own S s c n state.consumers p)
 own_refusal S state s _ o p n = refl
 
@@ -114,7 +114,7 @@ pub own_after : (S : Scope) (state : State) (s : SessionId) (request : Request) 
     lone_of S (after state (Session s) request) ≡ lone_did S.key (lone_of S state) (Session s) request
 unfolding lone_of after lone_did
 own_after S state s (CreateSession mode) o f p n m = three (life_own S.sessions state.life (Session s) (CreateSession mode) o) refl refl
-own_after S state s (CreateConsumer c topic) o f p n m = created_own S s c (defined topic) state (key_same (Own s c) S.key (f.own s c ∙ n))
+own_after S state s (CreateConsumer c topic selector) o f p n m = created_own S s c (defined topic selector) state (key_same (Own s c) S.key (f.own s c ∙ n))
 own_after S state s (Receive c now) o f p n m =
     rw (own_started S.sessions state.life s o, own_mode S.sessions state.life s o)
     (cond_map (lone_of S) (is_started state.life s.connection) (receive (left_of (mode_of state.life s)) now (key_at (consumer_of state.consumers s c)) state) state _ _
@@ -129,7 +129,7 @@ Elsewhere S s (Some b) = b ≡ false
 pub other_after : (S : Scope) (state : State) (s : SessionId) (request : Request) → Fitting S → Placed S state.consumers → Elsewhere S s (about S s request) → lone_of S (after state (Session s) request) ≡ lone_of S state
 unfolding lone_of after
 other_after S state s (CreateSession mode) f p n = three (life_other S.sessions state.life (Session s) (CreateSession mode) n) refl refl
-other_after S state s (CreateConsumer c topic) f p n = created_other S s c (defined topic) state (f.own s c ∙ n)
+other_after S state s (CreateConsumer c topic selector) f p n = created_other S s c (defined topic selector) state (f.own s c ∙ n)
 other_after S state s (Receive c now) f p n =
     cond_one (lone_of S) (is_started state.life s.connection) _ state (lone_of S state)
     (λ _. receive_other S (left_of (mode_of state.life s)) now (key_at (consumer_of state.consumers s c)) state (key_not_mine S s c state.consumers f p n)) refl

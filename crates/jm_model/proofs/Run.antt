@@ -38,7 +38,7 @@ placed_moved S (Some r) x y p q = q
 placed_after : (S : Scope) (state : State) (who : Who) (request : Request) → Fitting S → Placed S state.consumers → Placed S (after state who request).consumers
 unfolding after
 placed_after S state (Connection c) request f p = p
-placed_after S state (Session s) (CreateConsumer c topic) f p = placed_push S (new_consumer s c (Own s c)) (f.own s c) state.consumers p
+placed_after S state (Session s) (CreateConsumer c topic selector) f p = placed_push S (new_consumer s c (Own s c)) (f.own s c) state.consumers p
 placed_after S state (Session s) (Receive c now) f p =
     placed_if S (is_started state.life s.connection) (receive (left_of (mode_of state.life s)) now (key_at (consumer_of state.consumers s c)) state) state p p
 placed_after S state (Session s) _ f p = p

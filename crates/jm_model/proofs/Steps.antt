@@ -113,7 +113,7 @@ elsewhere S s None h = cc
 elsewhere S s (Some b) h = h
 
 pub elsewhere_other : (S : Scope) (s : SessionId) (request : Request) → is_own S.sessions s ≡ false → Elsewhere S s (about S s request)
-elsewhere_other S s (CreateConsumer c topic) n = not_belongs S s (S.numbers s c) n
+elsewhere_other S s (CreateConsumer c topic selector) n = not_belongs S s (S.numbers s c) n
 elsewhere_other S s (Receive c now) n = not_belongs S s (S.numbers s c) n
 elsewhere_other S s _ n = n
 

@@ -23,6 +23,12 @@ impl From<AllocError> for LoneFault {
 }
 
 impl fmt::Display for LoneFault {
+    ghost use Rattle.std.specs.Prelude.{Some};
+    ghost use Rattle.jm_model.specs.Faults.{fault_name};
+
+    ghost output = { λ fault. Some (fault_name fault) };
+
+    /// The name.
     fn fmt<W: fmt::Write>(&self, f: &mut fmt::Formatter<W>) -> fmt::Result {
         f.write_str(match self {
             LoneFault::NotUnshared => "NotUnshared",

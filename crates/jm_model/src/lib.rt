@@ -7,6 +7,7 @@ mod law;
 mod lone;
 mod recorded;
 mod replies;
+mod subscription;
 
 pub use fault::LoneFault;
 pub use law::law_isolation;

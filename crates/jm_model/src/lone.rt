@@ -13,13 +13,14 @@ ghost use Rattle.jm_machine.specs.Lone.Item.{Called};
 ghost use Rattle.jm_model.specs.Owners.{scope};
 
 use crate::delivery::deliver;
-use jm_base::{Mode, Refusal};
+use crate::subscription::{Subscription, read};
+use jm_base::{Mode, Refusal, Str};
 use jm_core::Core;
-use jm_dest::{ConnectionId, ConsumerId, Destination, Key, Moment, Name, SessionId};
+use jm_dest::{ConnectionId, ConsumerId, Key, Moment, Name, SessionId};
 use jm_header::Message;
 use jm_machine::{
-    Answer, ConnectionState, Consumer, Definition, Entry, PlacedRow, Reply, Request, Row,
-    SessionState, Station, Who,
+    Answer, ConnectionState, Consumer, Entry, PlacedRow, Reply, Request, Row, SessionState,
+    Station, Who,
 };
 use std::alloc::{AllocError, Global};
 use std::marker::Model;
@@ -37,7 +38,7 @@ pub(crate) struct Lone {
     connections: Vec<ConnectionState>,
     sessions: Vec<SessionState>,
     consumers: Vec<Consumer>,
-    definition: Option<Definition>,
+    subscription: Option<Subscription>,
     rows: Vec<Row>,
 }
 
@@ -49,7 +50,7 @@ impl Model for Lone {
     ghost view = { λ l. record {
       life = record { connections = l.connections.items; sessions = l.sessions.items };
       consumers = l.consumers.items;
-      definition = l.definition;
+      definition = l.subscription;
       rows = l.rows.items;
     } };
 }
@@ -108,17 +109,13 @@ fn set_started(connections: &mut [ConnectionState], id: ConnectionId, on: bool)
     }
 }
 
-/// Whether a publication to that destination comes to the subscription.
-#[tactic(auto, unfolding(jm_machine::specs::Machine::accepts))]
-fn accepts(definition: &Option<Definition>, owner: &Owner, message: &Message) -> bool
-    ensures { result ≡ spec.lone_accepts (scope owner.now).key definition.now message.now }
+/// Whether a publication comes to the subscription, where there is one.
+fn accepts(subscription: &Option<Subscription>, owner: &Owner, message: &Message) -> bool
+    ensures { result ≡ spec.lone_accepts (scope owner.now).key subscription.now message.now }
 {
-    match definition {
+    match subscription {
         None => false,
-        Some(definition) => match message.destination() {
-            Destination::Queue(_) => false,
-            Destination::Topic(name) => definition.topic == *name,
-        },
+        Some(subscription) => subscription.accepts(message),
     }
 }
 
@@ -185,12 +182,15 @@ fn station_of<'a>(stations: &'a [Station], key: &Key) -> Option<&'a Station>
     stations.iter().find(|station| station.key.is(key))
 }
 
-fn definition_of(station: Option<&Station>) -> Result<Option<Definition>, AllocError>
-    ensures { IfOk result (λ definition. definition ≡ machine.definition_of (option_copied station.entry)) }
+fn subscription_of(
+    alloc: Global,
+    station: Option<&Station>,
+) -> Result<Option<Subscription>, AllocError>
+    ensures { IfOk result (λ subscription. subscription ≡ machine.definition_of (option_copied station.entry)) }
 {
     match station {
         None => Ok(None),
-        Some(station) => Ok(Some(station.definition.copy()?)),
+        Some(station) => Ok(Some(Subscription::of(alloc, station.definition.copy()?)?)),
     }
 }
 
@@ -213,13 +213,13 @@ impl Lone {
         let connections = own_connections(alloc, owner, opening.connections())?;
         let sessions = own_sessions(alloc, owner, opening.sessions())?;
         let consumers = own_consumers(alloc, &key, opening.consumers())?;
-        let definition = definition_of(station_of(opening.stations(), &key))?;
+        let subscription = subscription_of(alloc, station_of(opening.stations(), &key))?;
         let rows = rows_of(alloc, station_of(opening.stations(), &key))?;
         Ok(Lone {
             connections,
             sessions,
             consumers,
-            definition,
+            subscription,
             rows,
         })
     }
@@ -316,13 +316,16 @@ impl Lone {
         self.is_open_session(session) && self.has_consumer(session, id)
     }
 
-    /// Adds the owner with an empty subscription to the topic, in place of any other.
-    fn subscribe(&mut self, alloc: Global, owner: &Owner, topic: &Name) -> Result<(), AllocError>
-        ensures { OnOk result (self.new ≡ spec.lone_joined owner.now.session owner.now.consumer (scope owner.now).key (spec.lone_put (machine.defined topic.now) self.old)) }
+    /// Adds the owner with that subscription, empty, in place of any other.
+    fn subscribe(
+        &mut self,
+        alloc: Global,
+        owner: &Owner,
+        subscription: Subscription,
+    ) -> Result<(), AllocError>
+        ensures { OnOk result (self.new ≡ spec.lone_joined owner.now.session owner.now.consumer (scope owner.now).key (spec.lone_put subscription self.old)) }
     {
-        self.definition = Some(Definition {
-            topic: topic.copy()?,
-        });
+        self.subscription = Some(subscription);
         self.rows = Vec::new(alloc);
         self.consumers.push(Consumer {
             session: owner.session,
@@ -333,15 +336,16 @@ impl Lone {
     }
 
     /// Makes the owner, where it may be made.
-    #[tactic(auto, unfolding(jm_machine::specs::Machine::refusal, jm_machine::specs::Machine::answer, jm_machine::specs::Lone::lone_did))]
+    #[tactic(auto, unfolding(jm_machine::specs::Machine::refusal, jm_machine::specs::Machine::answer, jm_machine::specs::Lone::lone_did, jm_machine::specs::Selectors::selector_refusal))]
     fn create_consumer(
         &mut self,
         alloc: Global,
         owner: &Owner,
         topic: &Name,
+        selector: &Option<Str>,
     ) -> Result<Reply, AllocError>
         ensures { IfOk result (λ reply.
-            let request = Request.CreateConsumer owner.now.consumer topic.now in
+            let request = Request.CreateConsumer owner.now.consumer topic.now selector.now in
             (reply ≡ spec.lone_reply self.old (Who.Session owner.now.session) request)
             × (self.new ≡ (if is_none (machine.refusal self.old.life self.old.consumers (Who.Session owner.now.session) request)
             then spec.lone_did (scope owner.now).key self.old (Who.Session owner.now.session) request else self.old))) }
@@ -349,8 +353,16 @@ impl Lone {
         if !self.may_begin(&owner.session, owner.consumer) {
             return Ok(Err(Refusal::IllegalState));
         }
-        self.subscribe(alloc, owner, topic)?;
-        Ok(Ok(Answer::Done))
+        match read(alloc, selector)? {
+            Err(fault) => Ok(Err(Refusal::InvalidSelector {
+                at: fault.at,
+                cause: fault.cause,
+            })),
+            Ok(tree) => {
+                self.subscribe(alloc, owner, Subscription::new(topic, selector, tree)?)?;
+                Ok(Ok(Answer::Done))
+            }
+        }
     }
 
     /// Delivers the next message to the owner, where it may receive.
@@ -388,8 +400,12 @@ impl Lone {
                 self.create_session(session, *mode)?;
                 Ok(None)
             }
-            Request::CreateConsumer { consumer, topic } if owner.is(session, *consumer) => {
-                Ok(Some(self.create_consumer(alloc, owner, topic)?))
+            Request::CreateConsumer {
+                consumer,
+                topic,
+                selector,
+            } if owner.is(session, *consumer) => {
+                Ok(Some(self.create_consumer(alloc, owner, topic, selector)?))
             }
             Request::Receive { consumer, now } if owner.is(session, *consumer) => {
                 Ok(Some(self.receive(owner, *now)))
@@ -403,7 +419,7 @@ impl Lone {
         ensures { OnOk result (self.new ≡ (if spec.lone_accepts (scope owner.now).key self.old.definition message.now
             then record self.old { rows = self.old.rows ++ fresh message.now ∷ [] } else self.old)) }
     {
-        if accepts(&self.definition, owner, message) {
+        if accepts(&self.subscription, owner, message) {
             self.rows.push(Row {
                 message: message.copy()?,
                 count: 0,

@@ -16,7 +16,7 @@ use Rattle.jm_machine.specs.declared.call.ClientCall.TheVariants as call
 use Rattle.jmsrun.specs.Drafts.{draft}
 use Rattle.jmsrun.specs.Fields.{operation_named, is_known}
 use Rattle.jmsrun.specs.Reading.{where_true}
-use Rattle.jmsrun.specs.Values.{number, session, mode, name, moment, required}
+use Rattle.jmsrun.specs.Values.{number, session, mode, name, moment, required, optional}
 use Rattle.jmsrun.specs.declared.scenario.field.Owner.{Owner}
 use Rattle.jmsrun.specs.declared.scenario.field.Owner.TheVariants.{Scenario, Open, Start, Stop, Session, Consumer, Send, Receive}
 
@@ -30,11 +30,11 @@ session_call value =
     option_and_then (λ s. option_map (λ m. call.Ask (OfSession s) (request.CreateSession m)) (required mode (codes "mode") value))
     (required session (codes "s") value)
 
--- a new consumer of that topic
+-- a new consumer of that topic, with the text of the selector where the field stands
 abbrev pub consumer_call : Data → Option ClientCall
 consumer_call value =
-    option_and_then (λ s. option_and_then (λ k. option_map (λ t. call.Ask (OfSession s) (request.CreateConsumer k t))
-    (required name (codes "topic") value)) (required number (codes "k") value)) (required session (codes "s") value)
+    option_and_then (λ s. option_and_then (λ k. option_and_then (λ t. option_map (λ selector. call.Ask (OfSession s) (request.CreateConsumer k t selector))
+    (optional as_str (codes "selector") value)) (required name (codes "topic") value)) (required number (codes "k") value)) (required session (codes "s") value)
 
 -- a receive of that consumer at that moment
 abbrev pub receive_call : Data → Option ClientCall

@@ -19,6 +19,7 @@ field_name field.Mode = codes "mode"
 field_name field.Consumer = codes "k"
 field_name field.Queue = codes "queue"
 field_name field.Topic = codes "topic"
+field_name field.Selector = codes "selector"
 field_name field.Now = codes "now"
 field_name field.Priority = codes "priority"
 field_name field.Persistent = codes "persistent"
@@ -54,6 +55,7 @@ has Start name = bytes_eq name (codes "op") || bytes_eq name (codes "c")
 has Stop name = bytes_eq name (codes "op") || bytes_eq name (codes "c")
 has Session name = bytes_eq name (codes "op") || bytes_eq name (codes "s") || bytes_eq name (codes "mode")
 has Consumer name = bytes_eq name (codes "op") || bytes_eq name (codes "s") || bytes_eq name (codes "k") || bytes_eq name (codes "topic")
+    || bytes_eq name (codes "selector")
 has Send name = bytes_eq name (codes "op") || bytes_eq name (codes "s") || bytes_eq name (codes "topic") || bytes_eq name (codes "now")
     || is_draft_field name
 has Receive name = bytes_eq name (codes "op") || bytes_eq name (codes "s") || bytes_eq name (codes "k") || bytes_eq name (codes "now")

@@ -5,3 +5,6 @@ pub mod Values
 pub mod Drafts
 pub mod Calls
 pub mod Play
+pub mod Select
+pub mod Key
+pub mod Lone

@@ -1,5 +1,5 @@
 -- What a run of the program does (ours).
-use Rattle.std.specs.Prelude.{◌≡◌, ℕ, Bool, true, false, List, Option, Some, Result, Ok, Err, if◌then◌else◌}
+use Rattle.std.specs.Prelude.{◌≡◌, ℕ, Bool, true, false, List, Option, Some, None, Result, Ok, Err, IsUtf8, if◌then◌else◌}
 use Rattle.std.specs.List.{list_any}
 use Rattle.std.specs.Io.KnownBytes.{Appends}
 use Rattle.jm_base.specs.declared.refusal.Refusal.{Refusal}
@@ -8,6 +8,8 @@ use Rattle.jm_machine.specs.Client.{Progress, begun, RepliesFit}
 use Rattle.jm_machine.specs.Machine.{new_core}
 use Rattle.jm_machine.specs.declared.answer.Answer.{Answer}
 use Rattle.jm_machine.specs.declared.call.ClientCall.{ClientCall}
+use Rattle.jm_syntax.specs.Parse.{parsed}
+use Rattle.jm_syntax.specs.declared.fault.SyntaxFault.{SyntaxFault}
 use Rattle.jmsrun.specs.Calls.{calls_of_text}
 use Rattle.jmsrun.specs.Lines.{lines}
 use Rattle.jmsrun.specs.declared.play.Fault.{Fault}
@@ -35,9 +37,46 @@ status_of replies = if list_any is_shortage replies then 3 else 0
 abbrev pub status_of_fault : Fault → ℕ
 status_of_fault fault.File = 1
 status_of_fault (fault.Scenario _) = 1
+status_of_fault (fault.Selector _ _) = 1
+status_of_fault (fault.Key _) = 1
 status_of_fault fault.Memory = 3
 
 -- the lines of the replies to the calls that the bytes spell are written, and that is the status
 abbrev pub WritesLines : List ℕ → ℕ → Option (List ℕ) → Option (List ℕ) → Type 0
 WritesLines bytes status old new =
     (replies : List (Result Answer Refusal)) × Plays bytes replies × Appends old new (lines replies) × (status ≡ status_of replies)
+
+-- what is written is one of those texts
+abbrev pub Writes : (List ℕ → Type 0) → Option (List ℕ) → Option (List ℕ) → Type 0
+Writes Holds old new = (text : List ℕ) × Holds text × Appends old new text
+
+-- a fault of the scenario comes only where the bytes spell no calls
+abbrev pub IsFaultOfScenario : List ℕ → Fault → Type 0
+IsFaultOfScenario bytes (fault.Scenario _) = IsUtf8 bytes → calls_of_text bytes ≡ None
+IsFaultOfScenario bytes _ = Unit {0}
+
+-- the program's fault of a refused selector
+abbrev pub selector_fault : SyntaxFault → Fault
+selector_fault refused = fault.Selector refused.cause refused.at
+
+-- a fault of the selector comes only where the text has it
+abbrev pub IsFaultOfSelector : List ℕ → Fault → Type 0
+IsFaultOfSelector text (fault.Selector cause at) = parsed text ≡ Err (record { at = at; cause = cause })
+IsFaultOfSelector text _ = Unit {0}
+
+-- a fault of reading bytes: a read fails, or memory is refused
+abbrev pub IsFaultOfReading : Fault → Type 0
+IsFaultOfReading fault.File = Unit {0}
+IsFaultOfReading fault.Memory = Unit {0}
+IsFaultOfReading _ = ⊥
+
+-- a fault of reading a selector: the one that the text has, or memory is refused
+abbrev pub RefusesSelector : List ℕ → Fault → Type 0
+RefusesSelector text (fault.Selector cause at) = parsed text ≡ Err (record { at = at; cause = cause })
+RefusesSelector text fault.Memory = Unit {0}
+RefusesSelector text _ = ⊥
+
+-- the fault is none of a selector
+abbrev pub IsNoSelectorFault : Fault → Type 0
+IsNoSelectorFault (fault.Selector _ _) = ⊥
+IsNoSelectorFault _ = Unit {0}

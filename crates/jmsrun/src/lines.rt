@@ -1,52 +1,11 @@
 ghost use Rattle.std.specs.Prelude.{◌≡◌, ◌++◌, codes, decimal, string_bytes, IfOk};
 ghost use Rattle.jmsrun.specs.Lines as spec;
 
-use jm_base::{Cause, Refusal};
 use jm_dest::SessionId;
 use jm_header::{Body, Message};
 use jm_machine::{Answer, Delivery, Reply};
 use serde_json::Value;
 use std::alloc::{AllocError, Global};
-
-/// The name of the cause of a refused selector.
-fn cause_name(cause: Cause) -> &'static str
-    ensures { result.now ≡ spec.cause_name cause }
-{
-    match cause {
-        Cause::Token => "Token",
-        Cause::Expected => "Expected",
-        Cause::Kind => "Kind",
-        Cause::Number => "Number",
-        Cause::Floating => "Floating",
-        Cause::TooLong => "TooLong",
-        Cause::TooDeep => "TooDeep",
-        Cause::Memory => "Memory",
-    }
-}
-
-/// The name of the refusal, and for a selector its cause and offset. `AllocError` where a request
-/// for memory was refused.
-fn refusal_name(alloc: Global, refusal: Refusal) -> Result<String, AllocError>
-    ensures { IfOk result (λ text. string_bytes text ≡ spec.refusal_name refusal) }
-{
-    let name = match refusal {
-        Refusal::IllegalState => "IllegalState",
-        Refusal::BadName => "BadName",
-        Refusal::OutOfRange => "OutOfRange",
-        Refusal::MessageFormat => "MessageFormat",
-        Refusal::InvalidDestination => "InvalidDestination",
-        Refusal::InvalidSelector { at, cause } => {
-            let cause = cause_name(cause);
-            return format!(in alloc; "InvalidSelector {cause} {at}");
-        }
-        Refusal::InvalidClientId => "InvalidClientId",
-        Refusal::SubscriptionInUse => "SubscriptionInUse",
-        Refusal::Exhausted => "Exhausted",
-        Refusal::Memory => "Memory",
-        Refusal::Store => "Store",
-    };
-    String::from_str(alloc, name)
-}
 
 /// The text of a body. `AllocError` where a request for memory was refused.
 fn body_text(alloc: Global, body: &Body) -> Result<String, AllocError>
@@ -115,15 +74,12 @@ fn reply_text(alloc: Global, reply: &Reply) -> Result<String, AllocError>
         Ok(Answer::Sent(number)) => format!(in alloc; "sent {number}"),
         Ok(Answer::Nothing) => String::from_str(alloc, "none"),
         Ok(Answer::Delivered(delivery)) => delivery_text(alloc, delivery),
-        Err(refusal) => {
-            let name = refusal_name(alloc, *refusal)?;
-            format!(in alloc; "refused {name}")
-        }
+        Err(refusal) => format!(in alloc; "refused {refusal}"),
     }
 }
 
 /// The line of the reply of that number. `AllocError` where a request for memory was refused.
-fn line(alloc: Global, number: usize, reply: &Reply) -> Result<String, AllocError>
+pub(crate) fn line(alloc: Global, number: usize, reply: &Reply) -> Result<String, AllocError>
     ensures { IfOk result (λ text. string_bytes text ≡ spec.line number reply.now) }
 {
     let text = reply_text(alloc, reply)?;

@@ -1,11 +1,15 @@
-ghost use Rattle.std.specs.Prelude.{◌≡◌, ◌≢◌, Some, None, IfOk, IfSome};
+ghost use Rattle.std.specs.Prelude.{◌≡◌, ◌≢◌, Some, None, IfOk, IfErr, IfSome};
+ghost use Rattle.std.specs.Io.KnownBytes.{Appends};
 ghost use Rattle.std.specs.List.{list_any};
+ghost use Rattle.jmsrun.specs.Calls.{calls_of_text};
+ghost use Rattle.jmsrun.specs.Lone.{IsNoKeyFault};
 ghost use Rattle.jmsrun.specs.Play as spec;
-ghost use Rattle.jmsrun.specs.Play.{IsRun, Plays, WritesLines, status_of_fault};
+ghost use Rattle.jmsrun.specs.Play.{IsFaultOfScenario, IsRun, Plays, WritesLines, status_of_fault};
 
+use crate::key::KeyFault;
 use crate::lines::write_replies;
 use crate::scenario::{ScenarioFault, read_scenario};
-use jm_base::Refusal;
+use jm_base::{Cause, Refusal};
 use jm_core::Core;
 use jm_machine::{ClientCall, Reply};
 use std::alloc::{AllocError, Global};
@@ -17,7 +21,7 @@ const SCENARIO_MAX: usize = 16_777_216;
 const CHUNK: usize = 4096;
 
 /// The number of the only opening of a provider that keeps nothing.
-const OPENING: u32 = 1;
+pub(crate) const OPENING: u32 = 1;
 
 /// Why the program ends without the lines of its replies.
 #[derive(Debug, PartialEq, Drop, Error)]
@@ -28,6 +32,12 @@ pub enum Fault {
     /// The bytes are no scenario.
     #[error(transparent)]
     Scenario(ScenarioFault),
+    /// The selector is refused, at that offset in bytes.
+    #[error("selector: {cause} at {at}")]
+    Selector { cause: Cause, at: usize },
+    /// The text is no key of an unshared subscription.
+    #[error(transparent)]
+    Key(KeyFault),
     /// A request for memory was refused.
     #[error("memory")]
     Memory,
@@ -36,7 +46,7 @@ pub enum Fault {
 /// How a run of the program ends.
 #[derive(Debug, PartialEq, Drop)]
 pub struct Ending {
-    /// The exit status: 0; 1 for a fault of the file or the scenario, and for a failed write; 3
+    /// The exit status: 0; 1 for a fault of the file, the scenario, the selector or the key, and for a failed write; 3
     /// where a reply was `Memory` or `Store`, or the program found no memory.
     pub status: u8,
     /// What is printed on standard error.
@@ -56,7 +66,8 @@ impl From<AllocError> for Fault {
 
 /// The bytes of the reader to its end, in at most 16,777,217 reads.
 fn read_all<R: Read>(alloc: Global, reader: &mut R) -> Result<Vec<u8>, Fault>
-    ensures { IfOk result (λ bytes. IfSome (R.remaining reader.old) (λ all. bytes.items ≡ all)) }
+    ensures ok { IfOk result (λ bytes. IfSome (R.remaining reader.old) (λ all. bytes.items ≡ all)) }
+    ensures err { IfErr result spec.IsFaultOfReading }
 {
     let mut bytes = Vec::new(alloc);
     'reads: for _ in 0..SCENARIO_MAX + 1 {
@@ -77,7 +88,7 @@ fn read_all<R: Read>(alloc: Global, reader: &mut R) -> Result<Vec<u8>, Fault>
 
 /// The replies to the calls, made in turn on a new provider. `AllocError` where a request for memory
 /// was refused.
-fn run(alloc: Global, calls: Vec<ClientCall>) -> Result<Vec<Reply>, AllocError>
+pub(crate) fn run(alloc: Global, calls: Vec<ClientCall>) -> Result<Vec<Reply>, AllocError>
     ensures { IfOk result (λ replies. IsRun calls.items replies.items) }
 {
     match Core::new(alloc, OPENING) {
@@ -86,16 +97,28 @@ fn run(alloc: Global, calls: Vec<ClientCall>) -> Result<Vec<Reply>, AllocError>
     }
 }
 
-/// The replies to the calls of the scenario that the reader gives.
-fn replies_of<R: Read>(alloc: Global, reader: &mut R) -> Result<Vec<Reply>, Fault>
-    ensures { IfOk result (λ replies. IfSome (R.remaining reader.old) (λ all. Plays all replies.items)) }
+/// The calls of the scenario that the reader gives.
+pub(crate) fn calls_of<R: Read>(alloc: Global, reader: &mut R) -> Result<Vec<ClientCall>, Fault>
+    ensures ok { IfOk result (λ calls. IfSome (R.remaining reader.old) (λ all. calls_of_text all ≡ Some calls.items)) }
+    ensures err { IfErr result (λ fault. IfSome (R.remaining reader.old) (λ all. IsFaultOfScenario all fault)) }
+    ensures scenario { IfErr result spec.IsNoSelectorFault }
+    ensures key { IfErr result IsNoKeyFault }
 {
     let bytes = read_all(alloc, reader)?;
     match read_scenario(alloc, bytes.as_slice()) {
-        Ok(calls) => Ok(run(alloc, calls)?),
+        Ok(calls) => Ok(calls),
         Err(ScenarioFault::Memory) => Err(Fault::Memory),
         Err(fault) => Err(Fault::Scenario(fault)),
     }
+}
+
+/// The replies to the calls of the scenario that the reader gives.
+fn replies_of<R: Read>(alloc: Global, reader: &mut R) -> Result<Vec<Reply>, Fault>
+    ensures ok { IfOk result (λ replies. IfSome (R.remaining reader.old) (λ all. Plays all replies.items)) }
+    ensures err { IfErr result (λ fault. IfSome (R.remaining reader.old) (λ all. IsFaultOfScenario all fault)) }
+{
+    let calls = calls_of(alloc, reader)?;
+    Ok(run(alloc, calls)?)
 }
 
 /// Whether the provider found no memory for a call, or its store failed.
@@ -112,19 +135,19 @@ fn has_shortage(replies: &[Reply]) -> bool
 }
 
 /// The exit status where those replies were written.
-fn status_of(replies: &[Reply]) -> u8
+pub(crate) fn status_of(replies: &[Reply]) -> u8
     ensures { result ≡ spec.status_of replies.now }
 {
     if has_shortage(replies) { 3 } else { 0 }
 }
 
 /// The ending of that fault.
-fn ended(fault: Fault) -> Ending
+pub(crate) fn ended(fault: Fault) -> Ending
     ensures { result ≡ record { status = status_of_fault fault; fault = Some fault } }
 {
     let status = match &fault {
         Fault::Memory => 3,
-        Fault::File | Fault::Scenario(_) => 1,
+        Fault::File | Fault::Scenario(_) | Fault::Selector { .. } | Fault::Key(_) => 1,
     };
     Ending {
         status,
@@ -132,21 +155,11 @@ fn ended(fault: Fault) -> Ending
     }
 }
 
-/// Reads a scenario, makes its calls on a new provider, and writes the line of each reply.
-pub fn play<R: Read, W: Write>(alloc: Global, reader: &mut R, writer: &mut W) -> Ending
-    ensures fault { IfSome result.fault
-        (λ fault. (writer.new ≡ writer.old) × (result.status ≡ status_of_fault fault)) }
-    ensures lines { result.fault ≡ None → result.status ≢ 1 → IfSome (R.remaining reader.old)
-        (λ all. WritesLines all result.status (W.contents writer.old) (W.contents writer.new)) }
+/// Writes the lines, and ends with that status; where a write fails with status 1.
+pub(crate) fn written<W: Write>(writer: &mut W, lines: &str, status: u8) -> Ending
+    ensures fault { result.fault ≡ None }
+    ensures lines { result.status ≢ 1 → (result.status ≡ status) × Appends (W.contents writer.old) (W.contents writer.new) lines.now }
 {
-    let replies = match replies_of(alloc, reader) {
-        Ok(replies) => replies,
-        Err(fault) => return ended(fault),
-    };
-    let lines = match write_replies(alloc, &replies) {
-        Ok(lines) => lines,
-        Err(_) => return ended(Fault::Memory),
-    };
     if writer.write_all(lines.as_bytes()).is_err() || writer.flush().is_err() {
         return Ending {
             status: 1,
@@ -154,7 +167,24 @@ pub fn play<R: Read, W: Write>(alloc: Global, reader: &mut R, writer: &mut W) ->
         };
     }
     Ending {
-        status: status_of(&replies),
+        status,
         fault: None,
+    }
+}
+
+/// Reads a scenario, makes its calls on a new provider, and writes the line of each reply.
+pub fn play<R: Read, W: Write>(alloc: Global, reader: &mut R, writer: &mut W) -> Ending
+    ensures fault { IfSome result.fault (λ fault. (writer.new ≡ writer.old) × (result.status ≡ status_of_fault fault)) }
+    ensures scenario { IfSome result.fault (λ fault. IfSome (R.remaining reader.old) (λ all. IsFaultOfScenario all fault)) }
+    ensures lines { result.fault ≡ None → result.status ≢ 1 → IfSome (R.remaining reader.old)
+        (λ all. WritesLines all result.status (W.contents writer.old) (W.contents writer.new)) }
+{
+    let replies = match replies_of(alloc, reader) {
+        Ok(replies) => replies,
+        Err(fault) => return ended(fault),
+    };
+    match write_replies(alloc, &replies) {
+        Ok(lines) => written(writer, lines.as_str(), status_of(&replies)),
+        Err(_) => ended(Fault::Memory),
     }
 }

@@ -99,8 +99,7 @@ fn fault_at(step: usize, misfit: Misfit) -> ScenarioFault
 
 /// The calls of the records, in order; or the fault of the first record that has one.
 fn calls(alloc: Global, records: &[Value]) -> Result<Vec<ClientCall>, ScenarioFault>
-    ensures { MatchResult result
-        (λ calls. spec.calls_of_items (items_view records.now) ≡ Some calls.items)
+    ensures { MatchResult result (λ calls. spec.calls_of_items (items_view records.now) ≡ Some calls.items)
         (λ fault. fault ≢ ScenarioFault.Memory → spec.calls_of_items (items_view records.now) ≡ None) }
 {
     let mut calls = Vec::with_capacity(alloc, records.len())?;
@@ -115,9 +114,7 @@ fn calls(alloc: Global, records: &[Value]) -> Result<Vec<ClientCall>, ScenarioFa
 
 /// The calls that the value spells, in order.
 fn scenario(alloc: Global, value: &Value) -> Result<Vec<ClientCall>, ScenarioFault>
-    ensures { MatchResult result
-        (λ calls. spec.calls (view value.now) ≡ Some calls.items)
-        (λ fault. fault ≢ ScenarioFault.Memory → spec.calls (view value.now) ≡ None) }
+    ensures { MatchResult result (λ calls. spec.calls (view value.now) ≡ Some calls.items) (λ fault. fault ≢ ScenarioFault.Memory → spec.calls (view value.now) ≡ None) }
 {
     let Some(records) = value.get("calls").and_then(Value::as_array) else {
         return Err(fault_at(0, Misfit::Shape(Field::Calls)));
@@ -132,10 +129,8 @@ fn scenario(alloc: Global, value: &Value) -> Result<Vec<ClientCall>, ScenarioFau
 /// the outer object, else of the first call that has one, in the order of its fields; or `Memory`
 /// where a request for memory was refused.
 pub fn read_scenario(alloc: Global, bytes: &[u8]) -> Result<Vec<ClientCall>, ScenarioFault>
-    ensures ok { IfOk result (λ calls. IsUtf8 bytes.now
-        × (spec.calls_of_text bytes.now ≡ Some calls.items)) }
-    ensures err { IfErr result (λ fault. fault ≢ ScenarioFault.Memory → IsUtf8 bytes.now
-        → spec.calls_of_text bytes.now ≡ None) }
+    ensures ok { IfOk result (λ calls. IsUtf8 bytes.now × (spec.calls_of_text bytes.now ≡ Some calls.items)) }
+    ensures err { IfErr result (λ fault. fault ≢ ScenarioFault.Memory → IsUtf8 bytes.now → spec.calls_of_text bytes.now ≡ None) }
 {
     match Value::from_slice(alloc, bytes) {
         Ok(value) => scenario(alloc, &value),

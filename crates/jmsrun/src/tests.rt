@@ -1,3 +1,7 @@
+mod faults;
+mod lone;
+mod select;
+
 use crate::lines::write_replies;
 use crate::play::{Ending, Fault, play};
 use crate::scenario::{Field, FieldName, ScenarioFault, read_scenario};
@@ -216,48 +220,6 @@ fn properties_and_writes(rt: HostRuntime) {
 #[test]
 fn no_calls(rt: HostRuntime) {
     plays(&rt, rt.alloc(), "{\"calls\":[]}", "");
-}
-
-/// Scenarios, and the text of the fault of each.
-const FAULTS: [(&str, &str); 8] = [
-    ("{", "scenario: syntax"),
-    ("{}", "scenario: step 0: field calls"),
-    ("{\"held\":1,\"calls\":[1]}", "scenario: step 0: field held"),
-    (
-        "{\"calls\":[{\"op\":\"join\"}]}",
-        "scenario: step 1: field op",
-    ),
-    (
-        "{\"calls\":[{\"op\":\"open\",\"c\":1.0}]}",
-        "scenario: step 1: floating",
-    ),
-    (
-        "{\"calls\":[{\"op\":\"receive\",\"s\":[1,1],\"k\":1,\"now\":1.5}]}",
-        "scenario: step 1: floating",
-    ),
-    (
-        "{\"calls\":[{\"op\":\"receive\",\"s\":[1,1],\"k\":1}]}",
-        "scenario: step 1: field now",
-    ),
-    (
-        "{\"calls\":[{\"op\":\"send\",\"s\":[1,1],\"topic\":\"t\",\"now\":1,\"text\":\"a\",\"bytes\":\"00\"}]}",
-        "scenario: step 1: field bytes",
-    ),
-];
-
-#[test]
-fn scenario_faults(rt: HostRuntime) -> Result<(), Fail> {
-    let alloc = rt.alloc();
-    for (scenario, text) in FAULTS {
-        let (ending, written) = played(alloc, scenario);
-        assert!(rt; ending.status == 1 && written.is_empty());
-        let told = match &ending.fault {
-            Some(fault) => format!(in alloc; "{fault}")?,
-            None => String::new(alloc),
-        };
-        assert_eq!(rt; told.as_str(), text, "for {scenario}");
-    }
-    Ok(())
 }
 
 /// Reads whose every byte is a blank; the one of that number fails.

@@ -5,69 +5,74 @@ ghost use Rattle.jmsrun.specs.Reading.{Reads, ReadsExactly};
 
 use super::draft::draft;
 use super::field::{Owner, not_known, unknown};
-use super::value::{connection, consumer, mode, now, session, topic};
+use super::value::{connection, consumer, mode, now, selector, session, topic};
 use super::{Field, Misfit};
 use jm_dest::Destination;
 use jm_machine::{ClientCall, Request, Who};
 use serde_json::Value;
 use std::alloc::Global;
 
-/// The operation of the record.
-fn operation(record: &Value) -> Result<Owner, Misfit>
-    ensures { ReadsExactly result (spec.operation (view record.now)) }
+/// The operation of the object.
+fn operation(object: &Value) -> Result<Owner, Misfit>
+    ensures { ReadsExactly result (spec.operation (view object.now)) }
 {
-    let name = record.get(Field::Operation.name()).and_then(Value::as_str);
+    let name = object.get(Field::Operation.name()).and_then(Value::as_str);
     match name.and_then(Owner::of_operation) {
         Some(operation) => Ok(operation),
         None => Err(Misfit::Shape(Field::Operation)),
     }
 }
 
-/// A call by the connection of the record.
-fn by_connection(record: &Value, request: Request) -> Result<ClientCall, Misfit>
-    ensures { ReadsExactly result (spec.connection_call request (view record.now)) }
+/// A call by the connection of the object.
+fn by_connection(object: &Value, request: Request) -> Result<ClientCall, Misfit>
+    ensures { ReadsExactly result (spec.connection_call request (view object.now)) }
 {
-    let who = Who::Connection(connection(record)?);
+    let who = Who::Connection(connection(object)?);
     Ok(ClientCall::Ask { who, request })
 }
 
-fn create_session(record: &Value) -> Result<ClientCall, Misfit>
-    ensures { ReadsExactly result (spec.session_call (view record.now)) }
+fn create_session(object: &Value) -> Result<ClientCall, Misfit>
+    ensures { ReadsExactly result (spec.session_call (view object.now)) }
 {
-    let who = Who::Session(session(record)?);
-    let mode = mode(record)?;
+    let who = Who::Session(session(object)?);
+    let mode = mode(object)?;
     let request = Request::CreateSession { mode };
     Ok(ClientCall::Ask { who, request })
 }
 
-fn create_consumer(alloc: Global, record: &Value) -> Result<ClientCall, Misfit>
-    ensures { Reads result (spec.consumer_call (view record.now)) }
+fn create_consumer(alloc: Global, object: &Value) -> Result<ClientCall, Misfit>
+    ensures { Reads result (spec.consumer_call (view object.now)) }
 {
-    let who = Who::Session(session(record)?);
-    let consumer = consumer(record)?;
-    let topic = topic(alloc, record)?;
-    let request = Request::CreateConsumer { consumer, topic };
+    let who = Who::Session(session(object)?);
+    let consumer = consumer(object)?;
+    let topic = topic(alloc, object)?;
+    let selector = selector(alloc, object)?;
+    let request = Request::CreateConsumer {
+        consumer,
+        topic,
+        selector,
+    };
     Ok(ClientCall::Ask { who, request })
 }
 
-fn receive(record: &Value) -> Result<ClientCall, Misfit>
-    ensures { ReadsExactly result (spec.receive_call (view record.now)) }
+fn receive(object: &Value) -> Result<ClientCall, Misfit>
+    ensures { ReadsExactly result (spec.receive_call (view object.now)) }
 {
-    let who = Who::Session(session(record)?);
-    let consumer = consumer(record)?;
-    let now = now(record)?;
+    let who = Who::Session(session(object)?);
+    let consumer = consumer(object)?;
+    let now = now(object)?;
     let request = Request::Receive { consumer, now };
     Ok(ClientCall::Ask { who, request })
 }
 
-/// A send of the record's draft. `Memory` where a request for memory was refused.
-fn send(alloc: Global, record: &Value) -> Result<ClientCall, Misfit>
-    ensures { Reads result (spec.send_call (view record.now)) }
+/// A send of the object's draft. `Memory` where a request for memory was refused.
+fn send(alloc: Global, object: &Value) -> Result<ClientCall, Misfit>
+    ensures { Reads result (spec.send_call (view object.now)) }
 {
-    let session = session(record)?;
-    let destination = Destination::Topic(topic(alloc, record)?);
-    let now = now(record)?;
-    let draft = draft(alloc, record)?;
+    let session = session(object)?;
+    let destination = Destination::Topic(topic(alloc, object)?);
+    let now = now(object)?;
+    let draft = draft(alloc, object)?;
     Ok(ClientCall::Send {
         session,
         draft,
@@ -76,29 +81,29 @@ fn send(alloc: Global, record: &Value) -> Result<ClientCall, Misfit>
     })
 }
 
-/// The call that the record spells, but for fields that its operation does not have.
-fn call_as(alloc: Global, record: &Value, operation: Owner) -> Result<ClientCall, Misfit>
-    ensures { Reads result (spec.call_as operation (view record.now)) }
+/// The call that the object spells, but for fields that its operation does not have.
+fn call_as(alloc: Global, object: &Value, operation: Owner) -> Result<ClientCall, Misfit>
+    ensures { Reads result (spec.call_as operation (view object.now)) }
 {
     match operation {
         Owner::Scenario => Err(Misfit::Shape(Field::Operation)),
-        Owner::Open => by_connection(record, Request::Open),
-        Owner::Start => by_connection(record, Request::Start),
-        Owner::Stop => by_connection(record, Request::Stop),
-        Owner::Session => create_session(record),
-        Owner::Consumer => create_consumer(alloc, record),
-        Owner::Send => send(alloc, record),
-        Owner::Receive => receive(record),
+        Owner::Open => by_connection(object, Request::Open),
+        Owner::Start => by_connection(object, Request::Start),
+        Owner::Stop => by_connection(object, Request::Stop),
+        Owner::Session => create_session(object),
+        Owner::Consumer => create_consumer(alloc, object),
+        Owner::Send => send(alloc, object),
+        Owner::Receive => receive(object),
     }
 }
 
-/// The call that the record spells.
-pub(super) fn call(alloc: Global, record: &Value) -> Result<ClientCall, Misfit>
-    ensures { Reads result (spec.call_of (view record.now)) }
+/// The call that the object spells.
+pub(super) fn call(alloc: Global, object: &Value) -> Result<ClientCall, Misfit>
+    ensures { Reads result (spec.call_of (view object.now)) }
 {
-    let operation = operation(record)?;
-    let call = call_as(alloc, record, operation)?;
-    match unknown(record, operation) {
+    let operation = operation(object)?;
+    let call = call_as(alloc, object, operation)?;
+    match unknown(object, operation) {
         Some(name) => Err(not_known(alloc, name)),
         None => Ok(call),
     }

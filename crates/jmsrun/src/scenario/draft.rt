@@ -14,11 +14,11 @@ use serde_json::Value;
 use std::alloc::Global;
 
 /// The draft with the priority of the field `priority`, where it stands.
-fn with_priority(record: &Value, draft: Draft) -> Result<Draft, Misfit>
-    ensures { ReadsExactly result (spec.with_priority (view record.now) draft) }
+fn with_priority(object: &Value, draft: Draft) -> Result<Draft, Misfit>
+    ensures { ReadsExactly result (spec.with_priority (view object.now) draft) }
 {
     let mut draft = draft;
-    let Some(value) = optional(record, Field::Priority) else {
+    let Some(value) = optional(object, Field::Priority) else {
         return Ok(draft);
     };
     match value.as_u64() {
@@ -31,11 +31,11 @@ fn with_priority(record: &Value, draft: Draft) -> Result<Draft, Misfit>
 }
 
 /// The draft with the delivery mode of the field `persistent`, where it stands.
-fn with_persistence(record: &Value, draft: Draft) -> Result<Draft, Misfit>
-    ensures { ReadsExactly result (spec.with_persistence (view record.now) draft) }
+fn with_persistence(object: &Value, draft: Draft) -> Result<Draft, Misfit>
+    ensures { ReadsExactly result (spec.with_persistence (view object.now) draft) }
 {
     let mut draft = draft;
-    let Some(value) = optional(record, Field::Persistent) else {
+    let Some(value) = optional(object, Field::Persistent) else {
         return Ok(draft);
     };
     match value.as_bool() {
@@ -47,11 +47,11 @@ fn with_persistence(record: &Value, draft: Draft) -> Result<Draft, Misfit>
 }
 
 /// The draft with the time to live of the field `ttl`, where it stands.
-fn with_time_to_live(record: &Value, draft: Draft) -> Result<Draft, Misfit>
-    ensures { ReadsExactly result (spec.with_time_to_live (view record.now) draft) }
+fn with_time_to_live(object: &Value, draft: Draft) -> Result<Draft, Misfit>
+    ensures { ReadsExactly result (spec.with_time_to_live (view object.now) draft) }
 {
     let mut draft = draft;
-    let Some(value) = optional(record, Field::TimeToLive) else {
+    let Some(value) = optional(object, Field::TimeToLive) else {
         return Ok(draft);
     };
     let Some(milliseconds) = value.as_i64() else {
@@ -65,11 +65,11 @@ fn with_time_to_live(record: &Value, draft: Draft) -> Result<Draft, Misfit>
 
 /// The draft with JMSCorrelationID of the field `correlation`, where it stands. `Memory` where a
 /// request for memory was refused.
-fn with_correlation(record: &Value, draft: Draft) -> Result<Draft, Misfit>
-    ensures { Reads result (spec.with_correlation (view record.now) draft) }
+fn with_correlation(object: &Value, draft: Draft) -> Result<Draft, Misfit>
+    ensures { Reads result (spec.with_correlation (view object.now) draft) }
 {
     let mut draft = draft;
-    if let Some(correlation) = optional_text(record, Field::Correlation)? {
+    if let Some(correlation) = optional_text(object, Field::Correlation)? {
         if draft.set_correlation(correlation).is_err() {
             return Err(Misfit::Memory);
         }
@@ -79,11 +79,11 @@ fn with_correlation(record: &Value, draft: Draft) -> Result<Draft, Misfit>
 
 /// The draft with JMSType of the field `type`, where it stands. `Memory` where a request for memory
 /// was refused.
-fn with_type(record: &Value, draft: Draft) -> Result<Draft, Misfit>
-    ensures { Reads result (spec.with_type (view record.now) draft) }
+fn with_type(object: &Value, draft: Draft) -> Result<Draft, Misfit>
+    ensures { Reads result (spec.with_type (view object.now) draft) }
 {
     let mut draft = draft;
-    if let Some(message_type) = optional_text(record, Field::Type)? {
+    if let Some(message_type) = optional_text(object, Field::Type)? {
         if draft.set_type(message_type).is_err() {
             return Err(Misfit::Memory);
         }
@@ -101,9 +101,7 @@ fn has_no_capital(digits: &[u8]) -> bool
 
 /// The bytes of the text: pairs of lower-case hexadecimal digits.
 fn bytes_of(alloc: Global, pairs: &str) -> Result<Vec<u8>, Misfit>
-    ensures { MatchResult result
-        (λ bytes. spec.bytes_of pairs.now ≡ Some bytes.items)
-        (λ misfit. misfit ≢ Misfit.Memory → spec.bytes_of pairs.now ≡ None) }
+    ensures { MatchResult result (λ bytes. spec.bytes_of pairs.now ≡ Some bytes.items) (λ misfit. misfit ≢ Misfit.Memory → spec.bytes_of pairs.now ≡ None) }
 {
     if !has_no_capital(pairs.as_bytes()) {
         return Err(Misfit::Shape(Field::Bytes));
@@ -140,12 +138,12 @@ fn with_bytes(alloc: Global, value: &Value, draft: Draft) -> Result<Draft, Misfi
 
 /// The draft with the body of the field `text` or `bytes`, where one of them stands. `Memory` where
 /// a request for memory was refused.
-fn with_body(alloc: Global, record: &Value, draft: Draft) -> Result<Draft, Misfit>
-    ensures { Reads result (spec.with_body (view record.now) draft) }
+fn with_body(alloc: Global, object: &Value, draft: Draft) -> Result<Draft, Misfit>
+    ensures { Reads result (spec.with_body (view object.now) draft) }
 {
     match (
-        optional(record, Field::Text),
-        optional(record, Field::Bytes),
+        optional(object, Field::Text),
+        optional(object, Field::Bytes),
     ) {
         (None, None) => Ok(draft),
         (Some(text), None) => with_text(text, draft),
@@ -192,8 +190,7 @@ fn property(alloc: Global, type_name: &str, value: &Value) -> Result<Property, M
 /// Sets the property, where its name may have that value. `Memory` where a request for memory was
 /// refused.
 fn set_allowed(draft: &mut Draft, name: &str, property: Property) -> Result<(), Misfit>
-    ensures { MatchResult result
-        (λ _. spec.with_allowed name.now draft.old property ≡ Some draft.new)
+    ensures { MatchResult result (λ _. spec.with_allowed name.now draft.old property ≡ Some draft.new)
         (λ misfit. misfit ≢ Misfit.Memory → spec.with_allowed name.now draft.old property ≡ None) }
 {
     match draft.set_property(name, property) {
@@ -211,9 +208,7 @@ fn set_property(
     type_name: &Value,
     value: &Value,
 ) -> Result<(), Misfit>
-    ensures { MatchResult result
-        (λ _. spec.with_named (view name.now) (view type_name.now) (view value.now) draft.old ≡ Some draft.new)
-        (λ misfit. misfit ≢ Misfit.Memory
+    ensures { MatchResult result (λ _. spec.with_named (view name.now) (view type_name.now) (view value.now) draft.old ≡ Some draft.new) (λ misfit. misfit ≢ Misfit.Memory
         → spec.with_named (view name.now) (view type_name.now) (view value.now) draft.old ≡ None) }
 {
     let name = text(name, Field::Properties)?;
@@ -225,8 +220,7 @@ fn set_property(
 /// Sets the property of an array of name, type and value. `Memory` where a request for memory was
 /// refused.
 fn set_entry(alloc: Global, draft: &mut Draft, entry: &Value) -> Result<(), Misfit>
-    ensures { MatchResult result
-        (λ _. spec.with_entry (view entry.now) draft.old ≡ Some draft.new)
+    ensures { MatchResult result (λ _. spec.with_entry (view entry.now) draft.old ≡ Some draft.new)
         (λ misfit. misfit ≢ Misfit.Memory → spec.with_entry (view entry.now) draft.old ≡ None) }
 {
     let Some(parts) = entry.as_array() else {
@@ -241,8 +235,7 @@ fn set_entry(alloc: Global, draft: &mut Draft, entry: &Value) -> Result<(), Misf
 
 /// Sets the properties of the entries in turn. `Memory` where a request for memory was refused.
 fn set_entries(alloc: Global, draft: &mut Draft, entries: &[Value]) -> Result<(), Misfit>
-    ensures { MatchResult result
-        (λ _. spec.with_entries (items_view entries.now) draft.old ≡ Some draft.new)
+    ensures { MatchResult result (λ _. spec.with_entries (items_view entries.now) draft.old ≡ Some draft.new)
         (λ misfit. misfit ≢ Misfit.Memory → spec.with_entries (items_view entries.now) draft.old ≡ None) }
 {
     for entry in entries {
@@ -253,11 +246,11 @@ fn set_entries(alloc: Global, draft: &mut Draft, entries: &[Value]) -> Result<()
 
 /// The draft with the properties of the field `props`, where it stands. `Memory` where a request for
 /// memory was refused.
-fn with_properties(alloc: Global, record: &Value, draft: Draft) -> Result<Draft, Misfit>
-    ensures { Reads result (spec.with_properties (view record.now) draft) }
+fn with_properties(alloc: Global, object: &Value, draft: Draft) -> Result<Draft, Misfit>
+    ensures { Reads result (spec.with_properties (view object.now) draft) }
 {
     let mut draft = draft;
-    let Some(value) = optional(record, Field::Properties) else {
+    let Some(value) = optional(object, Field::Properties) else {
         return Ok(draft);
     };
     let Some(entries) = value.as_array() else {
@@ -267,22 +260,22 @@ fn with_properties(alloc: Global, record: &Value, draft: Draft) -> Result<Draft,
     Ok(draft)
 }
 
-/// The draft with the header fields of the record.
-fn with_header(record: &Value, draft: Draft) -> Result<Draft, Misfit>
-    ensures { Reads result (spec.with_header (view record.now) draft) }
+/// The draft with the header fields of the object.
+fn with_header(object: &Value, draft: Draft) -> Result<Draft, Misfit>
+    ensures { Reads result (spec.with_header (view object.now) draft) }
 {
-    let draft = with_priority(record, draft)?;
-    let draft = with_persistence(record, draft)?;
-    let draft = with_time_to_live(record, draft)?;
-    let draft = with_correlation(record, draft)?;
-    with_type(record, draft)
+    let draft = with_priority(object, draft)?;
+    let draft = with_persistence(object, draft)?;
+    let draft = with_time_to_live(object, draft)?;
+    let draft = with_correlation(object, draft)?;
+    with_type(object, draft)
 }
 
-/// The draft that the record spells. `Memory` where a request for memory was refused.
-pub(super) fn draft(alloc: Global, record: &Value) -> Result<Draft, Misfit>
-    ensures { Reads result (spec.draft (view record.now)) }
+/// The draft that the object spells. `Memory` where a request for memory was refused.
+pub(super) fn draft(alloc: Global, object: &Value) -> Result<Draft, Misfit>
+    ensures { Reads result (spec.draft (view object.now)) }
 {
-    let draft = with_header(record, Draft::new(alloc))?;
-    let draft = with_properties(alloc, record, draft)?;
-    with_body(alloc, record, draft)
+    let draft = with_header(object, Draft::new(alloc))?;
+    let draft = with_properties(alloc, object, draft)?;
+    with_body(alloc, object, draft)
 }

@@ -19,6 +19,7 @@ pub enum Field {
     Consumer,
     Queue,
     Topic,
+    Selector,
     Now,
     Priority,
     Persistent,
@@ -65,6 +66,7 @@ impl Field {
             Field::Consumer => "k",
             Field::Queue => "queue",
             Field::Topic => "topic",
+            Field::Selector => "selector",
             Field::Now => "now",
             Field::Priority => "priority",
             Field::Persistent => "persistent",
@@ -120,7 +122,7 @@ impl Owner {
             Owner::Scenario => matches!(name, "calls"),
             Owner::Open | Owner::Start | Owner::Stop => matches!(name, "op" | "c"),
             Owner::Session => matches!(name, "op" | "s" | "mode"),
-            Owner::Consumer => matches!(name, "op" | "s" | "k" | "topic"),
+            Owner::Consumer => matches!(name, "op" | "s" | "k" | "topic" | "selector"),
             Owner::Send => matches!(name, "op" | "s" | "topic" | "now") || is_draft_field(name),
             Owner::Receive => matches!(name, "op" | "s" | "k" | "now"),
         }
@@ -140,12 +142,12 @@ fn unknown_member(members: &Map<String, Value>, owner: Owner) -> Option<&str>
     None
 }
 
-/// The first field of the record, in the order of bytes, that its owner does not have.
-pub(super) fn unknown(record: &Value, owner: Owner) -> Option<&str>
-    ensures none { IfNone result (spec.is_known owner (view record.now) ≡ true) }
-    ensures some { OnSome result (spec.is_known owner (view record.now) ≡ false) }
+/// The first field of the object, in the order of bytes, that its owner does not have.
+pub(super) fn unknown(object: &Value, owner: Owner) -> Option<&str>
+    ensures none { IfNone result (spec.is_known owner (view object.now) ≡ true) }
+    ensures some { OnSome result (spec.is_known owner (view object.now) ≡ false) }
 {
-    match record.as_object() {
+    match object.as_object() {
         Some(members) => unknown_member(members, owner),
         None => None,
     }

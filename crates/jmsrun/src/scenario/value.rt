@@ -6,7 +6,7 @@ ghost use Rattle.jmsrun.specs.Reading.{Reads, ReadsExactly, where_true};
 ghost use Rattle.jmsrun.specs.Values as spec;
 
 use super::{Field, Misfit};
-use jm_base::{Mode, Refusal};
+use jm_base::{Mode, Refusal, Str};
 use jm_dest::{ConnectionId, ConsumerId, Moment, Name, SessionId};
 use serde_json::Value;
 use std::alloc::Global;
@@ -23,12 +23,11 @@ pub(super) fn misfit(value: &Value, field: Field) -> Misfit
 }
 
 /// The value of a field that has to stand.
-fn required(record: &Value, field: Field) -> Result<&Value, Misfit>
-    ensures { MatchResult result
-        (λ value. get (field_name field) (view record.now) ≡ Some (view value.now))
-        (λ misfit. (misfit ≢ Misfit.Memory) × (get (field_name field) (view record.now) ≡ None)) }
+fn required(object: &Value, field: Field) -> Result<&Value, Misfit>
+    ensures { MatchResult result (λ value. get (field_name field) (view object.now) ≡ Some (view value.now))
+        (λ misfit. (misfit ≢ Misfit.Memory) × (get (field_name field) (view object.now) ≡ None)) }
 {
-    match record.get(field.name()) {
+    match object.get(field.name()) {
         Some(value) => Ok(value),
         None => Err(Misfit::Shape(field)),
     }
@@ -47,9 +46,7 @@ fn number(value: &Value, field: Field) -> Result<u32, Misfit>
 
 /// The text of the field.
 pub(super) fn text(value: &Value, field: Field) -> Result<&str, Misfit>
-    ensures { MatchResult result
-        (λ text. as_str (view value.now) ≡ Some text.now)
-        (λ misfit. (misfit ≢ Misfit.Memory) × (as_str (view value.now) ≡ None)) }
+    ensures { MatchResult result (λ text. as_str (view value.now) ≡ Some text.now) (λ misfit. (misfit ≢ Misfit.Memory) × (as_str (view value.now) ≡ None)) }
 {
     match value.as_str() {
         Some(text) => Ok(text),
@@ -69,16 +66,15 @@ fn connection_of(value: &Value, field: Field) -> Result<ConnectionId, Misfit>
 }
 
 /// The connection of the field `c`.
-pub(super) fn connection(record: &Value) -> Result<ConnectionId, Misfit>
-    ensures { ReadsExactly result (spec.required spec.number (codes "c") (view record.now)) }
+pub(super) fn connection(object: &Value) -> Result<ConnectionId, Misfit>
+    ensures { ReadsExactly result (spec.required spec.number (codes "c") (view object.now)) }
 {
-    connection_of(required(record, Field::Connection)?, Field::Connection)
+    connection_of(required(object, Field::Connection)?, Field::Connection)
 }
 
 /// The session of those two numbers.
 fn session_of(connection: &Value, number_value: &Value) -> Result<SessionId, Misfit>
-    ensures { ReadsExactly result
-        (spec.session_of_numbers (spec.number (view connection.now)) (spec.number (view number_value.now))) }
+    ensures { ReadsExactly result (spec.session_of_numbers (spec.number (view connection.now)) (spec.number (view number_value.now))) }
 {
     let connection = connection_of(connection, Field::Session)?;
     let number = number(number_value, Field::Session)?;
@@ -103,17 +99,17 @@ fn session_in(value: &Value) -> Result<SessionId, Misfit>
 }
 
 /// The session of the field `s`: its connection, and its number there.
-pub(super) fn session(record: &Value) -> Result<SessionId, Misfit>
-    ensures { ReadsExactly result (spec.required spec.session (codes "s") (view record.now)) }
+pub(super) fn session(object: &Value) -> Result<SessionId, Misfit>
+    ensures { ReadsExactly result (spec.required spec.session (codes "s") (view object.now)) }
 {
-    session_in(required(record, Field::Session)?)
+    session_in(required(object, Field::Session)?)
 }
 
 /// The consumer of the field `k`.
-pub(super) fn consumer(record: &Value) -> Result<ConsumerId, Misfit>
-    ensures { ReadsExactly result (spec.required spec.number (codes "k") (view record.now)) }
+pub(super) fn consumer(object: &Value) -> Result<ConsumerId, Misfit>
+    ensures { ReadsExactly result (spec.required spec.number (codes "k") (view object.now)) }
 {
-    let value = required(record, Field::Consumer)?;
+    let value = required(object, Field::Consumer)?;
     let number = number(value, Field::Consumer)?;
     match ConsumerId::new(number) {
         Ok(id) => Ok(id),
@@ -122,10 +118,10 @@ pub(super) fn consumer(record: &Value) -> Result<ConsumerId, Misfit>
 }
 
 /// The acknowledgement mode of the field `mode`.
-pub(super) fn mode(record: &Value) -> Result<Mode, Misfit>
-    ensures { ReadsExactly result (spec.required spec.mode (codes "mode") (view record.now)) }
+pub(super) fn mode(object: &Value) -> Result<Mode, Misfit>
+    ensures { ReadsExactly result (spec.required spec.mode (codes "mode") (view object.now)) }
 {
-    let value = required(record, Field::Mode)?;
+    let value = required(object, Field::Mode)?;
     match text(value, Field::Mode)? {
         "auto" => Ok(Mode::Auto),
         _ => Err(Misfit::Shape(Field::Mode)),
@@ -143,12 +139,12 @@ fn name_of(alloc: Global, value: &Value, field: Field) -> Result<Name, Misfit>
     }
 }
 
-/// The name of the field `topic`. A record without it has no destination, which is told at `queue`.
+/// The name of the field `topic`. An object without it has no destination, which is told at `queue`.
 /// `Memory` where a request for memory was refused.
-pub(super) fn topic(alloc: Global, record: &Value) -> Result<Name, Misfit>
-    ensures { Reads result (spec.required spec.name (codes "topic") (view record.now)) }
+pub(super) fn topic(alloc: Global, object: &Value) -> Result<Name, Misfit>
+    ensures { Reads result (spec.required spec.name (codes "topic") (view object.now)) }
 {
-    match record.get(Field::Topic.name()) {
+    match object.get(Field::Topic.name()) {
         Some(value) => name_of(alloc, value, Field::Topic),
         None => Err(Misfit::Shape(Field::Queue)),
     }
@@ -168,28 +164,36 @@ fn moment_of(value: &Value, field: Field) -> Result<Moment, Misfit>
 }
 
 /// The moment of the field `now`.
-pub(super) fn now(record: &Value) -> Result<Moment, Misfit>
-    ensures { ReadsExactly result (spec.required spec.moment (codes "now") (view record.now)) }
+pub(super) fn now(object: &Value) -> Result<Moment, Misfit>
+    ensures { ReadsExactly result (spec.required spec.moment (codes "now") (view object.now)) }
 {
-    moment_of(required(record, Field::Now)?, Field::Now)
+    moment_of(required(object, Field::Now)?, Field::Now)
 }
 
 /// The value of a field that may be absent.
-pub(super) fn optional(record: &Value, field: Field) -> Option<&Value>
-    ensures { option_map (λ value. view value.now) result ≡ get (field_name field) (view record.now) }
+pub(super) fn optional(object: &Value, field: Field) -> Option<&Value>
+    ensures { option_map (λ value. view value.now) result ≡ get (field_name field) (view object.now) }
 {
-    record.get(field.name())
+    object.get(field.name())
 }
 
 /// The text of a field that may be absent.
-pub(super) fn optional_text(record: &Value, field: Field) -> Result<Option<&str>, Misfit>
-    ensures { MatchResult result
-        (λ found. spec.optional as_str (field_name field) (view record.now) ≡ Some (option_copied found))
-        (λ misfit. (misfit ≢ Misfit.Memory)
-        × (spec.optional as_str (field_name field) (view record.now) ≡ None)) }
+pub(super) fn optional_text(object: &Value, field: Field) -> Result<Option<&str>, Misfit>
+    ensures { MatchResult result (λ found. spec.optional as_str (field_name field) (view object.now) ≡ Some (option_copied found)) (λ misfit. (misfit ≢ Misfit.Memory)
+        × (spec.optional as_str (field_name field) (view object.now) ≡ None)) }
 {
-    match optional(record, field) {
+    match optional(object, field) {
         Some(value) => Ok(Some(text(value, field)?)),
+        None => Ok(None),
+    }
+}
+
+/// The text of the field `selector`, where it stands. `Memory` where a request for memory was refused.
+pub(super) fn selector(alloc: Global, object: &Value) -> Result<Option<Str>, Misfit>
+    ensures { Reads result (spec.optional as_str (codes "selector") (view object.now)) }
+{
+    match optional_text(object, Field::Selector)? {
+        Some(text) => Ok(Some(Str::new(String::from_str(alloc, text)?))),
         None => Ok(None),
     }
 }

@@ -1,4 +1,4 @@
-use Rattle.std.proofs.Common.{◌≡◌, ◌∙◌, ap, List, Some}
+use Rattle.std.proofs.Common.{◌∙◌, ap, List, Some}
 use Rattle.std.specs.Prelude.{not}
 use Rattle.jm_base.specs.declared.mode.Mode.TheVariants.{Auto}
 use Rattle.jm_machine.specs.declared.state.PlacedRow.{PlacedRow}

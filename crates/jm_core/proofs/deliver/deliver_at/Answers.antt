@@ -1,6 +1,5 @@
-use Rattle.std.proofs.Common.{◌≡◌, ◌∙◌, sym, ap, Some}
+use Rattle.std.proofs.Common.{◌∙◌, sym, ap, Some}
 use Rattle.jm_base.specs.declared.mode.Mode.TheVariants.{Auto}
-use Rattle.jm_machine.specs.declared.state.Station.{Station}
 use Rattle.jm_dest.specs.Keys.{key_eq}
 use Rattle.jm_machine.specs.Rows.{live, next, left_of, deliver_placed}
 use Rattle.jm_machine.specs.Machine.{delivery, rows_of, with_rows}

@@ -1,11 +1,18 @@
-use Rattle.std.proofs.Common.{◌≡◌, ◌+◌, ◌∙◌, sym, ap, arith, take, drop, length, ◌++◌, map, List}
-use Rattle.std.proofs.Math.Seq.{take-append_seam, take-suc}
+use Rattle.std.proofs.Common.{◌+◌, ◌∙◌, sym, ap, arith, take, drop, length, ◌++◌, map, List}
+use Rattle.std.proofs.Math.Seq.{take-append_seam}
 use Rattle.std.proofs.lemmas.List.{length-take-le}
 use Rattle.jm_header.specs.declared.content.Content.{Content}
 use Rattle.jm_machine.specs.Machine.{offered}
 use Rattle.jm_core.specs.Steps.{published_stations}
+use Rattle.jm_core.specs.Accepted.{subscription_of}
+use Rattle.jm_core.proofs.Accepted.{published-same}
 use Rattle.jm_core.proofs.Stations.{published_stations-push, one_more}
 use Rattle.jm_core.proofs.publish.published.Goals as goal
+
+pub offer_all-requires : goal.offer_all-requires
+offer_all-requires c =
+    c.requires.same
+    ∙ sym (ap (map subscription_of) (c.deref_mut.ensures.value ∙ c.loop-message.invariant.0) ∙ published-same c.args.place (take c.loop-message.message-index c.args.messages.now) c.args.stations.now)
 
 pub loop-message-preserved : goal.loop-message-preserved
 loop-message-preserved c = (

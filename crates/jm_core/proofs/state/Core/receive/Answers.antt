@@ -7,10 +7,16 @@ use Rattle.jm_machine.specs.declared.call.Request.TheVariants.{Receive}
 use Rattle.jm_machine.specs.declared.answer.Answer.{Answer}
 use Rattle.jm_machine.specs.declared.state.Station.{Station}
 use Rattle.jm_machine.specs.Life.{mode_of, is_started}
-use Rattle.jm_machine.specs.Machine.{State, consumer_of, is_active, reply, step}
+use Rattle.jm_machine.specs.Machine.{State, consumer_of, is_active, key_at, reply, step}
 use Rattle.jm_core.specs.contracts.state.Core.{the_view}
+use Rattle.jm_core.proofs.Accepted.{sound_delivered}
 use Rattle.jm_core.proofs.Stations.{receive_fits}
 use Rattle.jm_core.proofs.state.Core.receive.Goals as goal
+
+pub invariant_of-self : goal.invariant_of-self
+invariant_of-self c =
+    rw c.deliver_to.ensures.stations (sound_delivered c.self.inside.subs.list c.self.inside.stations.items c.self.inside.next_place
+    (key_at (consumer_of c.deref.result.now c.args.session.now c.args.id)) c.args.now c.self.invariant)
 
 pub returns : goal.returns
 returns c =

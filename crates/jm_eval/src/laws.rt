@@ -1,0 +1,22 @@
+ghost use Rattle.std.specs.Prelude.{ℕ, List, Option};
+ghost use Rattle.jm_syntax.specs.declared.tree.Tree.{Tree};
+ghost use Rattle.jm_eval.specs.Laws.{AreNegations, BetweenIsTwoComparisons, InIsEqualities};
+ghost use Rattle.jm_eval.specs.Values.{Value};
+
+/// The law of BETWEEN: it is two comparisons joined by AND, and NOT BETWEEN is two comparisons joined
+/// by OR (Jakarta Messaging 3.1, section 3.8.1; for operands of unlike types ours).
+pub fn law_between()
+    ensures { (view : List ℕ → Value) (operand low high : Tree) → BetweenIsTwoComparisons view operand low high }
+{}
+
+/// The law of IN: it is the equalities with each member of the list, joined by OR (Jakarta Messaging
+/// 3.1, section 3.8.1).
+pub fn law_in()
+    ensures { (view : List ℕ → Value) (name first : List ℕ) (rest : List (List ℕ)) → InIsEqualities view name first rest }
+{}
+
+/// The law of NOT IN, NOT LIKE and IS NOT NULL: each is the NOT of the form without NOT (Jakarta
+/// Messaging 3.1, section 3.8.1).
+pub fn law_negations()
+    ensures { (view : List ℕ → Value) (name pattern : List ℕ) (list : List (List ℕ)) (escape : Option ℕ) → AreNegations view name pattern list escape }
+{}

@@ -1,0 +1,21 @@
+//! The values of selectors over messages (Jakarta Messaging 3.1, section 3.8.1): unknown, truth
+//! values, whole numbers and texts, and the selection of messages.
+#![tactic(auto)]
+
+mod arithmetic;
+mod evaluation;
+mod laws;
+mod message_id;
+mod pattern;
+#[cfg(test)]
+mod tests;
+mod truth;
+mod value;
+mod view;
+
+pub use evaluation::{condition, eval, selects};
+pub use laws::{law_between, law_in, law_negations};
+pub use message_id::{MessageIdText, message_id_text};
+pub use pattern::{Item, law_fits, like};
+pub use truth::Truth;
+pub use value::Value;

@@ -1,0 +1,233 @@
+ghost use Rattle.std.specs.Prelude.{◌≡◌};
+ghost use Rattle.jm_eval.specs.Values as spec;
+ghost use Rattle.jm_eval.specs.Seen.{seen};
+
+use crate::arithmetic::{difference_of, negative_of, product_of, quotient_of, sum_of};
+use crate::message_id::message_id_text;
+use crate::pattern::is_match;
+use crate::truth::{Truth, and_of, or_of, truth_of};
+use jm_base::Str;
+use jm_header::Message;
+use jm_syntax::{Additive, Comparison, Multiplicative};
+
+/// The value of a selector or of a part of it. `==` is that of the variants: a `Text` and a
+/// `MessageId` are never equal.
+#[derive(Clone, Copy, Debug, PartialEq)]
+pub enum Value<'a> {
+    /// None of the others: of an identifier that is NULL, and of a condition that is neither TRUE
+    /// nor FALSE.
+    Unknown,
+    /// A truth value.
+    Bool(bool),
+    /// A whole number, -2^63 to 2^63-1.
+    Number(i64),
+    /// A text.
+    Text(&'a str),
+    /// The text of the JMSMessageID of this message, which is not written until it is asked for.
+    MessageId(&'a Message),
+}
+
+/// A number, or UNKNOWN where there is none.
+fn number_of<'a>(number: Option<i64>) -> Value<'a>
+    ensures { seen result ≡ spec.number_of number }
+{
+    match number {
+        None => Value::Unknown,
+        Some(number) => Value::Number(number),
+    }
+}
+
+/// The value of a condition.
+pub(crate) fn value_of<'a>(truth: Truth) -> Value<'a>
+    ensures { seen result ≡ spec.value_of truth }
+{
+    match truth {
+        Truth::True => Value::Bool(true),
+        Truth::False => Value::Bool(false),
+        Truth::Unknown => Value::Unknown,
+    }
+}
+
+/// A value as a condition: a number or a text is UNKNOWN.
+pub(crate) fn condition_of(value: Value<'_>) -> Truth
+    ensures { result ≡ spec.condition_of (seen value.entry) }
+{
+    match value {
+        Value::Bool(truth) => truth_of(truth),
+        _ => Truth::Unknown,
+    }
+}
+
+/// The unary plus.
+pub(crate) fn kept(value: Value<'_>) -> Value<'_>
+    ensures { seen result ≡ spec.kept (seen value.entry) }
+{
+    match value {
+        Value::Number(number) => Value::Number(number),
+        _ => Value::Unknown,
+    }
+}
+
+/// The unary minus.
+pub(crate) fn negative(value: Value<'_>) -> Value<'_>
+    ensures { seen result ≡ spec.negative (seen value.entry) }
+{
+    match value {
+        Value::Number(number) => number_of(negative_of(number)),
+        _ => Value::Unknown,
+    }
+}
+
+fn additive(op: Additive, left: i64, right: i64) -> Option<i64>
+    ensures { result ≡ spec.additive op left right }
+{
+    match op {
+        Additive::Plus => sum_of(left, right),
+        Additive::Minus => difference_of(left, right),
+    }
+}
+
+fn multiplicative(op: Multiplicative, left: i64, right: i64) -> Option<i64>
+    ensures { result ≡ spec.multiplicative op left right }
+{
+    match op {
+        Multiplicative::Times => product_of(left, right),
+        Multiplicative::Divide => quotient_of(left, right),
+    }
+}
+
+/// One step of a sum.
+pub(crate) fn add<'a>(left: Value<'a>, op: Additive, right: Value<'a>) -> Value<'a>
+    ensures { seen result ≡ spec.add (seen left.entry) (op, seen right.entry) }
+{
+    match (left, right) {
+        (Value::Number(left), Value::Number(right)) => number_of(additive(op, left, right)),
+        _ => Value::Unknown,
+    }
+}
+
+/// One step of a product.
+pub(crate) fn multiply<'a>(left: Value<'a>, op: Multiplicative, right: Value<'a>) -> Value<'a>
+    ensures { seen result ≡ spec.multiply (seen left.entry) (op, seen right.entry) }
+{
+    match (left, right) {
+        (Value::Number(left), Value::Number(right)) => number_of(multiplicative(op, left, right)),
+        _ => Value::Unknown,
+    }
+}
+
+fn numbers_compare(op: Comparison, left: i64, right: i64) -> bool
+    ensures { result ≡ spec.numbers_compare op left right }
+{
+    match op {
+        Comparison::Equal => left == right,
+        Comparison::NotEqual => left != right,
+        Comparison::Less => left < right,
+        Comparison::LessOrEqual => left <= right,
+        Comparison::Greater => left > right,
+        Comparison::GreaterOrEqual => left >= right,
+    }
+}
+
+fn equality_compares(op: Comparison, equal: bool) -> bool
+    ensures { result ≡ spec.equality_compares op equal }
+{
+    match op {
+        Comparison::Equal => equal,
+        Comparison::NotEqual => !equal,
+        _ => false,
+    }
+}
+
+/// Two texts by an operator; an ordering of them is FALSE.
+fn texts_compare(op: Comparison, left: &str, right: &str) -> Truth
+    ensures { result ≡ spec.truth_of (spec.equality_compares op (spec.texts_equal left.now right.now)) }
+{
+    truth_of(equality_compares(op, left == right))
+}
+
+/// A comparison of two values.
+pub(crate) fn comparison(op: Comparison, left: Value<'_>, right: Value<'_>) -> Truth
+    ensures { result ≡ spec.comparison op (seen left.entry) (seen right.entry) }
+{
+    match (left, right) {
+        (Value::Unknown, _) | (_, Value::Unknown) => Truth::Unknown,
+        (Value::Number(left), Value::Number(right)) => truth_of(numbers_compare(op, left, right)),
+        (Value::Bool(left), Value::Bool(right)) => truth_of(equality_compares(op, left == right)),
+        (Value::Text(left), Value::Text(right)) => texts_compare(op, left, right),
+        (Value::Text(left), Value::MessageId(right)) => {
+            texts_compare(op, left, message_id_text(right).as_str())
+        }
+        (Value::MessageId(left), Value::Text(right)) => {
+            texts_compare(op, message_id_text(left).as_str(), right)
+        }
+        (Value::MessageId(left), Value::MessageId(right)) => {
+            texts_compare(
+                op,
+                message_id_text(left).as_str(),
+                message_id_text(right).as_str(),
+            )
+        }
+        _ => Truth::False,
+    }
+}
+
+/// BETWEEN, or NOT BETWEEN where it is negated.
+pub(crate) fn between<'a>(
+    negated: bool,
+    operand: Value<'a>,
+    low: Value<'a>,
+    high: Value<'a>,
+) -> Truth
+    ensures { result ≡ spec.between negated (seen operand.entry) (seen low.entry) (seen high.entry) }
+{
+    if negated {
+        let below = comparison(Comparison::Less, operand, low);
+        or_of(below, comparison(Comparison::Greater, operand, high))
+    } else {
+        let from_low = comparison(Comparison::GreaterOrEqual, operand, low);
+        and_of(from_low, comparison(Comparison::LessOrEqual, operand, high))
+    }
+}
+
+#[tactic(auto, unfolding(crate::specs::Values::is_among))]
+fn is_among(text: &str, list: &[Str]) -> bool
+    ensures { result ≡ spec.is_among text.now list.now }
+{
+    list.iter().any(|member| text == member.as_str())
+}
+
+/// IN.
+pub(crate) fn is_in(value: Value<'_>, list: &[Str]) -> Truth
+    ensures { result ≡ spec.is_in (seen value.entry) list.now }
+{
+    match value {
+        Value::Unknown => Truth::Unknown,
+        Value::Text(text) => truth_of(is_among(text, list)),
+        Value::MessageId(message) => truth_of(is_among(message_id_text(message).as_str(), list)),
+        _ => Truth::False,
+    }
+}
+
+/// LIKE.
+pub(crate) fn is_like(value: Value<'_>, pattern: &str, escape: Option<char>) -> Truth
+    ensures { result ≡ spec.is_like (seen value.entry) pattern.now escape }
+{
+    match value {
+        Value::Unknown => Truth::Unknown,
+        Value::Text(text) => truth_of(is_match(text, pattern, escape)),
+        Value::MessageId(message) => truth_of(is_match(
+            message_id_text(message).as_str(),
+            pattern,
+            escape,
+        )),
+        _ => Truth::False,
+    }
+}
+
+/// IS NULL.
+pub(crate) fn is_null(value: Value<'_>) -> Truth
+    ensures { result ≡ spec.is_null (seen value.entry) }
+{
+    truth_of(matches!(value, Value::Unknown))
+}

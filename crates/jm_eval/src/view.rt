@@ -1,0 +1,105 @@
+ghost use Rattle.std.specs.Option.{option_copied};
+ghost use Rattle.std.specs.Prelude.{◌≡◌};
+ghost use Rattle.jm_eval.specs.Seen.{seen};
+ghost use Rattle.jm_eval.specs.Views as spec;
+
+use crate::value::Value;
+use jm_base::Str;
+use jm_header::{DeliveryMode, Message};
+use jm_property::Property;
+
+/// A header field that selectors see.
+#[derive(Clone, Copy)]
+enum Field {
+    DeliveryMode,
+    Priority,
+    Timestamp,
+    MessageId,
+    CorrelationId,
+    Type,
+}
+
+/// The header field of that name, if selectors see it.
+fn field_of(name: &str) -> Option<Field>
+    ensures { result ≡ spec.field_of name.now }
+{
+    if name == "JMSDeliveryMode" {
+        Some(Field::DeliveryMode)
+    } else if name == "JMSPriority" {
+        Some(Field::Priority)
+    } else if name == "JMSTimestamp" {
+        Some(Field::Timestamp)
+    } else if name == "JMSMessageID" {
+        Some(Field::MessageId)
+    } else if name == "JMSCorrelationID" {
+        Some(Field::CorrelationId)
+    } else if name == "JMSType" {
+        Some(Field::Type)
+    } else {
+        None
+    }
+}
+
+fn mode_text<'a>(mode: DeliveryMode) -> &'a str
+    ensures { result.now ≡ spec.mode_text mode }
+{
+    match mode {
+        DeliveryMode::Persistent => "PERSISTENT",
+        DeliveryMode::NonPersistent => "NON_PERSISTENT",
+    }
+}
+
+fn text_or_null(text: Option<&Str>) -> Value<'_>
+    ensures { seen result ≡ spec.text_or_null (option_copied text.entry) }
+{
+    match text {
+        None => Value::Unknown,
+        Some(text) => Value::Text(text.as_str()),
+    }
+}
+
+fn field_value(message: &Message, field: Field) -> Value<'_>
+    ensures { seen result ≡ spec.field_value message.now field }
+{
+    match field {
+        Field::DeliveryMode => Value::Text(mode_text(message.mode())),
+        Field::Priority => Value::Number(i64::from(message.priority())),
+        Field::Timestamp => Value::Number(message.timestamp().get() as i64),
+        Field::MessageId => Value::MessageId(message),
+        Field::CorrelationId => text_or_null(message.correlation()),
+        Field::Type => text_or_null(message.message_type()),
+    }
+}
+
+fn property_value(property: &Property) -> Value<'_>
+    ensures { seen result ≡ spec.property_value property.now }
+{
+    match property {
+        Property::Bool(value) => Value::Bool(*value),
+        Property::Byte(value) => Value::Number(i64::from(*value)),
+        Property::Short(value) => Value::Number(i64::from(*value)),
+        Property::Int(value) => Value::Number(i64::from(*value)),
+        Property::Long(value) => Value::Number(*value),
+        Property::Text(text) => Value::Text(text.as_str()),
+    }
+}
+
+fn property_or_null(property: Option<&Property>) -> Value<'_>
+    ensures { seen result ≡ spec.property_or_null (option_copied property.entry) }
+{
+    match property {
+        None => Value::Unknown,
+        Some(property) => property_value(property),
+    }
+}
+
+/// The value of an identifier over a message, UNKNOWN where it is NULL.
+#[tactic(auto, unfolding(crate::specs::Views::view))]
+pub(crate) fn named<'a>(name: &str, message: &'a Message) -> Value<'a>
+    ensures { seen result ≡ spec.view message.now name.now }
+{
+    match field_of(name) {
+        Some(field) => field_value(message, field),
+        None => property_or_null(message.properties().get(name)),
+    }
+}

@@ -1,0 +1,9 @@
+//! The subscriptions of topics, each with the tree of its selector: which of them accept a message.
+#![tactic(auto)]
+
+mod subs;
+mod subscription;
+#[cfg(test)]
+mod tests;
+
+pub use subs::{Decision, Subs};

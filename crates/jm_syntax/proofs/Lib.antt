@@ -1,0 +1,14 @@
+pub mod Turns
+pub mod Single
+pub mod Levels
+pub mod Chains
+pub mod Steps
+pub mod Sound
+pub mod Complete
+pub mod Laws
+pub mod Values
+pub mod Contents
+pub mod Lexing
+pub mod Quotes
+pub mod Best
+pub mod Lexed

@@ -1,0 +1,40 @@
+-- What a list of tokens is answered with.
+use Rattle.std.specs.Prelude.{◌≡◌, ◌≢◌, ℕ, List, Option, Some, None, Result, Ok, Err, if◌then◌else◌}
+use Rattle.jm_base.specs.declared.refusal.Cause.TheVariants as causes
+use Rattle.jm_syntax.specs.declared.token.Token.{Token}
+use Rattle.jm_syntax.specs.declared.fault.SyntaxFault.{SyntaxFault}
+use Rattle.jm_syntax.specs.declared.tree.Tree.{Tree}
+use Rattle.jm_syntax.specs.Sorts.{fits_truth}
+use Rattle.jm_syntax.specs.Input.{Outcome, Parser, ◌>>=◌, ◌>>◌, here, note, refuse, is_end, start_of, fault_at, unless}
+use Rattle.jm_syntax.specs.Grammar.{either, below}
+
+abbrev pub checked : Tree → Option ℕ → Outcome Tree → Outcome Tree
+checked t None done = done
+checked t (Some at) done = Err (fault_at at causes.Kind)
+
+-- the tree, if no operand was of a wrong kind
+unfoldable pub settled : Tree → Parser Tree
+settled t = λ i. checked t i.wrong (Ok (t, i))
+
+-- nothing is left, and the whole is a condition
+unfoldable pub finished : Tree → ℕ → Parser Tree
+finished t at = λ i. if is_end i then (note (unless (fits_truth t) at) >> settled t) i else refuse i
+
+unfoldable pub whole : Parser Tree
+whole = do
+  at ← here
+  t ← either 64 (below 64)
+  finished t at
+
+abbrev pub tree_of : Outcome Tree → Result Tree SyntaxFault
+tree_of (Ok p) = Ok p.0
+tree_of (Err e) = Err e
+
+-- the tree that the tokens of a text of this length spell, or the first fault in the order of reading
+unfoldable pub answer : List Token → ℕ → Result Tree SyntaxFault
+answer toks end = tree_of (whole (start_of toks end))
+
+-- an answer, unless memory runs out
+abbrev pub Gives : {A : Type 0} → Result A SyntaxFault → Result A SyntaxFault → Type 0
+Gives (Ok a) found = found ≡ Ok a
+Gives (Err e) found = e.cause ≢ causes.Memory → found ≡ Err e

@@ -1,0 +1,172 @@
+-- What the rules of the grammar read from, and the steps that each rule is made of.
+use Rattle.std.specs.Prelude.{◌≡◌, ◌≢◌, ℕ, Bool, true, false, if◌then◌else◌, List, [], ◌∷◌, length, drop, Option, Some, None, Result, Ok, Err}
+use denote.Enum.Bare.{sameb}
+use Rattle.jm_syntax.specs.contracts.token.Mark.{the_type}
+use Rattle.jm_base.specs.declared.refusal.Cause.{Cause}
+use Rattle.jm_base.specs.declared.refusal.Cause.TheVariants as causes
+use Rattle.jm_syntax.specs.declared.token.Mark.{Mark}
+use Rattle.jm_syntax.specs.declared.token.Kind.{Kind}
+use Rattle.jm_syntax.specs.declared.token.Kind.TheVariants as kinds
+use Rattle.jm_syntax.specs.declared.token.Token.{Token}
+use Rattle.jm_syntax.specs.declared.fault.SyntaxFault.{SyntaxFault}
+
+-- the tokens that are left, the length of the text, and the place of the first operand of a wrong kind
+pub record Input : Type 0 where
+  pub tokens : List Token
+  pub end : ℕ
+  pub wrong : Option ℕ
+
+abbrev pub first_start : List Token → ℕ → ℕ
+first_start [] end = end
+first_start (t ∷ ts) end = t.start
+
+abbrev pub first_kind : List Token → Option Kind
+first_kind [] = None
+first_kind (t ∷ ts) = Some t.kind
+
+-- where the next token begins: at the text's length where none is left
+unfoldable pub start : Input → ℕ
+start i = first_start i.tokens i.end
+
+-- the next token's kind
+unfoldable pub kind : Input → Option Kind
+kind i = first_kind i.tokens
+
+-- the input past the next token
+unfoldable pub next : Input → Input
+next i = record i { tokens = drop 1 i.tokens }
+
+-- how many tokens are left
+unfoldable pub left : Input → ℕ
+left i = length i.tokens
+
+abbrev pub same_mark : Mark → Mark → Bool
+same_mark = sameb the_type
+
+abbrev pub is_mark : Mark → Option Kind → Bool
+is_mark mark None = false
+is_mark mark (Some (kinds.Mark found)) = same_mark found mark
+is_mark mark (Some (kinds.Name name)) = false
+is_mark mark (Some (kinds.Number number)) = false
+is_mark mark (Some (kinds.Text text)) = false
+
+-- which of these operators the token is
+abbrev pub operator_in : {O : Type 0} → (Mark → Option O) → Option Kind → Option O
+operator_in operators None = None
+operator_in operators (Some (kinds.Mark mark)) = operators mark
+operator_in operators (Some (kinds.Name name)) = None
+operator_in operators (Some (kinds.Number number)) = None
+operator_in operators (Some (kinds.Text text)) = None
+
+abbrev pub if_some : {A B : Type 0} → Option A → B → (A → B) → B
+if_some None other f = other
+if_some (Some a) other f = f a
+
+-- ---- rules
+
+abbrev pub Outcome : Type 0 → Type 0
+Outcome A = Result (A × Input) SyntaxFault
+
+-- a rule reads a value from the input, or stops at a fault
+abbrev pub Parser : Type 0 → Type 0
+Parser A = Input → Outcome A
+
+abbrev pub and_then : {A B : Type 0} → Outcome A → (A → Parser B) → Outcome B
+and_then (Ok p) f = f p.0 p.1
+and_then (Err e) f = Err e
+
+infixl 10 ◌>>=◌
+abbrev pub ◌>>=◌ : {A B : Type 0} → Parser A → (A → Parser B) → Parser B
+p >>= f = λ i. and_then (p i) f
+
+infixl 10 ◌>>◌
+abbrev pub ◌>>◌ : {A B : Type 0} → Parser A → Parser B → Parser B
+p >> q = p >>= (λ _. q)
+
+abbrev pub pure : {A : Type 0} → A → Parser A
+pure a = λ i. Ok (a, i)
+
+abbrev pub fault_at : ℕ → Cause → SyntaxFault
+fault_at at cause = record { at = at; cause = cause }
+
+-- stops at the next token
+abbrev pub stop : {A : Type 0} → Cause → Parser A
+stop cause = λ i. Err (fault_at (start i) cause)
+
+-- the grammar cannot go on
+abbrev pub refuse : {A : Type 0} → Parser A
+refuse = stop causes.Expected
+
+abbrev pub here : Parser ℕ
+here = λ i. Ok (start i, i)
+
+abbrev pub peek : Parser (Option Kind)
+peek = λ i. Ok (kind i, i)
+
+abbrev pub pass : Parser (Unit {0})
+pass = λ i. Ok (tt, next i)
+
+unfoldable pub sees : Mark → Input → Bool
+sees mark i = is_mark mark (kind i)
+
+unfoldable pub after : Mark → Input → Input
+after mark i = if sees mark i then next i else i
+
+-- whether the mark stands next; if so it is passed
+abbrev pub eat : Mark → Parser Bool
+eat mark = λ i. Ok (sees mark i, after mark i)
+
+unfoldable pub expect : Mark → Parser (Unit {0})
+expect mark = λ i. if sees mark i then Ok (tt, next i) else refuse i
+
+unfoldable pub operator_at : {O : Type 0} → (Mark → Option O) → Input → Option O
+operator_at operators i = operator_in operators (kind i)
+
+unfoldable pub after_operator : {O : Type 0} → (Mark → Option O) → Input → Input
+after_operator operators i = if_some (operator_at operators i) i (λ _. next i)
+
+-- which of these operators stands next, if one does; it is passed
+abbrev pub eat_operator : {O : Type 0} → (Mark → Option O) → Parser (Option O)
+eat_operator operators = λ i. Ok (operator_at operators i, after_operator operators i)
+
+abbrev pub text_by : Option Kind → Parser (List ℕ)
+text_by None = refuse
+text_by (Some (kinds.Mark mark)) = refuse
+text_by (Some (kinds.Name name)) = refuse
+text_by (Some (kinds.Number number)) = refuse
+text_by (Some (kinds.Text text)) = pass >> pure text
+
+unfoldable pub text : Parser (List ℕ)
+text = peek >>= text_by
+
+-- ---- kinds
+
+abbrev pub or_else : Option ℕ → Option ℕ → Option ℕ
+or_else None late = late
+or_else (Some at) late = Some at
+
+-- the place, if the operand does not fit
+abbrev pub unless : Bool → ℕ → Option ℕ
+unless fits at = if fits then None else Some at
+
+-- the first of the places is kept
+unfoldable pub noted : Option ℕ → Input → Input
+noted at i = record i { wrong = or_else i.wrong at }
+
+abbrev pub note : Option ℕ → Parser (Unit {0})
+note at = λ i. Ok (tt, noted at i)
+
+-- what a function that reads by a rule ensures: only want of memory is left open
+abbrev pub Reads : {A : Type 0} → Outcome A → Result A SyntaxFault → Input → Type 0
+Reads outcome (Ok a) new = outcome ≡ Ok (a, new)
+Reads outcome (Err e) new = e.cause ≢ causes.Memory → outcome ≡ Err e
+
+abbrev pub start_of : List Token → ℕ → Input
+start_of tokens end = record { tokens = tokens; end = end; wrong = None }
+
+abbrev pub is_empty : List Token → Bool
+is_empty [] = true
+is_empty (t ∷ ts) = false
+
+unfoldable pub is_end : Input → Bool
+is_end i = is_empty i.tokens

@@ -1,0 +1,510 @@
+ghost use Rattle.std.specs.Prelude.{◌≡◌, ◌<◌, ◌∷◌, IfOk};
+ghost use Rattle.jm_syntax.specs.Grammar as spec;
+ghost use Rattle.jm_syntax.specs.Input as input;
+ghost use Rattle.jm_syntax.specs.Input.{Reads};
+
+use crate::cursor::Cursor;
+use crate::fault::SyntaxFault;
+use crate::growth::push;
+use crate::predicates::{likeness, membership, null_test, unless};
+use crate::sort::{fits_comparison, fits_number, fits_truth};
+use crate::token::{Kind, Mark};
+use crate::tree::{Additive, Comparison, Multiplicative, Tree};
+use jm_base::{Boxed, Cause, List};
+use std::alloc::{AllocError, Global};
+
+/// The number 2^63, which only a minus may stand before.
+const LIMIT: u64 = 1 << 63;
+
+fn or_else(early: Option<usize>, late: Option<usize>) -> Option<usize>
+    ensures { result ≡ input.or_else early late }
+{
+    match early {
+        None => late,
+        Some(at) => Some(at),
+    }
+}
+
+fn range(
+    alloc: Global,
+    negated: bool,
+    operand: Tree,
+    low: Tree,
+    high: Tree,
+) -> Result<Tree, AllocError>
+    ensures { IfOk result (λ tree. tree ≡ Tree.Between negated operand low high) }
+{
+    Ok(Tree::Between {
+        negated,
+        operand: Boxed::new(alloc, operand)?,
+        low: Boxed::new(alloc, low)?,
+        high: Boxed::new(alloc, high)?,
+    })
+}
+
+fn comparison(alloc: Global, op: Comparison, left: Tree, right: Tree) -> Result<Tree, AllocError>
+    ensures { IfOk result (λ tree. tree ≡ Tree.Compare op left right) }
+{
+    Ok(Tree::Compare {
+        op,
+        left: Boxed::new(alloc, left)?,
+        right: Boxed::new(alloc, right)?,
+    })
+}
+
+fn neg(alloc: Global, operand: Tree) -> Result<Tree, AllocError>
+    ensures { IfOk result (λ tree. tree ≡ Tree.Neg operand) }
+{
+    Ok(Tree::Neg(Boxed::new(alloc, operand)?))
+}
+
+fn positive(alloc: Global, operand: Tree) -> Result<Tree, AllocError>
+    ensures { IfOk result (λ tree. tree ≡ Tree.Plus operand) }
+{
+    Ok(Tree::Plus(Boxed::new(alloc, operand)?))
+}
+
+fn denial(alloc: Global, operand: Tree) -> Result<Tree, AllocError>
+    ensures { IfOk result (λ tree. tree ≡ Tree.Not operand) }
+{
+    Ok(Tree::Not(Boxed::new(alloc, operand)?))
+}
+
+/// One operand stands for itself.
+#[tactic(auto, unfolding(crate::specs::Grammar::settle))]
+fn settle_product(
+    alloc: Global,
+    tokens: &mut Cursor<'_>,
+    first: Tree,
+    rest: Vec<(Multiplicative, Tree)>,
+    own: Option<usize>,
+) -> Result<Tree, AllocError>
+    ensures { IfOk result (λ tree. spec.settle Tree.Product first rest.items own tokens.old ≡ Ok (tree, tokens.new)) }
+{
+    if rest.is_empty() {
+        return Ok(first);
+    }
+    tokens.note(own);
+    Ok(Tree::Product {
+        first: Boxed::new(alloc, first)?,
+        rest: List::new(rest),
+    })
+}
+
+/// One operand stands for itself.
+#[tactic(auto, unfolding(crate::specs::Grammar::settle))]
+fn settle_sum(
+    alloc: Global,
+    tokens: &mut Cursor<'_>,
+    first: Tree,
+    rest: Vec<(Additive, Tree)>,
+    own: Option<usize>,
+) -> Result<Tree, AllocError>
+    ensures { IfOk result (λ tree. spec.settle Tree.Sum first rest.items own tokens.old ≡ Ok (tree, tokens.new)) }
+{
+    if rest.is_empty() {
+        return Ok(first);
+    }
+    tokens.note(own);
+    Ok(Tree::Sum {
+        first: Boxed::new(alloc, first)?,
+        rest: List::new(rest),
+    })
+}
+
+/// The members of a chain, `first` in front.
+fn members(first: Tree, rest: Vec<Tree>) -> Result<List<Tree>, AllocError>
+    ensures { IfOk result (λ members. members ≡ first ∷ rest.items) }
+{
+    let mut members = rest;
+    members.insert(0, first)?;
+    Ok(List::new(members))
+}
+
+/// One operand stands for itself.
+#[tactic(auto, unfolding(crate::specs::Grammar::settle))]
+fn settle_all(
+    tokens: &mut Cursor<'_>,
+    first: Tree,
+    rest: Vec<Tree>,
+    own: Option<usize>,
+) -> Result<Tree, AllocError>
+    ensures { IfOk result (λ tree. spec.settle (λ x xs. Tree.All (x ∷ xs)) first rest.items own tokens.old ≡ Ok (tree, tokens.new)) }
+{
+    if rest.is_empty() {
+        return Ok(first);
+    }
+    tokens.note(own);
+    Ok(Tree::All(members(first, rest)?))
+}
+
+/// One operand stands for itself.
+#[tactic(auto, unfolding(crate::specs::Grammar::settle))]
+fn settle_any(
+    tokens: &mut Cursor<'_>,
+    first: Tree,
+    rest: Vec<Tree>,
+    own: Option<usize>,
+) -> Result<Tree, AllocError>
+    ensures { IfOk result (λ tree. spec.settle (λ x xs. Tree.AnyOf (x ∷ xs)) first rest.items own tokens.old ≡ Ok (tree, tokens.new)) }
+{
+    if rest.is_empty() {
+        return Ok(first);
+    }
+    tokens.note(own);
+    Ok(Tree::AnyOf(members(first, rest)?))
+}
+
+/// `( or )`.
+#[cycle(rules)]
+#[tactic(auto, using(crate::proofs::Levels::below_ors), unfolding(crate::specs::Grammar::opened))]
+fn opened(alloc: Global, tokens: &mut Cursor<'_>, levels: usize) -> Result<Tree, SyntaxFault>
+    requires { 0 < levels }
+    ensures { Reads (spec.opened levels (spec.below levels) tokens.old) result tokens.new }
+{
+    tokens.pass();
+    let inner = either(alloc, tokens, levels - 1)?;
+    tokens.expect(Mark::Close)?;
+    Ok(inner)
+}
+
+/// `number | text | TRUE | FALSE | identifier | ( or )`.
+#[cycle(rules)]
+#[tactic(auto, unfolding(crate::specs::Grammar::primary))]
+fn primary(alloc: Global, tokens: &mut Cursor<'_>, levels: usize) -> Result<Tree, SyntaxFault>
+    ensures { Reads (spec.primary levels (spec.below levels) tokens.old) result tokens.new }
+{
+    match tokens.kind() {
+        Some(Kind::Name(name)) => {
+            tokens.pass();
+            Ok(Tree::Name(name.copy()?))
+        }
+        Some(Kind::Text(text)) => {
+            tokens.pass();
+            Ok(Tree::Text(text.copy()?))
+        }
+        Some(Kind::Number(number)) => {
+            let number = *number;
+            if number < LIMIT {
+                tokens.pass();
+                Ok(Tree::Num(number as i64))
+            } else {
+                Err(tokens.stop(Cause::Number))
+            }
+        }
+        Some(Kind::Mark(Mark::True)) => {
+            tokens.pass();
+            Ok(Tree::Truth(true))
+        }
+        Some(Kind::Mark(Mark::False)) => {
+            tokens.pass();
+            Ok(Tree::Truth(false))
+        }
+        Some(Kind::Mark(Mark::Open)) => {
+            if levels == 0 {
+                return Err(tokens.stop(Cause::TooDeep));
+            }
+            opened(alloc, tokens, levels)
+        }
+        _ => Err(tokens.stop(Cause::Expected)),
+    }
+}
+
+#[cycle(rules)]
+#[tactic(auto, using(crate::proofs::Levels::below_signs), unfolding(crate::specs::Grammar::signed))]
+fn negative(alloc: Global, tokens: &mut Cursor<'_>, levels: usize) -> Result<Tree, SyntaxFault>
+    requires { 0 < levels }
+    ensures { Reads (spec.signed levels (spec.below levels) Tree.Neg tokens.old) result tokens.new }
+{
+    let at = tokens.start();
+    let operand = unary(alloc, tokens, levels - 1)?;
+    tokens.note(unless(fits_number(&operand), at));
+    Ok(neg(alloc, operand)?)
+}
+
+#[cycle(rules)]
+#[tactic(auto, unfolding(crate::specs::Grammar::minus))]
+fn minus(alloc: Global, tokens: &mut Cursor<'_>, levels: usize) -> Result<Tree, SyntaxFault>
+    requires { 0 < levels }
+    ensures { Reads (spec.minus levels (spec.below levels) tokens.old) result tokens.new }
+{
+    tokens.pass();
+    match tokens.kind() {
+        Some(Kind::Number(LIMIT)) => {
+            tokens.pass();
+            Ok(Tree::Num(i64::MIN))
+        }
+        _ => negative(alloc, tokens, levels),
+    }
+}
+
+#[cycle(rules)]
+#[tactic(auto, using(crate::proofs::Levels::below_signs), unfolding(crate::specs::Grammar::signed, crate::specs::Grammar::plus))]
+fn plus(alloc: Global, tokens: &mut Cursor<'_>, levels: usize) -> Result<Tree, SyntaxFault>
+    requires { 0 < levels }
+    ensures { Reads (spec.plus levels (spec.below levels) tokens.old) result tokens.new }
+{
+    tokens.pass();
+    let at = tokens.start();
+    let operand = unary(alloc, tokens, levels - 1)?;
+    tokens.note(unless(fits_number(&operand), at));
+    Ok(positive(alloc, operand)?)
+}
+
+/// `( + | - ) unary | primary`.
+#[cycle(rules)]
+#[tactic(auto, unfolding(crate::specs::Grammar::unary))]
+fn unary(alloc: Global, tokens: &mut Cursor<'_>, levels: usize) -> Result<Tree, SyntaxFault>
+    ensures { Reads (spec.unary levels (spec.below levels) tokens.old) result tokens.new }
+{
+    let negated = tokens.sees(Mark::Minus);
+    if !negated && !tokens.sees(Mark::Plus) {
+        return primary(alloc, tokens, levels);
+    }
+    if levels == 0 {
+        return Err(tokens.stop(Cause::TooDeep));
+    }
+    if negated {
+        minus(alloc, tokens, levels)
+    } else {
+        plus(alloc, tokens, levels)
+    }
+}
+
+/// `unary { ( * | / ) unary }`.
+#[cycle(rules)]
+#[tactic(auto, unfolding(crate::specs::Grammar::product, crate::specs::Grammar::chain))]
+fn product(alloc: Global, tokens: &mut Cursor<'_>, levels: usize) -> Result<Tree, SyntaxFault>
+    ensures { Reads (spec.product levels (spec.below levels) tokens.old) result tokens.new }
+{
+    let at = tokens.start();
+    let first = unary(alloc, tokens, levels)?;
+    let mut own = unless(fits_number(&first), at);
+    let mut rest = Vec::new(alloc);
+    for _turn in 0..tokens.left() {
+        let Some(operator) = tokens.eat_multiplicative() else {
+            return Ok(settle_product(alloc, tokens, first, rest, own)?);
+        };
+        let at = tokens.start();
+        let operand = unary(alloc, tokens, levels)?;
+        own = or_else(own, unless(fits_number(&operand), at));
+        push(&mut rest, (operator, operand))?;
+    }
+    Ok(settle_product(alloc, tokens, first, rest, own)?)
+}
+
+/// `product { ( + | - ) product }`.
+#[cycle(rules)]
+#[tactic(auto, unfolding(crate::specs::Grammar::sum, crate::specs::Grammar::chain))]
+fn sum(alloc: Global, tokens: &mut Cursor<'_>, levels: usize) -> Result<Tree, SyntaxFault>
+    ensures { Reads (spec.sum levels (spec.below levels) tokens.old) result tokens.new }
+{
+    let at = tokens.start();
+    let first = product(alloc, tokens, levels)?;
+    let mut own = unless(fits_number(&first), at);
+    let mut rest = Vec::new(alloc);
+    for _turn in 0..tokens.left() {
+        let Some(operator) = tokens.eat_additive() else {
+            return Ok(settle_sum(alloc, tokens, first, rest, own)?);
+        };
+        let at = tokens.start();
+        let operand = product(alloc, tokens, levels)?;
+        own = or_else(own, unless(fits_number(&operand), at));
+        push(&mut rest, (operator, operand))?;
+    }
+    Ok(settle_sum(alloc, tokens, first, rest, own)?)
+}
+
+/// `BETWEEN sum AND sum`, after the operand that began at `at`.
+#[cycle(rules)]
+#[tactic(auto, unfolding(crate::specs::Grammar::between))]
+fn between(
+    alloc: Global,
+    tokens: &mut Cursor<'_>,
+    levels: usize,
+    negated: bool,
+    operand: Tree,
+    at: usize,
+) -> Result<Tree, SyntaxFault>
+    ensures { Reads (spec.between levels (spec.below levels) negated operand at tokens.old) result tokens.new }
+{
+    tokens.pass();
+    let low_at = tokens.start();
+    let low = sum(alloc, tokens, levels)?;
+    tokens.expect(Mark::And)?;
+    let high_at = tokens.start();
+    let high = sum(alloc, tokens, levels)?;
+    tokens.note(unless(fits_number(&operand), at));
+    tokens.note(unless(fits_number(&low), low_at));
+    tokens.note(unless(fits_number(&high), high_at));
+    Ok(range(alloc, negated, operand, low, high)?)
+}
+
+/// A comparison, after its left operand, which began at `at`.
+#[cycle(rules)]
+#[tactic(auto, unfolding(crate::specs::Grammar::compared))]
+fn compared(
+    alloc: Global,
+    tokens: &mut Cursor<'_>,
+    levels: usize,
+    op: Comparison,
+    operand: Tree,
+    at: usize,
+) -> Result<Tree, SyntaxFault>
+    ensures { Reads (spec.compared levels (spec.below levels) op operand at tokens.old) result tokens.new }
+{
+    tokens.pass();
+    let right_at = tokens.start();
+    let right = sum(alloc, tokens, levels)?;
+    tokens.note(unless(fits_comparison(op, &operand), at));
+    tokens.note(unless(fits_comparison(op, &right), right_at));
+    Ok(comparison(alloc, op, operand, right)?)
+}
+
+/// `NOT` with what may follow it, after the operand that began at `at`.
+#[cycle(rules)]
+#[tactic(auto, unfolding(crate::specs::Grammar::negated_tail))]
+fn negated_tail(
+    alloc: Global,
+    tokens: &mut Cursor<'_>,
+    levels: usize,
+    operand: Tree,
+    at: usize,
+) -> Result<Tree, SyntaxFault>
+    ensures { Reads (spec.negated_tail levels (spec.below levels) operand at tokens.old) result tokens.new }
+{
+    tokens.pass();
+    match tokens.kind() {
+        Some(Kind::Mark(Mark::Between)) => between(alloc, tokens, levels, true, operand, at),
+        Some(Kind::Mark(Mark::In)) => membership(alloc, tokens, true, operand, at),
+        Some(Kind::Mark(Mark::Like)) => likeness(tokens, true, operand, at),
+        _ => Err(tokens.stop(Cause::Expected)),
+    }
+}
+
+/// What may follow the operand that began at `at`, where this mark does.
+#[cycle(rules)]
+fn tail(
+    alloc: Global,
+    tokens: &mut Cursor<'_>,
+    levels: usize,
+    operand: Tree,
+    at: usize,
+    mark: Mark,
+) -> Result<Tree, SyntaxFault>
+    ensures { Reads (spec.tail levels (spec.below levels) operand at mark tokens.old) result tokens.new }
+{
+    match mark {
+        Mark::Equal => compared(alloc, tokens, levels, Comparison::Equal, operand, at),
+        Mark::NotEqual => compared(alloc, tokens, levels, Comparison::NotEqual, operand, at),
+        Mark::Less => compared(alloc, tokens, levels, Comparison::Less, operand, at),
+        Mark::LessOrEqual => compared(alloc, tokens, levels, Comparison::LessOrEqual, operand, at),
+        Mark::Greater => compared(alloc, tokens, levels, Comparison::Greater, operand, at),
+        Mark::GreaterOrEqual => {
+            compared(
+                alloc,
+                tokens,
+                levels,
+                Comparison::GreaterOrEqual,
+                operand,
+                at,
+            )
+        }
+        Mark::Between => between(alloc, tokens, levels, false, operand, at),
+        Mark::In => membership(alloc, tokens, false, operand, at),
+        Mark::Like => likeness(tokens, false, operand, at),
+        Mark::Is => null_test(tokens, operand, at),
+        Mark::Not => negated_tail(alloc, tokens, levels, operand, at),
+        _ => Ok(operand),
+    }
+}
+
+/// `sum [ tail ]`.
+#[cycle(rules)]
+#[tactic(auto, unfolding(crate::specs::Grammar::test))]
+fn test(alloc: Global, tokens: &mut Cursor<'_>, levels: usize) -> Result<Tree, SyntaxFault>
+    ensures { Reads (spec.test levels (spec.below levels) tokens.old) result tokens.new }
+{
+    let at = tokens.start();
+    let operand = sum(alloc, tokens, levels)?;
+    match tokens.kind() {
+        Some(Kind::Mark(mark)) => tail(alloc, tokens, levels, operand, at, *mark),
+        _ => Ok(operand),
+    }
+}
+
+#[cycle(rules)]
+#[tactic(auto, using(crate::proofs::Levels::below_nots), unfolding(crate::specs::Grammar::denied))]
+fn denied(alloc: Global, tokens: &mut Cursor<'_>, levels: usize) -> Result<Tree, SyntaxFault>
+    requires { 0 < levels }
+    ensures { Reads (spec.denied levels (spec.below levels) tokens.old) result tokens.new }
+{
+    tokens.pass();
+    let at = tokens.start();
+    let operand = condition(alloc, tokens, levels - 1)?;
+    tokens.note(unless(fits_truth(&operand), at));
+    Ok(denial(alloc, operand)?)
+}
+
+/// `NOT condition | test`.
+#[cycle(rules)]
+#[tactic(auto, unfolding(crate::specs::Grammar::condition))]
+fn condition(alloc: Global, tokens: &mut Cursor<'_>, levels: usize) -> Result<Tree, SyntaxFault>
+    ensures { Reads (spec.condition levels (spec.below levels) tokens.old) result tokens.new }
+{
+    if !tokens.sees(Mark::Not) {
+        return test(alloc, tokens, levels);
+    }
+    if levels == 0 {
+        return Err(tokens.stop(Cause::TooDeep));
+    }
+    denied(alloc, tokens, levels)
+}
+
+/// `condition { AND condition }`.
+#[cycle(rules)]
+#[tactic(auto, unfolding(crate::specs::Grammar::both, crate::specs::Grammar::chain))]
+fn both(alloc: Global, tokens: &mut Cursor<'_>, levels: usize) -> Result<Tree, SyntaxFault>
+    ensures { Reads (spec.both levels (spec.below levels) tokens.old) result tokens.new }
+{
+    let at = tokens.start();
+    let first = condition(alloc, tokens, levels)?;
+    let mut own = unless(fits_truth(&first), at);
+    let mut rest = Vec::new(alloc);
+    for _turn in 0..tokens.left() {
+        if !tokens.eat(Mark::And) {
+            return Ok(settle_all(tokens, first, rest, own)?);
+        }
+        let at = tokens.start();
+        let operand = condition(alloc, tokens, levels)?;
+        own = or_else(own, unless(fits_truth(&operand), at));
+        push(&mut rest, operand)?;
+    }
+    Ok(settle_all(tokens, first, rest, own)?)
+}
+
+/// `both { OR both }`.
+#[cycle(rules)]
+#[tactic(auto, unfolding(crate::specs::Grammar::either, crate::specs::Grammar::chain))]
+pub(crate) fn either(
+    alloc: Global,
+    tokens: &mut Cursor<'_>,
+    levels: usize,
+) -> Result<Tree, SyntaxFault>
+    ensures { Reads (spec.either levels (spec.below levels) tokens.old) result tokens.new }
+{
+    let at = tokens.start();
+    let first = both(alloc, tokens, levels)?;
+    let mut own = unless(fits_truth(&first), at);
+    let mut rest = Vec::new(alloc);
+    for _turn in 0..tokens.left() {
+        if !tokens.eat(Mark::Or) {
+            return Ok(settle_any(tokens, first, rest, own)?);
+        }
+        let at = tokens.start();
+        let operand = both(alloc, tokens, levels)?;
+        own = or_else(own, unless(fits_truth(&operand), at));
+        push(&mut rest, operand)?;
+    }
+    Ok(settle_any(tokens, first, rest, own)?)
+}

@@ -1,0 +1,227 @@
+ghost use Rattle.std.specs.Prelude.{◌≡◌, IfOk};
+
+use jm_base::{Boxed, List, Str};
+use std::alloc::{AllocError, Global};
+
+/// How two operands are compared.
+#[derive(Clone, Copy, Debug, PartialEq, Eq)]
+pub enum Comparison {
+    /// `=`.
+    Equal,
+    /// `<>`.
+    NotEqual,
+    /// `<`.
+    Less,
+    /// `<=`.
+    LessOrEqual,
+    /// `>`.
+    Greater,
+    /// `>=`.
+    GreaterOrEqual,
+}
+
+/// An operator of a sum.
+#[derive(Clone, Copy, Debug, PartialEq, Eq)]
+pub enum Additive {
+    /// `+`.
+    Plus,
+    /// `-`.
+    Minus,
+}
+
+/// An operator of a product.
+#[derive(Clone, Copy, Debug, PartialEq, Eq)]
+pub enum Multiplicative {
+    /// `*`.
+    Times,
+    /// `/`.
+    Divide,
+}
+
+/// A selector as a tree. Parentheses leave no node.
+#[derive(Debug, Drop, PartialEq)]
+pub enum Tree {
+    /// A whole number.
+    Num(i64),
+    /// A text.
+    Text(Str),
+    /// `TRUE` or `FALSE`.
+    Truth(bool),
+    /// An identifier.
+    Name(Str),
+    /// A unary plus.
+    Plus(Boxed<Tree>),
+    /// A unary minus.
+    Neg(Boxed<Tree>),
+    /// A chain of `+` and `-`; `rest` is not empty.
+    Sum {
+        first: Boxed<Tree>,
+        rest: List<(Additive, Tree)>,
+    },
+    /// A chain of `*` and `/`; `rest` is not empty.
+    Product {
+        first: Boxed<Tree>,
+        rest: List<(Multiplicative, Tree)>,
+    },
+    /// A comparison.
+    Compare {
+        op: Comparison,
+        left: Boxed<Tree>,
+        right: Boxed<Tree>,
+    },
+    /// `[NOT] BETWEEN`.
+    Between {
+        negated: bool,
+        operand: Boxed<Tree>,
+        low: Boxed<Tree>,
+        high: Boxed<Tree>,
+    },
+    /// `[NOT] IN`; `list` is not empty.
+    In {
+        negated: bool,
+        name: Str,
+        list: List<Str>,
+    },
+    /// `[NOT] LIKE`.
+    Like {
+        negated: bool,
+        name: Str,
+        pattern: Str,
+        escape: Option<char>,
+    },
+    /// `IS [NOT] NULL`.
+    IsNull {
+        negated: bool,
+        name: Str,
+    },
+    /// `NOT`.
+    Not(Boxed<Tree>),
+    /// A chain of `AND` of at least two members.
+    All(List<Tree>),
+    /// A chain of `OR` of at least two members.
+    AnyOf(List<Tree>),
+}
+
+impl Tree {
+    /// An equal tree. `AllocError` where a request for memory was refused.
+    #[cycle(copy)]
+    pub fn copy(&self, alloc: Global) -> Result<Tree, AllocError>
+        ensures { IfOk result (λ copy. copy ≡ self.now) }
+    {
+        Ok(match self {
+            Tree::Num(number) => Tree::Num(*number),
+            Tree::Text(text) => Tree::Text(text.copy()?),
+            Tree::Truth(truth) => Tree::Truth(*truth),
+            Tree::Name(name) => Tree::Name(name.copy()?),
+            Tree::Plus(operand) => Tree::Plus(copy_boxed(alloc, operand)?),
+            Tree::Neg(operand) => Tree::Neg(copy_boxed(alloc, operand)?),
+            Tree::Sum { first, rest } => Tree::Sum {
+                first: copy_boxed(alloc, first)?,
+                rest: copy_addends(alloc, rest.as_slice())?,
+            },
+            Tree::Product { first, rest } => Tree::Product {
+                first: copy_boxed(alloc, first)?,
+                rest: copy_factors(alloc, rest.as_slice())?,
+            },
+            Tree::Compare { op, left, right } => Tree::Compare {
+                op: *op,
+                left: copy_boxed(alloc, left)?,
+                right: copy_boxed(alloc, right)?,
+            },
+            Tree::Not(operand) => Tree::Not(copy_boxed(alloc, operand)?),
+            Tree::All(members) => Tree::All(copy_members(alloc, members.as_slice())?),
+            Tree::AnyOf(members) => Tree::AnyOf(copy_members(alloc, members.as_slice())?),
+            Tree::Between {
+                negated,
+                operand,
+                low,
+                high,
+            } => Tree::Between {
+                negated: *negated,
+                operand: copy_boxed(alloc, operand)?,
+                low: copy_boxed(alloc, low)?,
+                high: copy_boxed(alloc, high)?,
+            },
+            Tree::In {
+                negated,
+                name,
+                list,
+            } => Tree::In {
+                negated: *negated,
+                name: name.copy()?,
+                list: copy_texts(alloc, list.as_slice())?,
+            },
+            Tree::Like {
+                negated,
+                name,
+                pattern,
+                escape,
+            } => Tree::Like {
+                negated: *negated,
+                name: name.copy()?,
+                pattern: pattern.copy()?,
+                escape: *escape,
+            },
+            Tree::IsNull { negated, name } => Tree::IsNull {
+                negated: *negated,
+                name: name.copy()?,
+            },
+        })
+    }
+}
+
+#[cycle(copy)]
+fn copy_boxed(alloc: Global, tree: &Boxed<Tree>) -> Result<Boxed<Tree>, AllocError>
+    ensures { IfOk result (λ copy. copy ≡ tree.now) }
+{
+    Boxed::new(alloc, tree.get().copy(alloc)?)
+}
+
+#[cycle(copy)]
+fn copy_members(alloc: Global, members: &[Tree]) -> Result<List<Tree>, AllocError>
+    ensures { IfOk result (λ copy. copy ≡ members.now) }
+{
+    let mut copies = Vec::new(alloc);
+    for member in members {
+        copies.push(member.copy(alloc)?)?;
+    }
+    Ok(List::new(copies))
+}
+
+#[cycle(copy)]
+fn copy_addends(
+    alloc: Global,
+    addends: &[(Additive, Tree)],
+) -> Result<List<(Additive, Tree)>, AllocError>
+    ensures { IfOk result (λ copy. copy ≡ addends.now) }
+{
+    let mut copies = Vec::new(alloc);
+    for addend in addends {
+        copies.push((addend.0, addend.1.copy(alloc)?))?;
+    }
+    Ok(List::new(copies))
+}
+
+#[cycle(copy)]
+fn copy_factors(
+    alloc: Global,
+    factors: &[(Multiplicative, Tree)],
+) -> Result<List<(Multiplicative, Tree)>, AllocError>
+    ensures { IfOk result (λ copy. copy ≡ factors.now) }
+{
+    let mut copies = Vec::new(alloc);
+    for factor in factors {
+        copies.push((factor.0, factor.1.copy(alloc)?))?;
+    }
+    Ok(List::new(copies))
+}
+
+fn copy_texts(alloc: Global, texts: &[Str]) -> Result<List<Str>, AllocError>
+    ensures { IfOk result (λ copy. copy ≡ texts.now) }
+{
+    let mut copies = Vec::new(alloc);
+    for text in texts {
+        copies.push(text.copy()?)?;
+    }
+    Ok(List::new(copies))
+}

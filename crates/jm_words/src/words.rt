@@ -1,0 +1,197 @@
+ghost use Rattle.std.specs.Prelude.{◌≡◌, ◌++◌, ◌∷◌, [], map, codes, false, IfOk, MatchResult};
+ghost use Rattle.clap.specs.Words.{app_of, found_of, rows_of, rule_of};
+ghost use Rattle.jm_words.specs.Words as spec;
+
+use clap::error::ErrorKind;
+use clap::{Arg, ArgMatches, Command, Error};
+use jm_base::Str;
+use std::alloc::{AllocError, Global};
+
+/// What the program is asked for.
+#[derive(Debug, PartialEq, Drop)]
+pub enum Words {
+    /// To run the scenario on standard input.
+    Input,
+    /// To run the scenario of a file.
+    Run { file: Str },
+    /// To print the value of a selector over each send of the scenario of a file.
+    Select { selector: Str, file: Str },
+    /// To print what the subscription of that key answers alone, over the scenario of a file.
+    Lone { file: Str, key: Str },
+}
+
+/// Why the words ask for nothing that the program does.
+#[derive(Debug, Drop)]
+pub enum WordsFault {
+    /// The words are wrong, or ask for help or the version: the text is clap's.
+    Refused(Error),
+    /// A request for memory was refused.
+    Memory,
+}
+
+impl From<AllocError> for WordsFault {
+    ghost use Rattle.std.specs.Prelude.{◌≡◌};
+    ghost use Rattle.jm_words.specs.declared.words.WordsFault.TheVariants.{Memory};
+
+    ghost from_gives = { λ _ fault. fault ≡ Memory };
+
+    fn from(_: AllocError) -> WordsFault {
+        WordsFault::Memory
+    }
+}
+
+/// An argument that has to be given, by its place.
+fn argument<'a>(alloc: Global, id: &'a str, help: &'a str) -> Arg<'a>
+    ensures rule { rule_of result ≡ spec.argument id.entry.now }
+    ensures local { result.global ≡ false }
+{
+    Arg::new(alloc, id).required(true).help(help)
+}
+
+/// The command `run FILE`. `AllocError` where a request for memory was refused.
+fn run_command<'a>(alloc: Global) -> Result<Command<'a>, AllocError>
+    ensures { IfOk result (spec.IsCommand spec.run_command) }
+{
+    Command::new(alloc, "run")
+        .about("Runs a scenario, and prints the reply of each call")
+        .arg(argument(alloc, "FILE", "The scenario: a JSON file"))
+}
+
+/// The command `select SELECTOR FILE`. `AllocError` where a request for memory was refused.
+fn select_command<'a>(alloc: Global) -> Result<Command<'a>, AllocError>
+    ensures { IfOk result (spec.IsCommand spec.select_command) }
+{
+    Command::new(alloc, "select")
+        .about("Prints the value of a selector over each send of a scenario")
+        .arg(argument(alloc, "SELECTOR", "The selector, as one word"))?
+        .arg(argument(alloc, "FILE", "The scenario: a JSON file"))
+}
+
+/// The command `lone FILE KEY`. `AllocError` where a request for memory was refused.
+fn lone_command<'a>(alloc: Global) -> Result<Command<'a>, AllocError>
+    ensures { IfOk result (spec.IsCommand spec.lone_command) }
+{
+    Command::new(alloc, "lone")
+        .about("Prints what one subscription alone answers over a scenario")
+        .arg(argument(alloc, "FILE", "The scenario: a JSON file"))?
+        .arg(argument(alloc, "KEY", "The subscription, as {\"own\":[1,1,1]}"))
+}
+
+/// The command line with the commands that go by a scenario's calls. `AllocError` where a request for
+/// memory was refused.
+fn with_run_and_select<'a>(alloc: Global) -> Result<Command<'a>, AllocError>
+    ensures { IfOk result (spec.IsCommand spec.with_run_and_select) }
+{
+    Command::new(alloc, "jmsrun")
+        .version("0.1")
+        .about("Runs a scenario of calls on the provider: the one on standard input, or a file's")
+        .subcommand(run_command(alloc)?)?
+        .subcommand(select_command(alloc)?)
+}
+
+/// The command line of the program. `AllocError` where a request for memory was refused.
+fn program<'a>(alloc: Global) -> Result<Command<'a>, AllocError>
+    ensures { IfOk result (λ command. app_of command ≡ spec.program) }
+{
+    with_run_and_select(alloc)?.subcommand(lone_command(alloc)?)
+}
+
+/// Whether the word begins with `-`, and is neither `--` nor a flag for help.
+fn is_dashed(word: &str) -> bool
+    ensures { result ≡ spec.is_dashed word.now }
+{
+    word.as_bytes().first().is_some_and(|byte| *byte == b'-')
+        && !matches!(word, "-h" | "--help" | "--")
+}
+
+/// Whether the words ask for `select` with a selector that looks like an option.
+fn has_dashed_selector(words: &[&str]) -> bool
+    ensures { result ≡ spec.has_dashed_selector (map (λ word. word.now) words.now) }
+{
+    match words {
+        [_, command, selector, ..] => *command == "select" && is_dashed(selector),
+        _ => false,
+    }
+}
+
+/// The words, with `--` before a selector that looks like an option. `AllocError` where a request for
+/// memory was refused.
+fn marked<'a>(alloc: Global, words: &[&'a str]) -> Result<Vec<&'a str>, AllocError>
+    ensures { IfOk result (λ marked.
+        map (λ word. word.now) marked.items ≡ spec.marked (map (λ word. word.now) words.now)) }
+{
+    let mut marked = Vec::new(alloc);
+    if has_dashed_selector(words) {
+        marked.extend_from_slice(&words[..2])?;
+        marked.push("--")?;
+        marked.extend_from_slice(&words[2..])?;
+    } else {
+        marked.extend_from_slice(words)?;
+    }
+    Ok(marked)
+}
+
+/// The first value of the argument. `AllocError` where a request for memory was refused.
+fn value(alloc: Global, matches: &ArgMatches<'_>, id: &str) -> Result<Str, AllocError>
+    ensures { IfOk result (λ text. text ≡ spec.value id.now (rows_of (found_of matches.now))) }
+{
+    let text = matches.get_str(id).unwrap_or("");
+    Ok(Str::new(String::from_str(alloc, text)?))
+}
+
+/// What the command of that name asks for. `AllocError` where a request for memory was refused.
+fn asked(alloc: Global, name: &str, matches: &ArgMatches<'_>) -> Result<Words, AllocError>
+    ensures { IfOk result (λ asked. asked ≡ spec.asked name.now (rows_of (found_of matches.now))) }
+{
+    match name {
+        "run" => Ok(Words::Run {
+            file: value(alloc, matches, "FILE")?,
+        }),
+        "select" => Ok(Words::Select {
+            selector: value(alloc, matches, "SELECTOR")?,
+            file: value(alloc, matches, "FILE")?,
+        }),
+        "lone" => Ok(Words::Lone {
+            file: value(alloc, matches, "FILE")?,
+            key: value(alloc, matches, "KEY")?,
+        }),
+        _ => Ok(Words::Input),
+    }
+}
+
+/// What the words ask for, of which the first is the program's name. `Refused` exactly where clap
+/// refuses them, or they ask for help or the version; a selector that begins with `-` is no option
+/// (ours). `Memory` where a request for memory was refused.
+pub fn read_words(alloc: Global, words: &[&str]) -> Result<Words, WordsFault>
+    ensures read { IfOk result (λ asked. asked ≡ spec.read (map (λ word. word.now) words.now)) }
+    ensures faults { MatchResult result
+        (λ _. spec.faults (map (λ word. word.now) words.now) ≡ [])
+        (spec.IsFaultOf (map (λ word. word.now) words.now)) }
+{
+    let words = marked(alloc, words)?;
+    match program(alloc)?.try_get_matches_from(words.as_slice()) {
+        Ok(matches) => match matches.subcommand() {
+            Some((name, found)) => Ok(asked(alloc, name, found)?),
+            None => Ok(Words::Input),
+        },
+        Err(error) => match error.kind() {
+            ErrorKind::OutOfMemory => Err(WordsFault::Memory),
+            _ => Err(WordsFault::Refused(error)),
+        },
+    }
+}
+
+/// The fault of words that are no text in UTF-8: `Refused`, or `Memory` where a request for memory was
+/// refused.
+pub fn not_text(alloc: Global) -> WordsFault
+    ensures { spec.IsInvalidValue result }
+{
+    let refused = match program(alloc) {
+        Ok(mut command) => command.error(ErrorKind::InvalidValue, "a word is no text in UTF-8"),
+        Err(error) => Err(error),
+    };
+    match refused {
+        Ok(error) => WordsFault::Refused(error),
+        Err(_) => WordsFault::Memory,
+    }
+}

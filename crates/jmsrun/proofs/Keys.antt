@@ -1,0 +1,55 @@
+-- What the items and members of a key spell.
+use Rattle.std.proofs.Common.{◌≡◌, ℕ, List, [], ◌∷◌, length, get_or, Option, Some, None, option_and_then, slice_get, string_bytes, String, refl, arith}
+use Rattle.std.specs.declared.alloc.Global.{Global}
+use Rattle.serde_json.specs.Find.{as_array}
+use Rattle.serde_json.specs.View.{view, items_view, members_view}
+use Rattle.serde_json.specs.declared.value.Value.{Value}
+use Rattle.jmsrun.specs.Key.{durable_of_items, durable_of_names, key_of_items, key_of_members, own_of, own_of_items}
+use Rattle.jmsrun.specs.Values.{name, number, session_of_numbers}
+
+-- items of another length than three spell no consumer
+pub own_of_items-others : (values : List Value) → (length values ≡ 3 → ⊥) → own_of_items (items_view values) ≡ None
+own_of_items-others [] other = refl
+own_of_items-others (a ∷ []) other = refl
+own_of_items-others (a ∷ b ∷ []) other = refl
+own_of_items-others (a ∷ b ∷ c ∷ []) other = absurd (other refl)
+own_of_items-others (a ∷ b ∷ c ∷ d ∷ values) other = refl
+
+-- three items spell the consumer of their numbers
+pub own_of_items-three : (values : List Value) (a b c : Value) → length values ≡ 3 → a ≡ get_or values 0 a → b ≡ get_or values 1 b → c ≡ get_or values 2 c
+    → own_of_items (items_view values) ≡ own_of (session_of_numbers (number (view a)) (number (view b))) (number (view c))
+own_of_items-three [] a b c three _ _ _ = absurd (omega arith)
+own_of_items-three (x ∷ []) a b c three _ _ _ = absurd (omega arith)
+own_of_items-three (x ∷ y ∷ []) a b c three _ _ _ = absurd (omega arith)
+own_of_items-three (x ∷ y ∷ z ∷ []) a b c three e f g = rw (e, f, g) refl
+own_of_items-three (x ∷ y ∷ z ∷ w ∷ values) a b c three _ _ _ = absurd (omega arith)
+
+-- items of another length than two spell no durable subscription
+pub durable_of_items-others : (values : List Value) → (length values ≡ 2 → ⊥) → durable_of_items (items_view values) ≡ None
+durable_of_items-others [] other = refl
+durable_of_items-others (a ∷ []) other = refl
+durable_of_items-others (a ∷ b ∷ []) other = absurd (other refl)
+durable_of_items-others (a ∷ b ∷ c ∷ values) other = refl
+
+-- two items spell the durable subscription of their names
+pub durable_of_items-two : (values : List Value) (a b : Value) → length values ≡ 2 → a ≡ get_or values 0 a → b ≡ get_or values 1 b
+    → durable_of_items (items_view values) ≡ durable_of_names (name (view a)) (name (view b))
+durable_of_items-two [] a b two _ _ = absurd (omega arith)
+durable_of_items-two (x ∷ []) a b two _ _ = absurd (omega arith)
+durable_of_items-two (x ∷ y ∷ []) a b two e f = rw (e, f) refl
+durable_of_items-two (x ∷ y ∷ z ∷ values) a b two _ _ = absurd (omega arith)
+
+-- other than one member spell no key
+pub key_of_members-others : (members : List (String Global × Value)) → (length members ≡ 1 → ⊥) → key_of_members (members_view members) ≡ None
+key_of_members-others [] other = refl
+key_of_members-others (m ∷ []) other = absurd (other refl)
+key_of_members-others (m ∷ n ∷ members) other = refl
+
+-- a member alone spells its own key
+pub key_of_members-one : (members : List (String Global × Value)) (field : String Global) (value : Value) → length members ≡ 1 → slice_get members 0 ≡ Some (field, value)
+    → key_of_members (members_view members) ≡ option_and_then (key_of_items (string_bytes field)) (as_array (view value))
+key_of_members-one [] field value one first = absurd (omega arith)
+key_of_members-one (m ∷ []) field value one first =
+    let same : m ≡ (field, value) = cc in
+    rw same refl
+key_of_members-one (m ∷ n ∷ members) field value one first = absurd (omega arith)

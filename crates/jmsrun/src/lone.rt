@@ -1,0 +1,177 @@
+ghost use Rattle.std.specs.Prelude.{◌≡◌, ◌≢◌, Some, None, true, string_bytes, IfOk, IfErr, IfSome};
+ghost use Rattle.jm_machine.specs.Isolation.{is_unshared};
+ghost use Rattle.jm_machine.specs.Machine.{new_core};
+ghost use Rattle.jmsrun.specs.Calls.{calls_of_text};
+ghost use Rattle.jmsrun.specs.Key.{key_of_text};
+ghost use Rattle.jmsrun.specs.Lone as spec;
+ghost use Rattle.jmsrun.specs.Lone.{IsAfterScenario, IsFaultOfKey, Ran, WritesLone};
+ghost use Rattle.jmsrun.specs.Play.{IsFaultOfScenario, status_of as status_of_replies, status_of_fault};
+
+use crate::key::{KeyFault, read_key};
+use crate::lines::line;
+use crate::play::{Ending, Fault, OPENING, calls_of, ended, run, status_of, written};
+use jm_core::Core;
+use jm_dest::{Key, Number};
+use jm_machine::{ClientCall, Reply};
+use jm_model::{LoneFault, entries, lone_replies};
+use std::alloc::{AllocError, Global};
+use std::io::{Read, Write};
+use std::slice;
+
+/// Equal calls. `AllocError` where a request for memory was refused.
+fn copy_calls(alloc: Global, calls: &[ClientCall]) -> Result<Vec<ClientCall>, AllocError>
+    ensures { IfOk result (λ copy. copy.items ≡ calls.now) }
+{
+    let mut copy = Vec::with_capacity(alloc, calls.len())?;
+    for call in calls {
+        copy.push(call.copy()?)?;
+    }
+    Ok(copy)
+}
+
+/// Whether the call leaves an entry in the record of a run in that opening. `AllocError` where a
+/// request for memory was refused.
+fn leaves_entry(
+    opening: Number,
+    alloc: Global,
+    call: &ClientCall,
+    reply: &Reply,
+) -> Result<bool, AllocError>
+    ensures { IfOk result (λ leaves. leaves ≡ spec.leaves_entry opening call.now reply.now) }
+{
+    let entries = entries(
+        alloc,
+        opening,
+        slice::from_ref(call),
+        slice::from_ref(reply),
+    )?;
+    Ok(!entries.is_empty())
+}
+
+/// The numbers, from 1, of the calls that leave an entry in the record of a run in that opening.
+/// `AllocError` where a request for memory was refused.
+fn numbers(
+    opening: Number,
+    alloc: Global,
+    calls: &[ClientCall],
+    replies: &[Reply],
+) -> Result<Vec<usize>, AllocError>
+    ensures { IfOk result (λ numbers. numbers.items ≡ spec.numbers_from opening 1 calls.now replies.now) }
+{
+    let mut numbers = Vec::new(alloc);
+    for (index, call) in calls.iter().enumerate() {
+        let Some(reply) = replies.get(index) else {
+            return Ok(numbers);
+        };
+        if leaves_entry(opening, alloc, call, reply)? {
+            numbers.push(index + 1)?;
+        }
+    }
+    Ok(numbers)
+}
+
+/// The line of a reply with the place of its entry, by the numbers of the entries' calls. `AllocError`
+/// where a request for memory was refused.
+fn line_at(alloc: Global, numbers: &[usize], placed: &(usize, Reply)) -> Result<String, AllocError>
+    ensures { IfOk result (λ text. string_bytes text ≡ spec.line_at numbers.now placed.now) }
+{
+    let number = numbers.get(placed.0).copied().unwrap_or(0);
+    line(alloc, number, &placed.1)
+}
+
+/// The lines of replies, each with the place of its entry, by the numbers of the entries' calls.
+/// `AllocError` where a request for memory was refused.
+fn lines_at(
+    alloc: Global,
+    numbers: &[usize],
+    replies: &[(usize, Reply)],
+) -> Result<String, AllocError>
+    ensures { IfOk result (λ lines. string_bytes lines ≡ spec.lines_at numbers.now replies.now) }
+{
+    let mut lines = String::new(alloc);
+    for placed in replies {
+        let line = line_at(alloc, numbers, placed)?;
+        lines.push_str(line.as_str())?;
+    }
+    Ok(lines)
+}
+
+/// The calls of the scenario that the reader gives, and the replies to them, made in turn on a new
+/// provider.
+fn ran<R: Read>(alloc: Global, reader: &mut R) -> Result<(Vec<ClientCall>, Vec<Reply>), Fault>
+    ensures ok { IfOk result (λ ran. IfSome (R.remaining reader.old) (λ all. Ran all ran.0.items ran.1.items)) }
+    ensures scenario { IfErr result (λ fault. IfSome (R.remaining reader.old) (λ all. IsFaultOfScenario all fault)) }
+    ensures other { IfErr result spec.IsNoKeyFault }
+{
+    let calls = calls_of(alloc, reader)?;
+    let replies = run(alloc, copy_calls(alloc, &calls)?)?;
+    Ok((calls, replies))
+}
+
+/// The key that the text spells.
+fn key_of(alloc: Global, text: &str) -> Result<Key, Fault>
+    ensures ok { IfOk result (λ key. key_of_text text.now ≡ Some key) }
+    ensures err { IfErr result (spec.RefusesText text.now) }
+{
+    match read_key(alloc, text)? {
+        Some(key) => Ok(key),
+        None => Err(Fault::Key(KeyFault::Syntax)),
+    }
+}
+
+/// The lines of what the key's subscription answers alone, over the record of those calls and replies.
+fn lines_alone(
+    alloc: Global,
+    key: &Key,
+    calls: &[ClientCall],
+    replies: &[Reply],
+) -> Result<String, Fault>
+    ensures ok { IfOk result (λ lines. (string_bytes lines ≡ spec.lines_alone key.now calls.now replies.now)
+        × (is_unshared key.now (new_core 1) ≡ true)) }
+    ensures err { IfErr result (spec.RefusesKey key.now) }
+{
+    let Ok(opening) = Core::new(alloc, OPENING) else {
+        return Err(Fault::Memory);
+    };
+    let numbers = numbers(opening.opening(), alloc, calls, replies)?;
+    let entries = entries(alloc, opening.opening(), calls, replies)?;
+    match lone_replies(alloc, &opening, &entries, key) {
+        Ok(replies) => Ok(lines_at(alloc, &numbers, &replies)?),
+        Err(LoneFault::NotUnshared) => Err(Fault::Key(KeyFault::NotUnshared)),
+        Err(LoneFault::Memory) => Err(Fault::Memory),
+    }
+}
+
+/// The lines of the subscription of the key that the text spells, over a run of the scenario that the
+/// reader gives, and the status of that run.
+fn lines_of<R: Read>(alloc: Global, reader: &mut R, key: &str) -> Result<(String, u8), Fault>
+    ensures lines { IfOk result (λ lines. IfSome (R.remaining reader.old) (λ all. spec.TellsLone all key.now (string_bytes lines.0) lines.1)) }
+    ensures scenario { IfErr result (λ fault. IfSome (R.remaining reader.old) (λ all. IsFaultOfScenario all fault)) }
+    ensures key { IfErr result (IsFaultOfKey key.now) }
+    ensures after { IfErr result (λ fault. IfSome (R.remaining reader.old) (λ all. IsAfterScenario all fault)) }
+{
+    let (calls, replies) = ran(alloc, reader)?;
+    let key = key_of(alloc, key)?;
+    let lines = lines_alone(alloc, &key, &calls, &replies)?;
+    Ok((lines, status_of(&replies)))
+}
+
+/// Reads a scenario and makes its calls on a new provider, then reads the key of a subscription, and
+/// writes what this subscription answers alone, fed with the calls of its own session, with the
+/// accepted calls of that session's connection, and with the messages sent that it accepts: a line for
+/// each reply, with the number of its call. The status is that of the run.
+pub fn lone<R: Read, W: Write>(alloc: Global, reader: &mut R, key: &str, writer: &mut W) -> Ending
+    ensures fault { IfSome result.fault (λ fault. (writer.new ≡ writer.old) × (result.status ≡ status_of_fault fault)) }
+    // Which fault comes: that of the scenario before any of the key.
+    ensures scenario { IfSome result.fault (λ fault. IfSome (R.remaining reader.old) (λ all. IsFaultOfScenario all fault)) }
+    ensures key { IfSome result.fault (IsFaultOfKey key.now) }
+    ensures after { IfSome result.fault (λ fault. IfSome (R.remaining reader.old) (λ all. IsAfterScenario all fault)) }
+    // What is written where no fault comes, and the writes succeed.
+    ensures lines { result.fault ≡ None → result.status ≢ 1 → IfSome (R.remaining reader.old)
+        (λ all. WritesLone all key.now result.status (W.contents writer.old) (W.contents writer.new)) }
+{
+    match lines_of(alloc, reader, key) {
+        Ok((lines, status)) => written(writer, lines.as_str(), status),
+        Err(fault) => ended(fault),
+    }
+}
