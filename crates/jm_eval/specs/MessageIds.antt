@@ -3,7 +3,7 @@ use Rattle.std.specs.Prelude.{ℕ, List, ◌++◌, codes, decimal}
 use Rattle.jm_header.specs.declared.content.Content.{Content}
 
 -- `ID:<opening>-<connection>.<session>.<number>`, each number in decimal digits
-abbrev pub message_id : Content → List ℕ
+unfoldable pub message_id : Content → List ℕ
 message_id message =
     let session = message.sender.session in
     codes "ID:" ++ decimal message.sender.opening ++ codes "-" ++ decimal session.connection

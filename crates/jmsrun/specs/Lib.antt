@@ -1,10 +1,3 @@
-pub mod Lines
-pub mod Reading
-pub mod Fields
-pub mod Values
-pub mod Drafts
-pub mod Calls
 pub mod Play
 pub mod Select
-pub mod Key
 pub mod Lone

@@ -8,13 +8,13 @@ use Rattle.jm_machine.specs.Isolation.{alone, is_unshared}
 use Rattle.jm_machine.specs.Machine.{new_core}
 use Rattle.jm_machine.specs.declared.answer.Answer.{Answer}
 use Rattle.jm_machine.specs.declared.call.ClientCall.{ClientCall}
-use Rattle.jmsrun.specs.Calls.{calls_of_text}
-use Rattle.jmsrun.specs.Key.{key_of_text}
-use Rattle.jmsrun.specs.Lines.{line}
+use Rattle.jm_scenario.specs.Calls.{calls_of_text}
+use Rattle.jm_scenario.specs.Key.{key_of_text}
+use Rattle.jm_scenario.specs.Lines.{line}
 use Rattle.jmsrun.specs.Play.{IsRun, status_of}
-use Rattle.jmsrun.specs.declared.key.KeyFault.TheVariants as cause
-use Rattle.jmsrun.specs.declared.play.Fault.{Fault}
-use Rattle.jmsrun.specs.declared.play.Fault.TheVariants as fault
+use Rattle.jmsrun.specs.declared.fault.KeyFault.TheVariants as cause
+use Rattle.jmsrun.specs.declared.fault.Fault.{Fault}
+use Rattle.jmsrun.specs.declared.fault.Fault.TheVariants as fault
 
 -- the call leaves an entry in the record of a run in that opening
 abbrev pub leaves_entry : ℕ → ClientCall → Result Answer Refusal → Bool

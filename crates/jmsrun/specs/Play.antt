@@ -10,10 +10,10 @@ use Rattle.jm_machine.specs.declared.answer.Answer.{Answer}
 use Rattle.jm_machine.specs.declared.call.ClientCall.{ClientCall}
 use Rattle.jm_syntax.specs.Parse.{parsed}
 use Rattle.jm_syntax.specs.declared.fault.SyntaxFault.{SyntaxFault}
-use Rattle.jmsrun.specs.Calls.{calls_of_text}
-use Rattle.jmsrun.specs.Lines.{lines}
-use Rattle.jmsrun.specs.declared.play.Fault.{Fault}
-use Rattle.jmsrun.specs.declared.play.Fault.TheVariants as fault
+use Rattle.jm_scenario.specs.Calls.{calls_of_text}
+use Rattle.jm_scenario.specs.Lines.{lines}
+use Rattle.jmsrun.specs.declared.fault.Fault.{Fault}
+use Rattle.jmsrun.specs.declared.fault.Fault.TheVariants as fault
 
 -- the replies fit the calls, made in turn on a new provider in opening 1
 abbrev pub IsRun : List ClientCall → List (Result Answer Refusal) → Type 0
@@ -63,6 +63,12 @@ selector_fault refused = fault.Selector refused.cause refused.at
 abbrev pub IsFaultOfSelector : List ℕ → Fault → Type 0
 IsFaultOfSelector text (fault.Selector cause at) = parsed text ≡ Err (record { at = at; cause = cause })
 IsFaultOfSelector text _ = Unit {0}
+
+-- a fault of bytes that were read: they spell no calls, or memory is refused
+abbrev pub RefusesScenario : List ℕ → Fault → Type 0
+RefusesScenario bytes (fault.Scenario _) = IsUtf8 bytes → calls_of_text bytes ≡ None
+RefusesScenario bytes fault.Memory = Unit {0}
+RefusesScenario bytes _ = ⊥
 
 -- a fault of reading bytes: a read fails, or memory is refused
 abbrev pub IsFaultOfReading : Fault → Type 0

@@ -15,7 +15,7 @@ use Rattle.jm_machine.specs.declared.call.ClientCall.{ClientCall}
 use Rattle.jm_machine.specs.declared.call.ClientCall.TheVariants.{Ask, Send}
 use Rattle.jm_syntax.specs.Parse.{parsed}
 use Rattle.jm_syntax.specs.declared.tree.Tree.{Tree}
-use Rattle.jmsrun.specs.Calls.{calls_of_text}
+use Rattle.jm_scenario.specs.Calls.{calls_of_text}
 use Rattle.jm_base.specs.Shown.{refusal_name}
 
 -- the number of each session's newest stamped send, 0 where it has none

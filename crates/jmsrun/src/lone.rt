@@ -1,19 +1,19 @@
 ghost use Rattle.std.specs.Prelude.{◌≡◌, ◌≢◌, Some, None, true, string_bytes, IfOk, IfErr, IfSome};
 ghost use Rattle.jm_machine.specs.Isolation.{is_unshared};
 ghost use Rattle.jm_machine.specs.Machine.{new_core};
-ghost use Rattle.jmsrun.specs.Calls.{calls_of_text};
-ghost use Rattle.jmsrun.specs.Key.{key_of_text};
+ghost use Rattle.jm_scenario.specs.Calls.{calls_of_text};
+ghost use Rattle.jm_scenario.specs.Key.{key_of_text};
 ghost use Rattle.jmsrun.specs.Lone as spec;
 ghost use Rattle.jmsrun.specs.Lone.{IsAfterScenario, IsFaultOfKey, Ran, WritesLone};
 ghost use Rattle.jmsrun.specs.Play.{IsFaultOfScenario, status_of as status_of_replies, status_of_fault};
 
-use crate::key::{KeyFault, read_key};
-use crate::lines::line;
-use crate::play::{Ending, Fault, OPENING, calls_of, ended, run, status_of, written};
+use crate::fault::{Fault, KeyFault};
+use crate::play::{Ending, OPENING, calls_of, ended, run, status_of, written};
 use jm_core::Core;
 use jm_dest::{Key, Number};
 use jm_machine::{ClientCall, Reply};
 use jm_model::{LoneFault, entries, lone_replies};
+use jm_scenario::{read_key, write_reply};
 use std::alloc::{AllocError, Global};
 use std::io::{Read, Write};
 use std::slice;
@@ -76,7 +76,7 @@ fn line_at(alloc: Global, numbers: &[usize], placed: &(usize, Reply)) -> Result<
     ensures { IfOk result (λ text. string_bytes text ≡ spec.line_at numbers.now placed.now) }
 {
     let number = numbers.get(placed.0).copied().unwrap_or(0);
-    line(alloc, number, &placed.1)
+    write_reply(alloc, number, &placed.1)
 }
 
 /// The lines of replies, each with the place of its entry, by the numbers of the entries' calls.

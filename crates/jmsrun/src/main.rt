@@ -2,18 +2,17 @@
 //! the value of a selector over each send of a scenario, or what one subscription alone answers.
 #![tactic(auto)]
 
-mod key;
-mod lines;
+mod fault;
 mod lone;
 mod play;
-mod scenario;
 mod select;
 #[cfg(test)]
 mod tests;
 
+use fault::Fault;
 use jm_words::{Words, WordsFault, not_text, read_words};
 use lone::lone;
-use play::{Ending, Fault, ended, play};
+use play::{Ending, ended, play};
 use select::pick;
 use std::env::Env;
 use std::io::Read;

@@ -1,20 +1,18 @@
-ghost use Rattle.std.specs.Prelude.{◌≡◌, ◌≢◌, Some, None, IfOk, IfErr, IfSome};
+ghost use Rattle.std.specs.Prelude.{◌≡◌, ◌≢◌, Some, None, IfOk, IfErr, IfSome, MatchResult};
 ghost use Rattle.std.specs.Io.KnownBytes.{Appends};
 ghost use Rattle.std.specs.List.{list_any};
-ghost use Rattle.jmsrun.specs.Calls.{calls_of_text};
+ghost use Rattle.jm_scenario.specs.Calls.{calls_of_text};
 ghost use Rattle.jmsrun.specs.Lone.{IsNoKeyFault};
 ghost use Rattle.jmsrun.specs.Play as spec;
-ghost use Rattle.jmsrun.specs.Play.{IsFaultOfScenario, IsRun, Plays, WritesLines, status_of_fault};
+ghost use Rattle.jmsrun.specs.Play.{IsFaultOfScenario, IsRun, Plays, RefusesScenario, WritesLines, status_of_fault};
 
-use crate::key::KeyFault;
-use crate::lines::write_replies;
-use crate::scenario::{ScenarioFault, read_scenario};
-use jm_base::{Cause, Refusal};
+use crate::fault::Fault;
+use jm_base::Refusal;
 use jm_core::Core;
 use jm_machine::{ClientCall, Reply};
+use jm_scenario::{ScenarioFault, read_scenario, write_replies};
 use std::alloc::{AllocError, Global};
 use std::io::{Read, Write};
-use thiserror::Error;
 
 const SCENARIO_MAX: usize = 16_777_216;
 
@@ -22,26 +20,6 @@ const CHUNK: usize = 4096;
 
 /// The number of the only opening of a provider that keeps nothing.
 pub(crate) const OPENING: u32 = 1;
-
-/// Why the program ends without the lines of its replies.
-#[derive(Debug, PartialEq, Drop, Error)]
-pub enum Fault {
-    /// A read failed, or the scenario has more than 16,777,216 bytes.
-    #[error("file: not readable")]
-    File,
-    /// The bytes are no scenario.
-    #[error(transparent)]
-    Scenario(ScenarioFault),
-    /// The selector is refused, at that offset in bytes.
-    #[error("selector: {cause} at {at}")]
-    Selector { cause: Cause, at: usize },
-    /// The text is no key of an unshared subscription.
-    #[error(transparent)]
-    Key(KeyFault),
-    /// A request for memory was refused.
-    #[error("memory")]
-    Memory,
-}
 
 /// How a run of the program ends.
 #[derive(Debug, PartialEq, Drop)]
@@ -51,17 +29,6 @@ pub struct Ending {
     pub status: u8,
     /// What is printed on standard error.
     pub fault: Option<Fault>,
-}
-
-impl From<AllocError> for Fault {
-    ghost use Rattle.std.specs.Prelude.{◌≡◌};
-    ghost use Rattle.jmsrun.specs.declared.play.Fault.TheVariants.{Memory};
-
-    ghost from_gives = { λ _ fault. fault ≡ Memory };
-
-    fn from(_: AllocError) -> Fault {
-        Fault::Memory
-    }
 }
 
 /// The bytes of the reader to its end, in at most 16,777,217 reads.
@@ -97,6 +64,17 @@ pub(crate) fn run(alloc: Global, calls: Vec<ClientCall>) -> Result<Vec<Reply>, A
     }
 }
 
+/// The calls of the scenario.
+fn calls_in(alloc: Global, scenario: &[u8]) -> Result<Vec<ClientCall>, Fault>
+    ensures { MatchResult result (λ calls. calls_of_text scenario.now ≡ Some calls.items) (RefusesScenario scenario.now) }
+{
+    match read_scenario(alloc, scenario) {
+        Ok(calls) => Ok(calls),
+        Err(ScenarioFault::Memory) => Err(Fault::Memory),
+        Err(fault) => Err(Fault::Scenario(fault)),
+    }
+}
+
 /// The calls of the scenario that the reader gives.
 pub(crate) fn calls_of<R: Read>(alloc: Global, reader: &mut R) -> Result<Vec<ClientCall>, Fault>
     ensures ok { IfOk result (λ calls. IfSome (R.remaining reader.old) (λ all. calls_of_text all ≡ Some calls.items)) }
@@ -105,11 +83,7 @@ pub(crate) fn calls_of<R: Read>(alloc: Global, reader: &mut R) -> Result<Vec<Cli
     ensures key { IfErr result IsNoKeyFault }
 {
     let bytes = read_all(alloc, reader)?;
-    match read_scenario(alloc, bytes.as_slice()) {
-        Ok(calls) => Ok(calls),
-        Err(ScenarioFault::Memory) => Err(Fault::Memory),
-        Err(fault) => Err(Fault::Scenario(fault)),
-    }
+    calls_in(alloc, bytes.as_slice())
 }
 
 /// The replies to the calls of the scenario that the reader gives.

@@ -6,7 +6,8 @@ ghost use Rattle.jmsrun.specs.Play.{IsFaultOfScenario, IsFaultOfSelector, Refuse
 ghost use Rattle.jmsrun.specs.Select as spec;
 ghost use Rattle.jmsrun.specs.Select.{Picks};
 
-use crate::play::{Ending, Fault, OPENING, calls_of, ended, written};
+use crate::fault::Fault;
+use crate::play::{Ending, OPENING, calls_of, ended, written};
 use jm_base::{Cause, Refusal};
 use jm_dest::{Destination, Moment, Number, SessionId};
 use jm_eval::{Truth, condition};

@@ -1,12 +1,8 @@
-mod faults;
 mod lone;
 mod select;
 
-use crate::lines::write_replies;
-use crate::play::{Ending, Fault, play};
-use crate::scenario::{Field, FieldName, ScenarioFault, read_scenario};
-use jm_base::{Cause, Refusal, Str};
-use jm_machine::Answer;
+use crate::fault::Fault;
+use crate::play::{Ending, play};
 use std::alloc::Global;
 use std::io;
 use std::io::{Read, Write};
@@ -280,47 +276,27 @@ fn failing_writer(rt: HostRuntime) {
     }
 }
 
-#[test]
-fn refusals(rt: HostRuntime) -> Result<(), Fail> {
-    let at_4 = Refusal::InvalidSelector {
-        at: 4,
-        cause: Cause::Expected,
-    };
-    let replies = vec![in rt.alloc();
-        Ok(Answer::Sent(9223372036854775807)),
-        Err(Refusal::IllegalState),
-        Err(at_4),
-        Err(Refusal::OutOfRange),
-        Err(Refusal::Memory),
-        Err(Refusal::Store),
-    ]?;
-    let lines = write_replies(rt.alloc(), &replies)?;
-    let wanted = "1 sent 9223372036854775807
-2 refused IllegalState
-3 refused InvalidSelector Expected 4
-4 refused OutOfRange
-5 refused Memory
-6 refused Store
-";
-    assert_eq!(rt; lines.as_str(), wanted);
-    Ok(())
-}
+/// Texts that are no scenario, and what is told of each.
+const FAULTS: [(&str, &str); 3] = [
+    ("{", "scenario: syntax"),
+    ("{\"calls\":[7]}", "scenario: step 1: field op"),
+    (
+        "{\"calls\":[{\"op\":\"open\",\"c\":1},{\"op\":\"open\",\"c\":1.5}]}",
+        "scenario: step 2: floating",
+    ),
+];
 
 #[test]
-fn fault_values(rt: HostRuntime) -> Result<(), Fail> {
+fn scenario_faults(rt: HostRuntime) -> Result<(), Fail> {
     let alloc = rt.alloc();
-    assert!(rt; read_scenario(alloc, b"\xff").is_err_and(|fault| fault == ScenarioFault::Syntax));
-    let now = ScenarioFault::Shape {
-        step: 0,
-        field: FieldName::Known(Field::Calls),
-    };
-    assert!(rt; read_scenario(alloc, b"{}").is_err_and(|fault| fault == now));
-    let held = ScenarioFault::Shape {
-        step: 0,
-        field: FieldName::Unknown(Str::new(String::from_str(alloc, "held")?)),
-    };
-    assert!(rt;
-        read_scenario(alloc, b"{\"calls\":[],\"held\":0}").is_err_and(|fault| fault == held)
-    );
+    for (scenario, text) in FAULTS {
+        let (ending, written) = played(alloc, scenario);
+        assert!(rt; ending.status == 1 && written.is_empty());
+        let told = match &ending.fault {
+            Some(fault) => format!(in alloc; "{fault}")?,
+            None => String::new(alloc),
+        };
+        assert_eq!(rt; told.as_str(), text, "for {scenario}");
+    }
     Ok(())
 }

@@ -1,5 +1,5 @@
 use super::{FailingReader, FailingWriter};
-use crate::play::Fault;
+use crate::fault::Fault;
 use crate::select::pick;
 use std::alloc::{AllocError, Global};
 use std::str;

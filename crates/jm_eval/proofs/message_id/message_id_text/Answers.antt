@@ -1,5 +1,6 @@
 use Rattle.std.proofs.Common.{IsAscii, arith, sym, subst}
 use Rattle.jm_eval.proofs.Digits.{written, text_ascii}
+use Rattle.jm_eval.specs.MessageIds.{message_id}
 use Rattle.jm_eval.proofs.message_id.message_id_text.Goals as goal
 
 pub invariant_of-result : goal.invariant_of-result
@@ -10,6 +11,7 @@ invariant_of-result c =
     (omega arith, subst IsAscii (sym e) (text_ascii c.from-3.result c.from-2.result c.from.result c.number.result (omega arith) (omega arith) (omega arith) (omega arith)))
 
 pub returns : goal.returns
+unfolding message_id
 returns c =
     let e = written c.from-3.result c.from-2.result c.from.result c.number.result _ _ _ _ _ _ _ (cc)
     c.write_part-end.ensures.written c.write_part-end-2.ensures.written c.write_part-end-3.ensures.written c.write_part-end-4.ensures.written

@@ -1,6 +1,5 @@
 use Rattle.std.proofs.Common.{rules}
-use Rattle.jmsrun.proofs.Faults.{reading-scenario, reading-selector}
-use Rattle.jmsrun.proofs.KeyFaults.{reading-key}
+use Rattle.jmsrun.proofs.Faults.{reading-key, reading-scenario, reading-selector}
 use Rattle.jmsrun.proofs.play.calls_of.Goals as goal
 
 pub returns-in_err-bytes-clause-err : goal.returns-in_err-bytes-clause-err

@@ -1,5 +1,5 @@
 use Rattle.std.proofs.Common.{◌≡◌, Some, string_bytes}
-use Rattle.jmsrun.specs.Calls.{calls_of_text}
+use Rattle.jm_scenario.specs.Calls.{calls_of_text}
 use Rattle.jmsrun.specs.Select.{Picks}
 use Rattle.jmsrun.proofs.Faults.{IfSome-then}
 use Rattle.jmsrun.proofs.select.lines_of.Goals as goal

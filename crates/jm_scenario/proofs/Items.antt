@@ -1,0 +1,56 @@
+-- What the items of an array spell.
+use Rattle.std.proofs.Common.{◌≡◌, ℕ, ◌<◌, ◌+◌, suc, List, [], ◌∷◌, ◌++◌, length, drop, get_or, Bool, true, false, if◌then◌else◌, Option, Some, None, option_map, refl, ap, sym, ◌∙◌, append_assoc, add-one, drop-cons, arith}
+use Rattle.serde_json.specs.Data.{Data, Items, item}
+use Rattle.serde_json.specs.View.{view, items_view}
+use Rattle.serde_json.specs.declared.value.Value.{Value}
+use Rattle.jm_dest.specs.declared.session.SessionId.{SessionId}
+use Rattle.jm_machine.specs.declared.call.ClientCall.{ClientCall}
+use Rattle.jm_scenario.specs.Calls.{call_of, calls_of_items}
+use Rattle.jm_base.specs.declared.refusal.MessageFault.{MessageFault}
+use Rattle.jm_base.specs.declared.refusal.MessageFault.TheVariants.{BadName, Memory}
+use Rattle.jm_header.specs.declared.content.Settings.{Settings}
+use Rattle.jm_scenario.specs.Reading.{where_true}
+use Rattle.jm_scenario.specs.Drafts.{with_three}
+use Rattle.jm_scenario.specs.Values.{number, session_of_items, session_of_numbers}
+
+-- items of another length than two spell no session
+pub session_of_items-others : (values : List Value) → (length values ≡ 2 → ⊥) → session_of_items (items_view values) ≡ None
+session_of_items-others [] other = refl
+session_of_items-others (a ∷ []) other = refl
+session_of_items-others (a ∷ b ∷ []) other = absurd (other refl)
+session_of_items-others (a ∷ b ∷ c ∷ values) other = refl
+
+-- items of another length than three spell no property
+pub with_three-others : (values : List Value) (draft : Settings) → (length values ≡ 3 → ⊥) → with_three (items_view values) draft ≡ None
+with_three-others [] draft other = refl
+with_three-others (a ∷ []) draft other = refl
+with_three-others (a ∷ b ∷ []) draft other = refl
+with_three-others (a ∷ b ∷ c ∷ []) draft other = absurd (other refl)
+with_three-others (a ∷ b ∷ c ∷ d ∷ values) draft other = refl
+
+-- a name that may not have that value
+pub where_true-bad_name : (test : Bool) (value : Option Settings) → BadName ≡ (if test then Memory else BadName) → where_true test value ≡ None
+where_true-bad_name true value e = cc
+where_true-bad_name false value e = refl
+
+-- the items from an index on
+pub items_view-drop : (values : List Value) (index : ℕ) (value : Value) → index < length values → value ≡ get_or values index value
+    → items_view (drop index values) ≡ item (view value) (items_view (drop (index + 1) values))
+items_view-drop values index value within e =
+    rw add-one (ap items_view (drop-cons values index value within) ∙ ap (λ v. item (view v) (items_view (drop (suc index) values))) (sym e))
+
+-- what stands before a list of calls
+abbrev pub after : List ClientCall → Option (List ClientCall) → Option (List ClientCall)
+after done rest = option_map (λ calls. done ++ calls) rest
+
+after-append : (done : List ClientCall) (call : ClientCall) (rest : Option (List ClientCall)) → after done (option_map (λ calls. call ∷ calls) rest) ≡ after (done ++ call ∷ []) rest
+after-append done call None = refl
+after-append done call (Some calls) = ap Some (sym (append_assoc done (call ∷ []) calls))
+
+-- one more call is read
+pub after-item : (done : List ClientCall) (value : Data) (items : Items) (call : ClientCall) → call_of value ≡ Some call → after done (calls_of_items (item value items)) ≡ after (done ++ call ∷ []) (calls_of_items items)
+after-item done value items call reads = rw reads (after-append done call (calls_of_items items))
+
+-- a call that is not spelled
+pub after-none : (done : List ClientCall) (value : Data) (items : Items) → call_of value ≡ None → after done (calls_of_items (item value items)) ≡ None
+after-none done value items none = rw none refl

@@ -1,0 +1,5 @@
+use Rattle.std.proofs.Common.{append_assoc, rules}
+use Rattle.jm_scenario.proofs.lines.delivery_text.Goals as goal
+
+pub returns : goal.returns
+returns c = simp append_assoc (search rules)

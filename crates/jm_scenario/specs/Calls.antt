@@ -1,0 +1,82 @@
+-- The calls that a scenario spells (ours).
+use Rattle.std.specs.Prelude.{ℕ, ◌&&◌, ◌||◌, Bool, true, false, List, [], ◌∷◌, Option, Some, None, option_map, option_and_then, if◌then◌else◌, codes}
+use Rattle.std.specs.Option.{option_map_or}
+use Rattle.std.specs.Str.{bytes_eq}
+use Rattle.serde_json.specs.Data.{Data, Items, no_items, item, Members, no_members, member}
+use Rattle.serde_json.specs.Find.{get, as_str, as_array, as_object}
+use Rattle.serde_json.specs.Read.{read}
+use Rattle.jm_base.specs.declared.mode.Mode.{Mode}
+use Rattle.jm_dest.specs.declared.destination.Destination.TheVariants.{Topic}
+use Rattle.jm_dest.specs.declared.session.SessionId.{SessionId}
+use Rattle.jm_machine.specs.declared.call.Who.TheVariants.{Connection as OfConnection, Session as OfSession}
+use Rattle.jm_machine.specs.declared.call.Request.{Request}
+use Rattle.jm_machine.specs.declared.call.Request.TheVariants as request
+use Rattle.jm_machine.specs.declared.call.ClientCall.{ClientCall}
+use Rattle.jm_machine.specs.declared.call.ClientCall.TheVariants as call
+use Rattle.jm_scenario.specs.Drafts.{draft}
+use Rattle.jm_scenario.specs.Fields.{operation_named, is_known}
+use Rattle.jm_scenario.specs.Reading.{where_true}
+use Rattle.jm_scenario.specs.Values.{number, session, mode, name, moment, required, optional}
+use Rattle.jm_scenario.specs.declared.field.Owner.{Owner}
+use Rattle.jm_scenario.specs.declared.field.Owner.TheVariants.{Scenario, Open, Start, Stop, Session, Consumer, Send, Receive}
+
+-- a call by the connection of the record
+abbrev pub connection_call : Request → Data → Option ClientCall
+connection_call request value = option_map (λ c. call.Ask (OfConnection c) request) (required number (codes "c") value)
+
+-- a new session of that mode
+abbrev pub session_call : Data → Option ClientCall
+session_call value =
+    option_and_then (λ s. option_map (λ m. call.Ask (OfSession s) (request.CreateSession m)) (required mode (codes "mode") value))
+    (required session (codes "s") value)
+
+-- a new consumer of that topic, with the text of the selector where the field stands
+abbrev pub consumer_call : Data → Option ClientCall
+consumer_call value =
+    option_and_then (λ s. option_and_then (λ k. option_and_then (λ t. option_map (λ selector. call.Ask (OfSession s) (request.CreateConsumer k t selector))
+    (optional as_str (codes "selector") value)) (required name (codes "topic") value)) (required number (codes "k") value)) (required session (codes "s") value)
+
+-- a receive of that consumer at that moment
+abbrev pub receive_call : Data → Option ClientCall
+receive_call value =
+    option_and_then (λ s. option_and_then (λ k. option_map (λ now. call.Ask (OfSession s) (request.Receive k now))
+    (required moment (codes "now") value)) (required number (codes "k") value)) (required session (codes "s") value)
+
+-- a send to that topic at that moment
+abbrev pub send_call : Data → Option ClientCall
+send_call value =
+    option_and_then (λ s. option_and_then (λ t. option_and_then (λ now. option_map (λ d. call.Send s d (Topic t) now)
+    (draft value)) (required moment (codes "now") value)) (required name (codes "topic") value)) (required session (codes "s") value)
+
+-- the call of that operation, whatever other fields stand
+abbrev pub call_as : Owner → Data → Option ClientCall
+call_as Scenario value = None
+call_as Open value = connection_call request.Open value
+call_as Start value = connection_call request.Start value
+call_as Stop value = connection_call request.Stop value
+call_as Session value = session_call value
+call_as Consumer value = consumer_call value
+call_as Send value = send_call value
+call_as Receive value = receive_call value
+
+-- the operation of a record
+abbrev pub operation : Data → Option Owner
+operation value = option_and_then operation_named (option_and_then as_str (get (codes "op") value))
+
+-- the call that a value spells
+abbrev pub call_of : Data → Option ClientCall
+call_of value = option_and_then (λ owner. where_true (is_known owner value) (call_as owner value)) (operation value)
+
+-- the calls that the values of an array spell, in order
+abbrev pub calls_of_items : Items → Option (List ClientCall)
+calls_of_items no_items = Some []
+calls_of_items (item value items) = option_and_then (λ first. option_map (λ rest. first ∷ rest) (calls_of_items items)) (call_of value)
+
+-- the calls that a value spells: of its array `calls`, which stands alone
+abbrev pub calls : Data → Option (List ClientCall)
+calls value = option_and_then (λ items. where_true (is_known Scenario value) (calls_of_items items))
+    (option_and_then as_array (get (codes "calls") value))
+
+-- the calls that a JSON text spells
+abbrev pub calls_of_text : List ℕ → Option (List ClientCall)
+calls_of_text text = option_and_then calls (read text)

@@ -1,0 +1,77 @@
+-- The names of fields and operations (ours).
+use Rattle.std.specs.Prelude.{ℕ, ◌&&◌, ◌||◌, Bool, true, List, Option, Some, None, if◌then◌else◌, codes}
+use Rattle.std.specs.Option.{option_map_or}
+use Rattle.std.specs.Str.{bytes_eq}
+use Rattle.serde_json.specs.Data.{Data, Members, no_members, member}
+use Rattle.serde_json.specs.Find.{as_object}
+use Rattle.jm_scenario.specs.declared.field.Field.{Field}
+use Rattle.jm_scenario.specs.declared.field.Field.TheVariants as field
+use Rattle.jm_scenario.specs.declared.field.FieldName.{FieldName}
+use Rattle.jm_scenario.specs.declared.field.FieldName.TheVariants.{Known, Unknown}
+use Rattle.jm_scenario.specs.declared.field.Owner.{Owner}
+use Rattle.jm_scenario.specs.declared.field.Owner.TheVariants.{Scenario, Open, Start, Stop, Session, Consumer, Send, Receive}
+
+-- the name of a field
+abbrev pub field_name : Field → List ℕ
+field_name field.Calls = codes "calls"
+field_name field.Operation = codes "op"
+field_name field.Connection = codes "c"
+field_name field.Session = codes "s"
+field_name field.Mode = codes "mode"
+field_name field.Consumer = codes "k"
+field_name field.Queue = codes "queue"
+field_name field.Topic = codes "topic"
+field_name field.Selector = codes "selector"
+field_name field.Now = codes "now"
+field_name field.Priority = codes "priority"
+field_name field.Persistent = codes "persistent"
+field_name field.TimeToLive = codes "ttl"
+field_name field.Correlation = codes "correlation"
+field_name field.Type = codes "type"
+field_name field.Properties = codes "props"
+field_name field.Text = codes "text"
+field_name field.Bytes = codes "bytes"
+
+-- the name of a field as a fault tells it
+abbrev pub told_name : FieldName → List ℕ
+told_name (Known field) = field_name field
+told_name (Unknown name) = name
+
+-- the operation of that name
+abbrev pub operation_named : List ℕ → Option Owner
+operation_named text =
+    if bytes_eq text (codes "open") then Some Open else
+    (if bytes_eq text (codes "start") then Some Start else
+    (if bytes_eq text (codes "stop") then Some Stop else
+    (if bytes_eq text (codes "session") then Some Session else
+    (if bytes_eq text (codes "consumer") then Some Consumer else
+    (if bytes_eq text (codes "send") then Some Send else
+    (if bytes_eq text (codes "receive") then Some Receive else None))))))
+
+-- the name of a field of a draft
+abbrev pub is_draft_field : List ℕ → Bool
+is_draft_field name =
+    bytes_eq name (codes "priority") || bytes_eq name (codes "persistent") || bytes_eq name (codes "ttl") || bytes_eq name (codes "correlation")
+    || bytes_eq name (codes "type") || bytes_eq name (codes "props") || bytes_eq name (codes "text") || bytes_eq name (codes "bytes")
+
+-- a scenario or a call has a field of that name
+abbrev pub has : Owner → List ℕ → Bool
+has Scenario name = bytes_eq name (codes "calls")
+has Open name = bytes_eq name (codes "op") || bytes_eq name (codes "c")
+has Start name = bytes_eq name (codes "op") || bytes_eq name (codes "c")
+has Stop name = bytes_eq name (codes "op") || bytes_eq name (codes "c")
+has Session name = bytes_eq name (codes "op") || bytes_eq name (codes "s") || bytes_eq name (codes "mode")
+has Consumer name = bytes_eq name (codes "op") || bytes_eq name (codes "s") || bytes_eq name (codes "k") || bytes_eq name (codes "topic")
+    || bytes_eq name (codes "selector")
+has Send name = bytes_eq name (codes "op") || bytes_eq name (codes "s") || bytes_eq name (codes "topic") || bytes_eq name (codes "now")
+    || is_draft_field name
+has Receive name = bytes_eq name (codes "op") || bytes_eq name (codes "s") || bytes_eq name (codes "k") || bytes_eq name (codes "now")
+
+-- each member has a name that its owner has
+abbrev pub has_each : Owner → Members → Bool
+has_each owner no_members = true
+has_each owner (member name value members) = has owner name && has_each owner members
+
+-- the value has no other fields than its owner has
+abbrev pub is_known : Owner → Data → Bool
+is_known owner value = option_map_or (has_each owner) (as_object value) true

@@ -1,0 +1,7 @@
+pub mod Lines
+pub mod Reading
+pub mod Fields
+pub mod Values
+pub mod Drafts
+pub mod Calls
+pub mod Key

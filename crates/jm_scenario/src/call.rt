@@ -1,0 +1,110 @@
+ghost use Rattle.std.specs.Prelude.{◌≡◌};
+ghost use Rattle.serde_json.specs.View.{view};
+ghost use Rattle.jm_scenario.specs.Calls as spec;
+ghost use Rattle.jm_scenario.specs.Reading.{Reads, ReadsExactly};
+
+use crate::draft::draft;
+use crate::field::{Field, Owner, not_known, unknown};
+use crate::misfit::Misfit;
+use crate::value::{connection, consumer, mode, now, selector, session, topic};
+use jm_dest::Destination;
+use jm_machine::{ClientCall, Request, Who};
+use serde_json::Value;
+use std::alloc::Global;
+
+/// The operation of the object.
+fn operation(object: &Value) -> Result<Owner, Misfit>
+    ensures { ReadsExactly result (spec.operation (view object.now)) }
+{
+    let name = object.get(Field::Operation.name()).and_then(Value::as_str);
+    match name.and_then(Owner::of_operation) {
+        Some(operation) => Ok(operation),
+        None => Err(Misfit::Shape(Field::Operation)),
+    }
+}
+
+/// A call by the connection of the object.
+fn by_connection(object: &Value, request: Request) -> Result<ClientCall, Misfit>
+    ensures { ReadsExactly result (spec.connection_call request (view object.now)) }
+{
+    let who = Who::Connection(connection(object)?);
+    Ok(ClientCall::Ask { who, request })
+}
+
+fn create_session(object: &Value) -> Result<ClientCall, Misfit>
+    ensures { ReadsExactly result (spec.session_call (view object.now)) }
+{
+    let who = Who::Session(session(object)?);
+    let mode = mode(object)?;
+    let request = Request::CreateSession { mode };
+    Ok(ClientCall::Ask { who, request })
+}
+
+fn create_consumer(alloc: Global, object: &Value) -> Result<ClientCall, Misfit>
+    ensures { Reads result (spec.consumer_call (view object.now)) }
+{
+    let who = Who::Session(session(object)?);
+    let consumer = consumer(object)?;
+    let topic = topic(alloc, object)?;
+    let selector = selector(alloc, object)?;
+    let request = Request::CreateConsumer {
+        consumer,
+        topic,
+        selector,
+    };
+    Ok(ClientCall::Ask { who, request })
+}
+
+fn receive(object: &Value) -> Result<ClientCall, Misfit>
+    ensures { ReadsExactly result (spec.receive_call (view object.now)) }
+{
+    let who = Who::Session(session(object)?);
+    let consumer = consumer(object)?;
+    let now = now(object)?;
+    let request = Request::Receive { consumer, now };
+    Ok(ClientCall::Ask { who, request })
+}
+
+/// A send of the object's draft. `Memory` where a request for memory was refused.
+fn send(alloc: Global, object: &Value) -> Result<ClientCall, Misfit>
+    ensures { Reads result (spec.send_call (view object.now)) }
+{
+    let session = session(object)?;
+    let destination = Destination::Topic(topic(alloc, object)?);
+    let now = now(object)?;
+    let draft = draft(alloc, object)?;
+    Ok(ClientCall::Send {
+        session,
+        draft,
+        destination,
+        now,
+    })
+}
+
+/// The call that the object spells, but for fields that its operation does not have.
+fn call_as(alloc: Global, object: &Value, operation: Owner) -> Result<ClientCall, Misfit>
+    ensures { Reads result (spec.call_as operation (view object.now)) }
+{
+    match operation {
+        Owner::Scenario => Err(Misfit::Shape(Field::Operation)),
+        Owner::Open => by_connection(object, Request::Open),
+        Owner::Start => by_connection(object, Request::Start),
+        Owner::Stop => by_connection(object, Request::Stop),
+        Owner::Session => create_session(object),
+        Owner::Consumer => create_consumer(alloc, object),
+        Owner::Send => send(alloc, object),
+        Owner::Receive => receive(object),
+    }
+}
+
+/// The call that the object spells.
+pub(crate) fn call(alloc: Global, object: &Value) -> Result<ClientCall, Misfit>
+    ensures { Reads result (spec.call_of (view object.now)) }
+{
+    let operation = operation(object)?;
+    let call = call_as(alloc, object, operation)?;
+    match unknown(object, operation) {
+        Some(name) => Err(not_known(alloc, name)),
+        None => Ok(call),
+    }
+}

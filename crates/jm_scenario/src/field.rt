@@ -1,0 +1,170 @@
+ghost use Rattle.std.specs.Prelude.{◌≡◌, ◌≢◌, ◌⊎◌, true, false, IfNone, OnSome};
+ghost use Rattle.serde_json.specs.View.{view, members_view};
+ghost use Rattle.jm_scenario.specs.Fields as spec;
+
+use crate::misfit::Misfit;
+use jm_base::Str;
+use serde_json::{Map, Value};
+use std::alloc::Global;
+use std::fmt;
+
+/// A field of a scenario, or of one of its calls.
+#[derive(Clone, Copy, Debug, PartialEq, Eq)]
+pub enum Field {
+    Calls,
+    Operation,
+    Connection,
+    Session,
+    Mode,
+    Consumer,
+    Queue,
+    Topic,
+    Selector,
+    Now,
+    Priority,
+    Persistent,
+    TimeToLive,
+    Correlation,
+    Type,
+    Properties,
+    Text,
+    Bytes,
+}
+
+/// The name of a field that a fault names.
+#[derive(Debug, PartialEq, Drop)]
+pub enum FieldName {
+    Known(Field),
+    /// A field that is not known where it stands.
+    Unknown(Str),
+}
+
+/// What has fields: a scenario, or a call by its operation.
+#[derive(Clone, Copy, Debug, PartialEq, Eq)]
+pub(crate) enum Owner {
+    Scenario,
+    Open,
+    Start,
+    Stop,
+    Session,
+    Consumer,
+    Send,
+    Receive,
+}
+
+impl Field {
+    /// The name of the field as it is written in a scenario.
+    pub fn name(self) -> &'static str
+        ensures { result.now ≡ spec.field_name self }
+    {
+        match self {
+            Field::Calls => "calls",
+            Field::Operation => "op",
+            Field::Connection => "c",
+            Field::Session => "s",
+            Field::Mode => "mode",
+            Field::Consumer => "k",
+            Field::Queue => "queue",
+            Field::Topic => "topic",
+            Field::Selector => "selector",
+            Field::Now => "now",
+            Field::Priority => "priority",
+            Field::Persistent => "persistent",
+            Field::TimeToLive => "ttl",
+            Field::Correlation => "correlation",
+            Field::Type => "type",
+            Field::Properties => "props",
+            Field::Text => "text",
+            Field::Bytes => "bytes",
+        }
+    }
+}
+
+impl fmt::Display for FieldName {
+    ghost use Rattle.std.specs.Prelude.{Some};
+    ghost use Rattle.jm_scenario.specs.Fields.{told_name};
+
+    ghost output = { λ name. Some (told_name name) };
+
+    /// The name.
+    fn fmt<W: fmt::Write>(&self, f: &mut fmt::Formatter<W>) -> fmt::Result {
+        match self {
+            FieldName::Known(field) => f.write_str(field.name()),
+            FieldName::Unknown(name) => f.write_str(name.as_str()),
+        }
+    }
+}
+
+/// Whether a draft has a field of that name.
+fn is_draft_field(name: &str) -> bool
+    ensures { result ≡ spec.is_draft_field name.now }
+{
+    matches!(name, "priority" | "persistent" | "ttl" | "correlation")
+        || matches!(name, "type" | "props" | "text" | "bytes")
+}
+
+impl Owner {
+    /// The call of that operation.
+    pub(crate) fn of_operation(name: &str) -> Option<Owner>
+        ensures { result ≡ spec.operation_named name.now }
+    {
+        match name {
+            "open" => Some(Owner::Open),
+            "start" => Some(Owner::Start),
+            "stop" => Some(Owner::Stop),
+            "session" => Some(Owner::Session),
+            "consumer" => Some(Owner::Consumer),
+            "send" => Some(Owner::Send),
+            "receive" => Some(Owner::Receive),
+            _ => None,
+        }
+    }
+
+    /// Whether it has a field of that name.
+    fn has(self, name: &str) -> bool
+        ensures { result ≡ spec.has self name.now }
+    {
+        match self {
+            Owner::Scenario => matches!(name, "calls"),
+            Owner::Open | Owner::Start | Owner::Stop => matches!(name, "op" | "c"),
+            Owner::Session => matches!(name, "op" | "s" | "mode"),
+            Owner::Consumer => matches!(name, "op" | "s" | "k" | "topic" | "selector"),
+            Owner::Send => matches!(name, "op" | "s" | "topic" | "now") || is_draft_field(name),
+            Owner::Receive => matches!(name, "op" | "s" | "k" | "now"),
+        }
+    }
+}
+
+/// The first member, in the order of bytes, whose name its owner does not have.
+fn unknown_member(members: &Map<String, Value>, owner: Owner) -> Option<&str>
+    ensures none { IfNone result (spec.has_each owner (members_view members.now.entries) ≡ true) }
+    ensures some { OnSome result (spec.has_each owner (members_view members.now.entries) ≡ false) }
+{
+    for (name, _) in members.iter() {
+        if !owner.has(name.as_str()) {
+            return Some(name.as_str());
+        }
+    }
+    None
+}
+
+/// The first field of the object, in the order of bytes, that its owner does not have.
+pub(crate) fn unknown(object: &Value, owner: Owner) -> Option<&str>
+    ensures none { IfNone result (spec.is_known owner (view object.now) ≡ true) }
+    ensures some { OnSome result (spec.is_known owner (view object.now) ≡ false) }
+{
+    match object.as_object() {
+        Some(members) => unknown_member(members, owner),
+        None => None,
+    }
+}
+
+/// The misfit of a field that is not known. `Memory` where its name cannot be kept.
+pub(crate) fn not_known(alloc: Global, name: &str) -> Misfit
+    ensures { (result ≡ Misfit.Memory) ⊎ (result ≡ Misfit.Unknown name.now) }
+{
+    match String::from_str(alloc, name) {
+        Ok(name) => Misfit::Unknown(Str::new(name)),
+        Err(_) => Misfit::Memory,
+    }
+}

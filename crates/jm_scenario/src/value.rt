@@ -1,0 +1,200 @@
+ghost use Rattle.std.specs.Prelude.{◌≡◌, ◌≢◌, ◌<◌, ◌^◌, Some, None, MatchResult, option_copied, option_map, option_and_then, codes, nat_lt};
+ghost use Rattle.serde_json.specs.Find.{get, as_str, as_number, as_u64};
+ghost use Rattle.serde_json.specs.View.{view};
+ghost use Rattle.jm_scenario.specs.Fields.{field_name};
+ghost use Rattle.jm_scenario.specs.Reading.{Reads, ReadsExactly, where_true};
+ghost use Rattle.jm_scenario.specs.Values as spec;
+
+use crate::field::Field;
+use crate::misfit::Misfit;
+use jm_base::{Mode, Refusal, Str};
+use jm_dest::{ConnectionId, ConsumerId, Moment, Name, SessionId};
+use serde_json::Value;
+use std::alloc::Global;
+
+/// Why the value does not fit the field: a number that is no whole number of 64 bits is `Floating`.
+pub(crate) fn misfit(value: &Value, field: Field) -> Misfit
+    ensures { result ≢ Misfit.Memory }
+{
+    if value.is_f64() {
+        Misfit::Floating
+    } else {
+        Misfit::Shape(field)
+    }
+}
+
+/// The value of a field that has to stand.
+fn required(object: &Value, field: Field) -> Result<&Value, Misfit>
+    ensures { MatchResult result (λ value. get (field_name field) (view object.now) ≡ Some (view value.now))
+        (λ misfit. (misfit ≢ Misfit.Memory) × (get (field_name field) (view object.now) ≡ None)) }
+{
+    match object.get(field.name()) {
+        Some(value) => Ok(value),
+        None => Err(Misfit::Shape(field)),
+    }
+}
+
+/// A number of 32 bits, which is not 0.
+fn number(value: &Value, field: Field) -> Result<u32, Misfit>
+    ensures { ReadsExactly result (spec.number (view value.now)) }
+{
+    match value.as_u64() {
+        Some(0) => Err(Misfit::Shape(field)),
+        Some(number) if number <= u32::MAX as u64 => Ok(number as u32),
+        _ => Err(misfit(value, field)),
+    }
+}
+
+/// The text of the field.
+pub(crate) fn text(value: &Value, field: Field) -> Result<&str, Misfit>
+    ensures { MatchResult result (λ text. as_str (view value.now) ≡ Some text.now) (λ misfit. (misfit ≢ Misfit.Memory) × (as_str (view value.now) ≡ None)) }
+{
+    match value.as_str() {
+        Some(text) => Ok(text),
+        None => Err(misfit(value, field)),
+    }
+}
+
+/// The connection of that number, in that field.
+fn connection_of(value: &Value, field: Field) -> Result<ConnectionId, Misfit>
+    ensures { ReadsExactly result (spec.number (view value.now)) }
+{
+    let number = number(value, field)?;
+    match ConnectionId::new(number) {
+        Ok(id) => Ok(id),
+        Err(_) => Err(Misfit::Shape(field)),
+    }
+}
+
+/// The connection of the field `c`.
+pub(crate) fn connection(object: &Value) -> Result<ConnectionId, Misfit>
+    ensures { ReadsExactly result (spec.required spec.number (codes "c") (view object.now)) }
+{
+    connection_of(required(object, Field::Connection)?, Field::Connection)
+}
+
+/// The session of those two numbers.
+fn session_of(connection: &Value, number_value: &Value) -> Result<SessionId, Misfit>
+    ensures { ReadsExactly result (spec.session_of_numbers (spec.number (view connection.now)) (spec.number (view number_value.now))) }
+{
+    let connection = connection_of(connection, Field::Session)?;
+    let number = number(number_value, Field::Session)?;
+    match SessionId::new(connection, number) {
+        Ok(id) => Ok(id),
+        Err(_) => Err(Misfit::Shape(Field::Session)),
+    }
+}
+
+/// The session of that array.
+fn session_in(value: &Value) -> Result<SessionId, Misfit>
+    ensures { ReadsExactly result (spec.session (view value.now)) }
+{
+    let Some(numbers) = value.as_array() else {
+        return Err(misfit(value, Field::Session));
+    };
+    let numbers = numbers.as_slice();
+    if numbers.len() != 2 {
+        return Err(Misfit::Shape(Field::Session));
+    }
+    session_of(&numbers[0], &numbers[1])
+}
+
+/// The session of the field `s`: its connection, and its number there.
+pub(crate) fn session(object: &Value) -> Result<SessionId, Misfit>
+    ensures { ReadsExactly result (spec.required spec.session (codes "s") (view object.now)) }
+{
+    session_in(required(object, Field::Session)?)
+}
+
+/// The consumer of the field `k`.
+pub(crate) fn consumer(object: &Value) -> Result<ConsumerId, Misfit>
+    ensures { ReadsExactly result (spec.required spec.number (codes "k") (view object.now)) }
+{
+    let value = required(object, Field::Consumer)?;
+    let number = number(value, Field::Consumer)?;
+    match ConsumerId::new(number) {
+        Ok(id) => Ok(id),
+        Err(_) => Err(Misfit::Shape(Field::Consumer)),
+    }
+}
+
+/// The acknowledgement mode of the field `mode`.
+pub(crate) fn mode(object: &Value) -> Result<Mode, Misfit>
+    ensures { ReadsExactly result (spec.required spec.mode (codes "mode") (view object.now)) }
+{
+    let value = required(object, Field::Mode)?;
+    match text(value, Field::Mode)? {
+        "auto" => Ok(Mode::Auto),
+        _ => Err(Misfit::Shape(Field::Mode)),
+    }
+}
+
+/// The name of that text, in that field. `Memory` where a request for memory was refused.
+fn name_of(alloc: Global, value: &Value, field: Field) -> Result<Name, Misfit>
+    ensures { Reads result (spec.name (view value.now)) }
+{
+    match Name::new(alloc, text(value, field)?) {
+        Ok(name) => Ok(name),
+        Err(Refusal::Memory) => Err(Misfit::Memory),
+        Err(_) => Err(Misfit::Shape(field)),
+    }
+}
+
+/// The name of the field `topic`. An object without it has no destination, which is told at `queue`.
+/// `Memory` where a request for memory was refused.
+pub(crate) fn topic(alloc: Global, object: &Value) -> Result<Name, Misfit>
+    ensures { Reads result (spec.required spec.name (codes "topic") (view object.now)) }
+{
+    match object.get(Field::Topic.name()) {
+        Some(value) => name_of(alloc, value, Field::Topic),
+        None => Err(Misfit::Shape(Field::Queue)),
+    }
+}
+
+/// The moment of that value.
+fn moment_of(value: &Value, field: Field) -> Result<Moment, Misfit>
+    ensures { ReadsExactly result (spec.moment (view value.now)) }
+{
+    let Some(milliseconds) = value.as_i64() else {
+        return Err(misfit(value, field));
+    };
+    match Moment::new(milliseconds) {
+        Ok(moment) => Ok(moment),
+        Err(_) => Err(Misfit::Shape(field)),
+    }
+}
+
+/// The moment of the field `now`.
+pub(crate) fn now(object: &Value) -> Result<Moment, Misfit>
+    ensures { ReadsExactly result (spec.required spec.moment (codes "now") (view object.now)) }
+{
+    moment_of(required(object, Field::Now)?, Field::Now)
+}
+
+/// The value of a field that may be absent.
+pub(crate) fn optional(object: &Value, field: Field) -> Option<&Value>
+    ensures { option_map (λ value. view value.now) result ≡ get (field_name field) (view object.now) }
+{
+    object.get(field.name())
+}
+
+/// The text of a field that may be absent.
+pub(crate) fn optional_text(object: &Value, field: Field) -> Result<Option<&str>, Misfit>
+    ensures { MatchResult result (λ found. spec.optional as_str (field_name field) (view object.now) ≡ Some (option_copied found)) (λ misfit. (misfit ≢ Misfit.Memory)
+        × (spec.optional as_str (field_name field) (view object.now) ≡ None)) }
+{
+    match optional(object, field) {
+        Some(value) => Ok(Some(text(value, field)?)),
+        None => Ok(None),
+    }
+}
+
+/// The text of the field `selector`, where it stands. `Memory` where a request for memory was refused.
+pub(crate) fn selector(alloc: Global, object: &Value) -> Result<Option<Str>, Misfit>
+    ensures { Reads result (spec.optional as_str (codes "selector") (view object.now)) }
+{
+    match optional_text(object, Field::Selector)? {
+        Some(text) => Ok(Some(Str::new(String::from_str(alloc, text)?))),
+        None => Ok(None),
+    }
+}
