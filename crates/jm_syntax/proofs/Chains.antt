@@ -1,13 +1,15 @@
 -- One turn of a chain.
 use Rattle.std.proofs.Common.{◌≡◌, ℕ, suc, Bool, true, false, if◌then◌else◌, List, [], ◌∷◌, ◌++◌, Option, Some, None, Ok, Err, refl, ap, ◌∙◌, ◌+◌, ◌-◌, ◌<◌, ◌≤◌}
-use Rattle.jm_syntax.proofs.Turns.{one_more, no_more}
-use Rattle.jm_syntax.specs.declared.fault.SyntaxFault.{SyntaxFault}
-use Rattle.jm_syntax.specs.declared.token.Mark.{Mark}
-use Rattle.jm_syntax.specs.declared.token.Mark.TheVariants as m
-use Rattle.jm_syntax.specs.declared.token.Kind.{Kind}
-use Rattle.jm_syntax.specs.declared.token.Kind.TheVariants as kinds
+use Rattle.jm_lexer.proofs.Turns.{one_more}
+use Rattle.jm_syntax.proofs.Turns.{no_more}
+use Rattle.jm_lexer.specs.declared.fault.SyntaxFault.{SyntaxFault}
+use Rattle.jm_lexer.specs.declared.token.Mark.{Mark}
+use Rattle.jm_lexer.specs.declared.token.Mark.TheVariants as m
+use Rattle.jm_lexer.specs.declared.token.Kind.{Kind}
+use Rattle.jm_lexer.specs.declared.token.Kind.TheVariants as kinds
 use Rattle.jm_syntax.specs.declared.tree.Tree.{Tree}
-use Rattle.jm_syntax.specs.Input.{Input, Outcome, Parser, start, kind, next, sees, after, is_mark, operator_in, operator_at, after_operator, if_some, or_else, unless}
+use Rattle.jm_lexer.specs.Words.{if_some}
+use Rattle.jm_syntax.specs.Input.{Input, Outcome, Parser, start, kind, next, sees, after, is_mark, operator_in, operator_at, after_operator, or_else, unless}
 use Rattle.jm_syntax.specs.Grammar.{settle, chain_from, and_of, or_of}
 
 module _ {O I : Type 0} (operators : Mark → Option O) (item : O → Tree → I) (fits : Tree → Bool) (make : Tree → List I → Tree) (part : Parser Tree)

@@ -1,11 +1,11 @@
 -- What is spelled is read, whatever follows that does not go on with it.
 use Rattle.std.proofs.Common.{◌≡◌, ℕ, zero, suc, ◌<◌, ◌≤◌, Bool, true, false, List, [], ◌∷◌, ◌++◌, length, Option, Some, None, Ok, refl, ap, sym, ◌∙◌, arith, append_assoc, append-nil, length-append, if◌then◌else◌, nat_lt, ◌==◌, is_some}
 use Rattle.std.proofs.lemmas.Bool.Decides.{nat_tests}
-use Rattle.jm_syntax.specs.declared.token.Mark.{Mark}
-use Rattle.jm_syntax.specs.declared.token.Mark.TheVariants as m
-use Rattle.jm_syntax.specs.declared.token.Kind.{Kind}
-use Rattle.jm_syntax.specs.declared.token.Kind.TheVariants as kinds
-use Rattle.jm_syntax.specs.declared.token.Token.{Token}
+use Rattle.jm_lexer.specs.declared.token.Mark.{Mark}
+use Rattle.jm_lexer.specs.declared.token.Mark.TheVariants as m
+use Rattle.jm_lexer.specs.declared.token.Kind.{Kind}
+use Rattle.jm_lexer.specs.declared.token.Kind.TheVariants as kinds
+use Rattle.jm_lexer.specs.declared.token.Token.{Token}
 use Rattle.jm_syntax.specs.declared.tree.Comparison.{Comparison}
 use Rattle.jm_syntax.specs.declared.tree.Comparison.TheVariants as comparisons
 use Rattle.jm_syntax.specs.declared.tree.Additive.{Additive}
@@ -16,7 +16,8 @@ use Rattle.jm_syntax.specs.declared.tree.Tree.TheVariants.{rolls-Name}
 use Rattle.jm_syntax.specs.declared.tree.Tree.TheVariants as e
 use Rattle.jm_syntax.specs.Sorts.{fits_number, fits_truth, fits_comparison}
 use Rattle.jm_syntax.specs.Input.{start, Input, Outcome, Parser, and_then, ◌>>=◌, ◌>>◌, pure, pass, first_kind, is_mark, same_mark, kind, next, sees, after, expect, note, noted, or_else, unless, left, eat, here, peek, text, operator_in, operator_at, after_operator}
-use Rattle.jm_syntax.specs.Grammar.{Line, Ors, Nots, Signs, limit, least, additive_of, multiplicative_of, comparison_of, and_of, or_of, settle, chain_from, chain, named, named_by, in_of, like_of, null_test, texts_from, texts, membership, single, escaped_by, escaped, likeness, opened, primary, signed, minus, minus_by, plus, unary, product, sum, between, compared, negated_by, negated_tail, tail_by, test, condition, denied, both, either, below}
+use Rattle.jm_lexer.specs.Words.{limit}
+use Rattle.jm_syntax.specs.Grammar.{Line, Ors, Nots, Signs, least, additive_of, multiplicative_of, comparison_of, and_of, or_of, settle, chain_from, chain, named, named_by, in_of, like_of, null_test, texts_from, texts, membership, single, escaped_by, escaped, likeness, opened, primary, signed, minus, minus_by, plus, unary, product, sum, between, compared, negated_by, negated_tail, tail_by, test, condition, denied, both, either, below}
 use Rattle.jm_syntax.specs.Spells as s
 use Rattle.jm_syntax.specs.Spells.{Spelling, Is, IsText, Operates, Rest, Chain}
 use Rattle.jm_syntax.proofs.Chains.{chain_stop, chain_step}

@@ -2,16 +2,18 @@
 use Rattle.std.proofs.Common.{◌≡◌, ℕ, Bool, true, false, List, [], ◌∷◌, Option, Some, None, Result, Ok, Err, IfOk, ◌≢◌, ◌≤◌, nat_lt, if◌then◌else◌, length, refl, ap, subst, sym, ◌∙◌, append-nil, arith}
 use Rattle.std.proofs.lemmas.Bool.Decides.{nat_tests}
 use Rattle.jm_base.specs.declared.refusal.Cause.TheVariants as causes
-use Rattle.jm_syntax.specs.Lex.{tokens}
+use Rattle.jm_lexer.specs.Lex.{tokens}
 use Rattle.jm_syntax.specs.Parse.{parsed, read, some_tree, fault, fault_of, Finds, IsFaulty, long, lexical, unspelled}
-use Rattle.jm_syntax.specs.declared.token.Token.{Token}
-use Rattle.jm_syntax.specs.declared.fault.SyntaxFault.{SyntaxFault}
+use Rattle.jm_lexer.specs.declared.token.Token.{Token}
+use Rattle.jm_lexer.specs.declared.fault.SyntaxFault.{SyntaxFault}
 use Rattle.jm_syntax.specs.declared.tree.Tree.{Tree}
-use Rattle.jm_syntax.specs.Input.{Input, Outcome, and_then, start, start_of, unless, or_else, noted, is_end, fault_at, sees, kind}
+use Rattle.jm_lexer.specs.Faults.{fault_at}
+use Rattle.jm_syntax.specs.Input.{Input, Outcome, and_then, start, start_of, unless, or_else, noted, is_end, sees, kind}
 use Rattle.jm_syntax.specs.Sorts.{fits_truth}
 use Rattle.jm_syntax.specs.Grammar.{either, both, condition, test, sum, product, unary, primary, chain, below}
 use Rattle.jm_syntax.specs.Spells.{Spells}
-use Rattle.jm_syntax.specs.Answer.{answer, whole, finished, checked, settled, tree_of, Gives}
+use Rattle.jm_lexer.specs.Faults.{Gives}
+use Rattle.jm_syntax.specs.Answer.{answer, whole, finished, checked, settled, tree_of}
 use Rattle.jm_syntax.proofs.Steps.{fits_unless}
 use Rattle.jm_syntax.proofs.Sound.{reads_spelled}
 use Rattle.jm_syntax.proofs.Complete.{spelled_reads}

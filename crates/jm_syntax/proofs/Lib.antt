@@ -6,9 +6,3 @@ pub mod Steps
 pub mod Sound
 pub mod Complete
 pub mod Laws
-pub mod Values
-pub mod Contents
-pub mod Lexing
-pub mod Quotes
-pub mod Best
-pub mod Lexed

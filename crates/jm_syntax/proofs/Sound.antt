@@ -2,11 +2,11 @@
 use Rattle.std.proofs.Common.{◌≡◌, ℕ, zero, suc, ◌<◌, Bool, true, false, List, [], ◌∷◌, ◌++◌, Option, Some, None, Ok, refl, ap, subst, sym, ◌∙◌, arith, append_assoc, append-nil, if◌then◌else◌, pos, nat_lt, ◌==◌, is_some}
 use Rattle.std.proofs.lemmas.Bool.Decides.{nat_tests}
 use Rattle.jm_base.specs.declared.refusal.Cause.TheVariants as causes
-use Rattle.jm_syntax.specs.declared.token.Mark.{Mark}
-use Rattle.jm_syntax.specs.declared.token.Mark.TheVariants as m
-use Rattle.jm_syntax.specs.declared.token.Kind.{Kind}
-use Rattle.jm_syntax.specs.declared.token.Kind.TheVariants as kinds
-use Rattle.jm_syntax.specs.declared.token.Token.{Token}
+use Rattle.jm_lexer.specs.declared.token.Mark.{Mark}
+use Rattle.jm_lexer.specs.declared.token.Mark.TheVariants as m
+use Rattle.jm_lexer.specs.declared.token.Kind.{Kind}
+use Rattle.jm_lexer.specs.declared.token.Kind.TheVariants as kinds
+use Rattle.jm_lexer.specs.declared.token.Token.{Token}
 use Rattle.jm_syntax.specs.declared.tree.Comparison.{Comparison}
 use Rattle.jm_syntax.specs.declared.tree.Comparison.TheVariants as comparisons
 use Rattle.jm_syntax.specs.declared.tree.Tree.{Tree, out-Tree, roll-Tree, roll-out-Tree}
@@ -14,8 +14,10 @@ use Rattle.jm_syntax.specs.declared.tree.Tree.TheOpen.{Tree-F}
 use Rattle.jm_syntax.specs.declared.tree.Tree.TheVariants as e
 use Rattle.jm_syntax.specs.declared.tree.Tree.TheVariants.{rolls-Name}
 use Rattle.jm_syntax.specs.Sorts.{fits_number, fits_truth, fits_comparison}
-use Rattle.jm_syntax.specs.Input.{start, Input, Outcome, Parser, ◌>>=◌, ◌>>◌, pure, pass, stop, kind, next, sees, expect, note, noted, or_else, unless, left, eat, here, peek, text, operator_in, if_some}
-use Rattle.jm_syntax.specs.Grammar.{Line, Ors, Nots, Signs, limit, least, additive_of, multiplicative_of, comparison_of, and_of, or_of, settle, chain_from, chain, named, named_by, in_of, like_of, null_test, texts_from, texts, membership, single, escaped_by, escaped, likeness, opened, marked, primary_by, primary, deeper, signed, minus, minus_by, plus, unary, product, sum, between, compared, negated_by, negated_tail, tail, tail_by, test, condition, denied, both, either, below}
+use Rattle.jm_lexer.specs.Words.{if_some}
+use Rattle.jm_syntax.specs.Input.{start, Input, Outcome, Parser, ◌>>=◌, ◌>>◌, pure, pass, stop, kind, next, sees, expect, note, noted, or_else, unless, left, eat, here, peek, text, operator_in}
+use Rattle.jm_lexer.specs.Words.{limit}
+use Rattle.jm_syntax.specs.Grammar.{Line, Ors, Nots, Signs, least, additive_of, multiplicative_of, comparison_of, and_of, or_of, settle, chain_from, chain, named, named_by, in_of, like_of, null_test, texts_from, texts, membership, single, escaped_by, escaped, likeness, opened, marked, primary_by, primary, deeper, signed, minus, minus_by, plus, unary, product, sum, between, compared, negated_by, negated_tail, tail, tail_by, test, condition, denied, both, either, below}
 use Rattle.jm_syntax.specs.Spells as s
 use Rattle.jm_syntax.specs.Spells.{Spelling, Is, IsText, Operates, Rest, Chain}
 use Rattle.jm_syntax.proofs.Steps.{Took, took_none, took_both, took_note, note_late, after_step, after_eat, after_choice, ok_same, took_noted, clean_before, both_none, fits_unless, Passed, passed, seen, expected, texted}

@@ -1,13 +1,14 @@
 -- What the steps of a parser that ends well took.
 use Rattle.std.proofs.Common.{◌≡◌, ℕ, Bool, true, false, List, [], ◌∷◌, ◌++◌, drop, Option, Some, None, Ok, Err, refl, ap, sym, ◌∙◌, rules, append_assoc, if◌then◌else◌}
 use denote.Enum.Bare.{same_true}
-use Rattle.jm_syntax.specs.contracts.token.Mark.{the_type}
-use Rattle.jm_syntax.specs.declared.token.Mark.{Mark}
-use Rattle.jm_syntax.specs.declared.token.Kind.{Kind}
-use Rattle.jm_syntax.specs.declared.token.Kind.TheVariants as kinds
-use Rattle.jm_syntax.specs.declared.token.Token.{Token}
+use Rattle.jm_lexer.specs.contracts.token.Mark.{the_type}
+use Rattle.jm_lexer.specs.declared.token.Mark.{Mark}
+use Rattle.jm_lexer.specs.declared.token.Kind.{Kind}
+use Rattle.jm_lexer.specs.declared.token.Kind.TheVariants as kinds
+use Rattle.jm_lexer.specs.declared.token.Token.{Token}
 use Rattle.jm_base.specs.declared.refusal.Cause.TheVariants as causes
-use Rattle.jm_syntax.specs.Input.{start, Input, Outcome, Parser, and_then, first_kind, is_mark, kind, next, sees, after, expect, noted, or_else, unless, operator_in, operator_at, after_operator, if_some, text, text_by}
+use Rattle.jm_lexer.specs.Words.{if_some}
+use Rattle.jm_syntax.specs.Input.{start, Input, Outcome, Parser, and_then, first_kind, is_mark, kind, next, sees, after, expect, noted, or_else, unless, operator_in, operator_at, after_operator, text, text_by}
 use Rattle.jm_syntax.specs.Spells.{Is, IsText, Operates}
 
 -- the step takes these tokens, and forgets no fault

@@ -1,11 +1,12 @@
 -- What a list of tokens is answered with.
-use Rattle.std.specs.Prelude.{◌≡◌, ◌≢◌, ℕ, List, Option, Some, None, Result, Ok, Err, if◌then◌else◌}
+use Rattle.std.specs.Prelude.{ℕ, List, Option, Some, None, Result, Ok, Err, if◌then◌else◌}
 use Rattle.jm_base.specs.declared.refusal.Cause.TheVariants as causes
-use Rattle.jm_syntax.specs.declared.token.Token.{Token}
-use Rattle.jm_syntax.specs.declared.fault.SyntaxFault.{SyntaxFault}
+use Rattle.jm_lexer.specs.declared.token.Token.{Token}
+use Rattle.jm_lexer.specs.declared.fault.SyntaxFault.{SyntaxFault}
 use Rattle.jm_syntax.specs.declared.tree.Tree.{Tree}
 use Rattle.jm_syntax.specs.Sorts.{fits_truth}
-use Rattle.jm_syntax.specs.Input.{Outcome, Parser, ◌>>=◌, ◌>>◌, here, note, refuse, is_end, start_of, fault_at, unless}
+use Rattle.jm_lexer.specs.Faults.{fault_at}
+use Rattle.jm_syntax.specs.Input.{Outcome, Parser, ◌>>=◌, ◌>>◌, here, note, refuse, is_end, start_of, unless}
 use Rattle.jm_syntax.specs.Grammar.{either, below}
 
 abbrev pub checked : Tree → Option ℕ → Outcome Tree → Outcome Tree
@@ -33,8 +34,3 @@ tree_of (Err e) = Err e
 -- the tree that the tokens of a text of this length spell, or the first fault in the order of reading
 unfoldable pub answer : List Token → ℕ → Result Tree SyntaxFault
 answer toks end = tree_of (whole (start_of toks end))
-
--- an answer, unless memory runs out
-abbrev pub Gives : {A : Type 0} → Result A SyntaxFault → Result A SyntaxFault → Type 0
-Gives (Ok a) found = found ≡ Ok a
-Gives (Err e) found = e.cause ≢ causes.Memory → found ≡ Err e

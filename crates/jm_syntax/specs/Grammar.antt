@@ -2,10 +2,10 @@
 use Rattle.std.specs.Prelude.{ℕ, ℤ, pos, negsuc, zero, suc, ◌==◌, nat_lt, Bool, true, false, if◌then◌else◌, List, [], ◌∷◌, ◌++◌, Option, Some, None, is_some}
 use Rattle.std.specs.Str.{chars}
 use Rattle.jm_base.specs.declared.refusal.Cause.TheVariants as causes
-use Rattle.jm_syntax.specs.declared.token.Mark.{Mark}
-use Rattle.jm_syntax.specs.declared.token.Mark.TheVariants as m
-use Rattle.jm_syntax.specs.declared.token.Kind.{Kind}
-use Rattle.jm_syntax.specs.declared.token.Kind.TheVariants as kinds
+use Rattle.jm_lexer.specs.declared.token.Mark.{Mark}
+use Rattle.jm_lexer.specs.declared.token.Mark.TheVariants as m
+use Rattle.jm_lexer.specs.declared.token.Kind.{Kind}
+use Rattle.jm_lexer.specs.declared.token.Kind.TheVariants as kinds
 use Rattle.jm_syntax.specs.declared.tree.Additive.{Additive}
 use Rattle.jm_syntax.specs.declared.tree.Additive.TheVariants as additives
 use Rattle.jm_syntax.specs.declared.tree.Multiplicative.{Multiplicative}
@@ -16,7 +16,9 @@ use Rattle.jm_syntax.specs.declared.tree.Tree.{Tree, out-Tree}
 use Rattle.jm_syntax.specs.declared.tree.Tree.TheOpen.{Tree-F}
 use Rattle.jm_syntax.specs.declared.tree.Tree.TheVariants as e
 use Rattle.jm_syntax.specs.Sorts.{fits_number, fits_truth, fits_comparison}
-use Rattle.jm_syntax.specs.Input.{Parser, ◌>>=◌, ◌>>◌, pure, stop, refuse, here, peek, pass, eat, eat_operator, expect, text, left, unless, or_else, if_some, note, sees}
+use Rattle.jm_lexer.specs.Words.{if_some}
+use Rattle.jm_syntax.specs.Input.{Parser, ◌>>=◌, ◌>>◌, pure, stop, refuse, here, peek, pass, eat, eat_operator, expect, text, left, unless, or_else, note, sees}
+use Rattle.jm_lexer.specs.Words.{limit}
 
 -- the lines that open a level
 pub data Line : Type 0 where
@@ -55,10 +57,6 @@ and_of _ = None
 abbrev pub or_of : Mark → Option (Unit {0})
 or_of m.Or = Some tt
 or_of _ = None
-
--- 2^63, which only a minus may stand before
-abbrev pub limit : ℕ
-limit = 9223372036854775808
 
 -- -2^63
 abbrev pub least : ℤ

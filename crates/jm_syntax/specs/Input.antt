@@ -1,14 +1,16 @@
 -- What the rules of the grammar read from, and the steps that each rule is made of.
 use Rattle.std.specs.Prelude.{◌≡◌, ◌≢◌, ℕ, Bool, true, false, if◌then◌else◌, List, [], ◌∷◌, length, drop, Option, Some, None, Result, Ok, Err}
 use denote.Enum.Bare.{sameb}
-use Rattle.jm_syntax.specs.contracts.token.Mark.{the_type}
+use Rattle.jm_lexer.specs.contracts.token.Mark.{the_type}
 use Rattle.jm_base.specs.declared.refusal.Cause.{Cause}
 use Rattle.jm_base.specs.declared.refusal.Cause.TheVariants as causes
-use Rattle.jm_syntax.specs.declared.token.Mark.{Mark}
-use Rattle.jm_syntax.specs.declared.token.Kind.{Kind}
-use Rattle.jm_syntax.specs.declared.token.Kind.TheVariants as kinds
-use Rattle.jm_syntax.specs.declared.token.Token.{Token}
-use Rattle.jm_syntax.specs.declared.fault.SyntaxFault.{SyntaxFault}
+use Rattle.jm_lexer.specs.declared.token.Mark.{Mark}
+use Rattle.jm_lexer.specs.declared.token.Kind.{Kind}
+use Rattle.jm_lexer.specs.declared.token.Kind.TheVariants as kinds
+use Rattle.jm_lexer.specs.declared.token.Token.{Token}
+use Rattle.jm_lexer.specs.declared.fault.SyntaxFault.{SyntaxFault}
+use Rattle.jm_lexer.specs.Faults.{fault_at}
+use Rattle.jm_lexer.specs.Words.{if_some}
 
 -- the tokens that are left, the length of the text, and the place of the first operand of a wrong kind
 pub record Input : Type 0 where
@@ -58,10 +60,6 @@ operator_in operators (Some (kinds.Name name)) = None
 operator_in operators (Some (kinds.Number number)) = None
 operator_in operators (Some (kinds.Text text)) = None
 
-abbrev pub if_some : {A B : Type 0} → Option A → B → (A → B) → B
-if_some None other f = other
-if_some (Some a) other f = f a
-
 -- ---- rules
 
 abbrev pub Outcome : Type 0 → Type 0
@@ -85,9 +83,6 @@ p >> q = p >>= (λ _. q)
 
 abbrev pub pure : {A : Type 0} → A → Parser A
 pure a = λ i. Ok (a, i)
-
-abbrev pub fault_at : ℕ → Cause → SyntaxFault
-fault_at at cause = record { at = at; cause = cause }
 
 -- stops at the next token
 abbrev pub stop : {A : Type 0} → Cause → Parser A

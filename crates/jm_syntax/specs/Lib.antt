@@ -3,7 +3,4 @@ pub mod Input
 pub mod Grammar
 pub mod Spells
 pub mod Answer
-pub mod Words
-pub mod Lex
-pub mod Lexes
 pub mod Parse

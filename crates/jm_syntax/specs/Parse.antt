@@ -1,13 +1,13 @@
 -- What a selector text is answered with.
 use Rattle.std.specs.Prelude.{◌≡◌, ◌≢◌, ℕ, ◌<◌, nat_lt, if◌then◌else◌, List, [], ◌∷◌, length, Option, Some, None, Result, Ok, Err}
 use Rattle.jm_base.specs.declared.refusal.Cause.TheVariants as causes
-use Rattle.jm_syntax.specs.declared.token.Token.{Token}
-use Rattle.jm_syntax.specs.declared.fault.SyntaxFault.{SyntaxFault}
+use Rattle.jm_lexer.specs.declared.token.Token.{Token}
+use Rattle.jm_lexer.specs.declared.fault.SyntaxFault.{SyntaxFault}
 use Rattle.jm_syntax.specs.declared.tree.Tree.{Tree}
-use Rattle.jm_syntax.specs.Input.{fault_at}
+use Rattle.jm_lexer.specs.Faults.{fault_at}
 use Rattle.jm_syntax.specs.Spells.{Spells}
 use Rattle.jm_syntax.specs.Answer.{answer}
-use Rattle.jm_syntax.specs.Lex.{tokens}
+use Rattle.jm_lexer.specs.Lex.{tokens}
 
 abbrev pub some_tree : Result Tree SyntaxFault → Result (Option Tree) SyntaxFault
 some_tree (Ok tree) = Ok (Some tree)

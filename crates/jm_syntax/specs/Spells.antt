@@ -1,9 +1,9 @@
 -- The grammar: which tokens spell a tree.
 use Rattle.std.specs.Prelude.{◌≡◌, ℕ, zero, suc, pos, ◌<◌, Bool, true, false, List, [], ◌∷◌, ◌++◌, Option, Some, None}
-use Rattle.jm_syntax.specs.declared.token.Mark.{Mark}
-use Rattle.jm_syntax.specs.declared.token.Mark.TheVariants as m
-use Rattle.jm_syntax.specs.declared.token.Kind.TheVariants as kinds
-use Rattle.jm_syntax.specs.declared.token.Token.{Token}
+use Rattle.jm_lexer.specs.declared.token.Mark.{Mark}
+use Rattle.jm_lexer.specs.declared.token.Mark.TheVariants as m
+use Rattle.jm_lexer.specs.declared.token.Kind.TheVariants as kinds
+use Rattle.jm_lexer.specs.declared.token.Token.{Token}
 use Rattle.jm_syntax.specs.declared.tree.Additive.{Additive}
 use Rattle.jm_syntax.specs.declared.tree.Multiplicative.{Multiplicative}
 use Rattle.jm_syntax.specs.declared.tree.Comparison.{Comparison}
@@ -11,7 +11,8 @@ use Rattle.jm_syntax.specs.declared.tree.Tree.{Tree}
 use Rattle.jm_syntax.specs.declared.tree.Tree.TheVariants as e
 use Rattle.jm_syntax.specs.Sorts.{fits_number, fits_truth, fits_comparison}
 use Rattle.jm_syntax.specs.Input.{operator_in}
-use Rattle.jm_syntax.specs.Grammar.{Line, Ors, Nots, Signs, limit, least, additive_of, multiplicative_of, comparison_of, and_of, or_of, single}
+use Rattle.jm_lexer.specs.Words.{limit}
+use Rattle.jm_syntax.specs.Grammar.{Line, Ors, Nots, Signs, least, additive_of, multiplicative_of, comparison_of, and_of, or_of, single}
 
 abbrev pub Spelling : Type 1
 Spelling = Tree → List Token → Type 0

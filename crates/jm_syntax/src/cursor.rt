@@ -1,14 +1,14 @@
 ghost use Rattle.std.specs.Prelude.{◌≡◌, ◌≢◌, ◌+◌, length, true, false, MatchResult};
 ghost use Rattle.std.specs.Option.{option_copied};
+ghost use Rattle.jm_lexer.specs.Faults as faults;
 ghost use Rattle.jm_syntax.specs.Input as spec;
 ghost use Rattle.jm_syntax.specs.Grammar as grammar;
 ghost use Rattle.jm_syntax.specs.Answer as answer;
 ghost use Rattle.jm_syntax.specs.Input.{Reads};
 
-use crate::fault::SyntaxFault;
-use crate::token::{Kind, Mark, Token};
 use crate::tree::{Additive, Multiplicative, Tree};
 use jm_base::{Cause, Str};
+use jm_lexer::{Kind, Mark, SyntaxFault, Token};
 use std::marker::Model;
 
 /// The tokens that are left, the length of the text, and the place of the first operand of a wrong
@@ -115,7 +115,7 @@ impl<'a> Cursor<'a> {
 
     /// The fault of this cause at the next token.
     pub(crate) fn stop(&self, cause: Cause) -> SyntaxFault
-        ensures { result ≡ spec.fault_at (spec.start self.now) cause }
+        ensures { result ≡ faults.fault_at (spec.start self.now) cause }
     {
         SyntaxFault {
             at: self.start(),

@@ -1,24 +1,22 @@
 ghost use Rattle.std.specs.Prelude.{◌≡◌, ◌≤◌, ℕ, List, IfOk, length};
 ghost use Rattle.jm_syntax.specs.Answer as spec;
-ghost use Rattle.jm_syntax.specs.Answer.{Gives};
+ghost use Rattle.jm_lexer.specs.Faults.{Gives};
 ghost use Rattle.jm_syntax.specs.Input.{Reads};
-ghost use Rattle.jm_syntax.specs.Lex as lexer;
+ghost use Rattle.jm_lexer.specs.Lex as lexer;
 ghost use Rattle.jm_syntax.specs.Parse as whole;
 ghost use Rattle.jm_syntax.specs.Parse.{Finds, IsFaulty};
 ghost use Rattle.jm_syntax.specs.Spells.{Spells};
-ghost use Rattle.jm_syntax.specs.declared.fault.SyntaxFault.{SyntaxFault};
-ghost use Rattle.jm_syntax.specs.declared.token.Token.{Token};
+ghost use Rattle.jm_lexer.specs.declared.fault.SyntaxFault.{SyntaxFault};
+ghost use Rattle.jm_lexer.specs.declared.token.Token.{Token};
 ghost use Rattle.jm_syntax.specs.declared.tree.Tree.{Tree};
 
 use crate::cursor::Cursor;
-use crate::fault::SyntaxFault;
-use crate::lexer::lex;
 use crate::predicates::unless;
 use crate::rules::either;
 use crate::sort::fits_truth;
-use crate::token::Token;
 use crate::tree::Tree;
 use jm_base::Cause;
+use jm_lexer::{SyntaxFault, Token, lex};
 use std::alloc::Global;
 
 /// How many bytes a selector text may have.

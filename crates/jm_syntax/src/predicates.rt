@@ -4,11 +4,10 @@ ghost use Rattle.jm_syntax.specs.Input as input;
 ghost use Rattle.jm_syntax.specs.Input.{Reads};
 
 use crate::cursor::Cursor;
-use crate::fault::SyntaxFault;
 use crate::growth::push;
-use crate::token::Mark;
 use crate::tree::Tree;
 use jm_base::{List, Str};
+use jm_lexer::{Mark, SyntaxFault};
 use std::alloc::Global;
 
 /// The place, if the operand does not fit.

@@ -4,13 +4,12 @@ ghost use Rattle.jm_syntax.specs.Input as input;
 ghost use Rattle.jm_syntax.specs.Input.{Reads};
 
 use crate::cursor::Cursor;
-use crate::fault::SyntaxFault;
 use crate::growth::push;
 use crate::predicates::{likeness, membership, null_test, unless};
 use crate::sort::{fits_comparison, fits_number, fits_truth};
-use crate::token::{Kind, Mark};
 use crate::tree::{Additive, Comparison, Multiplicative, Tree};
 use jm_base::{Boxed, Cause, List};
+use jm_lexer::{Kind, Mark, SyntaxFault};
 use std::alloc::{AllocError, Global};
 
 /// The number 2^63, which only a minus may stand before.

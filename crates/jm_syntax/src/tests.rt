@@ -183,37 +183,6 @@ fn hostile_texts(rt: HostRuntime) -> Result<(), Fail> {
 }
 
 #[test]
-fn tokens_of_a_text(rt: HostRuntime) -> Result<(), Fail> {
-    let alloc = rt.alloc();
-    match lex(alloc, "a<>'it''s é' nOt") {
-        Ok(tokens) => match tokens.as_slice() {
-            [name, unequal, text, not] => {
-                assert!(rt; name.kind == Kind::Name(Str::new(String::from_str(alloc, "a")?)));
-                assert!(rt; unequal.kind == Kind::Mark(Mark::NotEqual));
-                assert_eq!(rt; (unequal.start, unequal.end), (1, 3));
-                assert!(rt; text.kind == Kind::Text(Str::new(String::from_str(alloc, "it's é")?)));
-                assert_eq!(rt; (text.start, text.end), (3, 13));
-                assert!(rt; not.kind == Kind::Mark(Mark::Not));
-                assert_eq!(rt; (not.start, not.end), (14, 17));
-            }
-            _ => assert_eq!(rt; "other tokens", "four tokens"),
-        },
-        Err(fault) => assert_eq!(rt; fault.at, 17),
-    }
-    match lex(alloc, "x # 'a''") {
-        Ok(_) => assert_eq!(rt; "tokens", "a fault"),
-        Err(fault) => assert!(rt;
-            fault
-                == SyntaxFault {
-                    at: 2,
-                    cause: Cause::Token
-                }
-        ),
-    }
-    Ok(())
-}
-
-#[test]
 fn copies_of_trees(rt: HostRuntime) -> Result<(), Fail> {
     let alloc = rt.alloc();
     for text in [

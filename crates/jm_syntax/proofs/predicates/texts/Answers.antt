@@ -1,7 +1,7 @@
 use Rattle.std.proofs.Common.{rules, arith}
 use Rattle.std.proofs.lemmas.Grind.{common_steps}
 use Rattle.jm_syntax.specs.Grammar.{texts_from}
-use Rattle.jm_syntax.proofs.Turns.{one_more}
+use Rattle.jm_lexer.proofs.Turns.{one_more}
 use Rattle.jm_syntax.proofs.predicates.texts.Goals as goal
 
 pub loop-turn-preserved : goal.loop-turn-preserved

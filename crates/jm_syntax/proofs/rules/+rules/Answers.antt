@@ -3,7 +3,7 @@ use Rattle.std.proofs.lemmas.Grind.{common_steps}
 use Rattle.jm_syntax.specs.Sorts.{fits_number, fits_truth}
 use Rattle.jm_syntax.specs.Input.{operator_at}
 use Rattle.jm_syntax.specs.Grammar.{below, product, both, unary, condition, additive_of, multiplicative_of, and_of, or_of}
-use Rattle.jm_syntax.specs.declared.token.Mark.TheVariants as m
+use Rattle.jm_lexer.specs.declared.token.Mark.TheVariants as m
 use Rattle.jm_syntax.specs.declared.tree.Tree.TheVariants as e
 use Rattle.jm_syntax.proofs.Chains.{turn_stop, turn_step, turn_fail, turn_end, joint_none, joint_some, joint_after, and_same, or_same}
 use Rattle.jm_syntax.proofs.rules.+rules.Goals as goal

@@ -1,0 +1,13 @@
+//! The tokens of selector texts (Jakarta Messaging 3.1, section 3.8.1), and the faults of a text.
+#![tactic(auto)]
+
+mod fault;
+mod lexer;
+#[cfg(test)]
+mod tests;
+mod token;
+mod words;
+
+pub use fault::SyntaxFault;
+pub use lexer::lex;
+pub use token::{Kind, Mark, Token};
