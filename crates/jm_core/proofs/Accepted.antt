@@ -7,7 +7,7 @@ use Rattle.jm_base.specs.declared.mode.Mode.TheVariants.{Auto}
 use Rattle.jm_dest.specs.declared.key.Key.{Key}
 use Rattle.jm_dest.specs.Keys.{key_eq}
 use Rattle.jm_header.specs.declared.content.Content.{Content}
-use Rattle.jm_syntax.specs.declared.fault.SyntaxFault.{SyntaxFault}
+use Rattle.jm_lexer.specs.declared.fault.SyntaxFault.{SyntaxFault}
 use Rattle.jm_syntax.specs.declared.tree.Tree.{Tree}
 use Rattle.jm_eval.specs.Values.{Value, Unknown, Boolean, Number, Text, condition_of}
 use Rattle.jm_eval.specs.Evaluation.{value, Selects}

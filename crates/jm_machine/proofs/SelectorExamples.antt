@@ -4,14 +4,15 @@ use Rattle.std.specs.Prelude.{codes, if◌then◌else◌}
 use Rattle.jm_base.specs.declared.refusal.Cause.TheVariants.{Expected}
 use Rattle.jm_syntax.specs.declared.tree.Comparison.TheVariants.{Greater}
 use Rattle.jm_syntax.specs.declared.tree.Comparison.{Comparison}
-use Rattle.jm_syntax.specs.declared.fault.SyntaxFault.{SyntaxFault}
+use Rattle.jm_lexer.specs.declared.fault.SyntaxFault.{SyntaxFault}
 use Rattle.jm_syntax.specs.declared.tree.Tree.{Tree, out-Tree, out-roll-Tree}
 use Rattle.jm_syntax.specs.declared.tree.Tree.TheOpen.{Tree-F}
 use Rattle.jm_syntax.specs.declared.tree.Tree.TheVariants as e
 use Rattle.jm_syntax.specs.declared.tree.Tree.TheVariants.{rolls-Name, rolls-Num, rolls-Compare}
-use Rattle.jm_syntax.specs.Input.{fault_at, start, kind, next as next_input, left, sees, after as after_mark, expect, operator_at, after_operator, text, noted, is_end}
-use Rattle.jm_syntax.specs.Words.{keyword_of, stem, number_of}
-use Rattle.jm_syntax.specs.Lex.{content, word_front, number_front, front, lex_from, tokens}
+use Rattle.jm_lexer.specs.Faults.{fault_at}
+use Rattle.jm_syntax.specs.Input.{start, kind, next as next_input, left, sees, after as after_mark, expect, operator_at, after_operator, text, noted, is_end}
+use Rattle.jm_lexer.specs.Words.{keyword_of, stem, number_of}
+use Rattle.jm_lexer.specs.Lex.{content, word_front, number_front, front, lex_from, tokens}
 use Rattle.jm_syntax.specs.Sorts.{sort_of}
 use Rattle.jm_syntax.specs.Grammar.{settle, chain_from, chain, named, primary, signed, minus, plus, unary, product, sum, compared, test, condition as condition_rule, both, either, below}
 use Rattle.jm_syntax.specs.Answer.{settled, finished, whole, answer as grammar_answer}

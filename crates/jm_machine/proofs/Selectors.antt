@@ -2,7 +2,7 @@
 use Rattle.std.proofs.Common.{◌≡◌, ◌∙◌, ℕ, Bool, true, false, List, refl, ap, Option, Some, None, Result, Ok, Err}
 use Rattle.std.specs.Prelude.{◌↔◌, IsTrue}
 use Rattle.jm_header.specs.declared.content.Content.{Content}
-use Rattle.jm_syntax.specs.declared.fault.SyntaxFault.{SyntaxFault}
+use Rattle.jm_lexer.specs.declared.fault.SyntaxFault.{SyntaxFault}
 use Rattle.jm_syntax.specs.declared.tree.Tree.{Tree}
 use Rattle.jm_eval.specs.Values.{Value, Unknown, Boolean, Number, Text, condition_of}
 use Rattle.jm_eval.specs.Views.{view}

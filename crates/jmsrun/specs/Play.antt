@@ -9,7 +9,7 @@ use Rattle.jm_machine.specs.Machine.{new_core}
 use Rattle.jm_machine.specs.declared.answer.Answer.{Answer}
 use Rattle.jm_machine.specs.declared.call.ClientCall.{ClientCall}
 use Rattle.jm_syntax.specs.Parse.{parsed}
-use Rattle.jm_syntax.specs.declared.fault.SyntaxFault.{SyntaxFault}
+use Rattle.jm_lexer.specs.declared.fault.SyntaxFault.{SyntaxFault}
 use Rattle.jm_scenario.specs.Calls.{calls_of_text}
 use Rattle.jm_scenario.specs.Lines.{lines}
 use Rattle.jmsrun.specs.declared.fault.Fault.{Fault}

@@ -1,7 +1,7 @@
 ghost use Rattle.std.specs.Prelude.{◌≡◌, ◌≢◌, ◌⊎◌, ◌+◌, Some, None, Ok, Err, string_bytes, IfOk, IfErr, IfSome, MatchResult};
 ghost use Rattle.jm_core.specs.Runs.{sent_of};
 ghost use Rattle.jm_syntax.specs.Parse.{parsed};
-ghost use Rattle.jm_syntax.specs.declared.fault.SyntaxFault.{SyntaxFault};
+ghost use Rattle.jm_lexer.specs.declared.fault.SyntaxFault.{SyntaxFault};
 ghost use Rattle.jmsrun.specs.Play.{IsFaultOfScenario, IsFaultOfSelector, RefusesSelector, Writes, selector_fault, status_of_fault};
 ghost use Rattle.jmsrun.specs.Select as spec;
 ghost use Rattle.jmsrun.specs.Select.{Picks};

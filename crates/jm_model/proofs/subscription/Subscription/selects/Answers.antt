@@ -1,5 +1,5 @@
 use Rattle.std.proofs.Common.{◌≡◌, ◌∙◌, ap, sym, Option, Result, Ok}
-use Rattle.jm_syntax.specs.declared.fault.SyntaxFault.{SyntaxFault}
+use Rattle.jm_lexer.specs.declared.fault.SyntaxFault.{SyntaxFault}
 use Rattle.jm_syntax.specs.declared.tree.Tree.{Tree}
 use Rattle.jm_machine.specs.declared.state.Definition.{Definition}
 use Rattle.jm_machine.specs.Selectors.{selector_read, read_selects}
