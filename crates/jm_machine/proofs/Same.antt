@@ -2,7 +2,7 @@
 use Rattle.std.proofs.Common.{rules, ◌≡◌, refl, ap, Result, Ok, Err}
 use Rattle.std.proofs.lemmas.Bool.Decides.{Decides-and, Decides-like, Decides-eqb}
 use Rattle.std.specs.Bool.{Decides}
-use Rattle.std.specs.Cmp.Lexicographic.{bytes_decides, pointwise_decides}
+use Rattle.std.specs.Cmp.Lexicographic.{pointwise_decides}
 use Rattle.std.specs.Result.{result_eq}
 use Rattle.jm_base.specs.declared.refusal.Refusal.{Refusal}
 use Rattle.jm_base.specs.contracts.refusal.RefusalPartialEq.TheImpl as refusal_eq

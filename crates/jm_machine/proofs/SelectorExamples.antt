@@ -41,7 +41,7 @@ use Rattle.jm_machine.specs.declared.state.Definition.{Definition}
 use Rattle.jm_machine.specs.declared.state.PlacedRow.{PlacedRow}
 use Rattle.jm_machine.specs.Life.{life_after, own_life}
 use Rattle.jm_machine.specs.Rows.{fresh, is_next, left_of}
-use Rattle.jm_machine.specs.Selectors.{selector_read, read_refusal, selector_refusal, standing, holds, selects, read_selects}
+use Rattle.jm_machine.specs.Selectors.{read_refusal, selector_refusal, standing, holds, selects, read_selects}
 use Rattle.jm_machine.specs.Machine.{new_core, defined, accepts, published, refusal, publish_refusal, after as after_call, answer, rows_for, replied, moved, reply, step}
 use Rattle.jm_machine.specs.Client.{Progress, one_more, reply_to, progress_to, replies_to}
 use Rattle.jm_machine.specs.Entries.{entries_of, life_after_entry, committed, state_after_entry}

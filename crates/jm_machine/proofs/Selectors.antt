@@ -1,5 +1,5 @@
 -- What stands in a definition is read as what was handed in, and what selects a message by its value.
-use Rattle.std.proofs.Common.{◌≡◌, ◌∙◌, ℕ, Bool, true, false, List, refl, ap, Option, Some, None, Result, Ok, Err}
+use Rattle.std.proofs.Common.{◌≡◌, ◌∙◌, ℕ, Bool, true, false, List, refl, ap, Option, Some, None, Result, Ok}
 use Rattle.std.specs.Prelude.{◌↔◌, IsTrue}
 use Rattle.jm_header.specs.declared.content.Content.{Content}
 use Rattle.jm_lexer.specs.declared.fault.SyntaxFault.{SyntaxFault}

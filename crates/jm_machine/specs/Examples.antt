@@ -1,5 +1,5 @@
 -- Worked runs, computed on the definitions.
-use Rattle.std.specs.Prelude.{◌≡◌, ℕ, true, false, List, [], ◌∷◌, ◌++◌, Some, None, Result, Ok, Err, refl}
+use Rattle.std.specs.Prelude.{◌≡◌, ℕ, List, [], ◌∷◌, ◌++◌, None, Result, Ok, Err, refl}
 use Rattle.jm_base.specs.declared.mode.Mode.TheVariants.{Auto}
 use Rattle.jm_base.specs.declared.refusal.Refusal.{Refusal}
 use Rattle.jm_base.specs.declared.refusal.Refusal.TheVariants.{IllegalState, OutOfRange}
@@ -7,7 +7,6 @@ use Rattle.jm_dest.specs.declared.session.SessionId.{SessionId}
 use Rattle.jm_dest.specs.declared.destination.Destination.TheVariants.{Topic}
 use Rattle.jm_dest.specs.declared.key.Key.TheVariants.{Own}
 use Rattle.jm_header.specs.declared.body.Body.TheVariants.{Text}
-use Rattle.jm_header.specs.declared.content.Content.{Content}
 use Rattle.jm_header.specs.declared.content.Settings.{Settings}
 use Rattle.jm_header.specs.Headers.{defaults, message_of}
 use Rattle.jm_machine.specs.declared.call.Who.TheVariants.{Connection, Session}

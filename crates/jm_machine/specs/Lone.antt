@@ -21,7 +21,7 @@ use Rattle.jm_machine.specs.Owns.{is_own, is_own_connection}
 use Rattle.jm_machine.specs.Life.{Life, mode_of, is_started, life_after, own_life}
 use Rattle.jm_machine.specs.Rows.{fresh, left_of, deliver}
 use Rattle.jm_machine.specs.Machine.{State, station_of, definition_of, rows_of, accepts, new_consumer, defined, refusal, answer, replied}
-use Rattle.jm_machine.specs.Entries.{life_after_entry, committed}
+use Rattle.jm_machine.specs.Entries.{committed}
 
 -- what belongs to an unshared topic subscription: its key, its own sessions, and its consumers' numbers
 pub record Scope : Type 0 where
