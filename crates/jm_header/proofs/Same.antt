@@ -1,6 +1,6 @@
 -- The derived `==` of a message's parts decides whether they are equal.
-use Rattle.std.proofs.Common.{◌≡◌, arith, refl, ap, ℕ, List, Option, Some, None, Bool, ◌&&◌, ◌==◌, true, false, nat_eq}
-use Rattle.std.proofs.lemmas.Bool.Decides.{Decides-and, Decides-like, Decides-eqb, nat_tests}
+use Rattle.std.proofs.Common.{◌≡◌, refl, ap, ℕ, List, Option, Some, None, Bool, true, false, nat_eq}
+use Rattle.std.proofs.lemmas.Bool.Decides.{Decides-and, Decides-like, Decides-eqb}
 use Rattle.std.specs.Bool.{Decides, beq}
 use Rattle.std.specs.Cmp.Lexicographic.{bytes_decides, pointwise}
 use Rattle.std.specs.Option.{option_eq}

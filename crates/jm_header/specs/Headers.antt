@@ -1,6 +1,6 @@
 -- What a draft is at first, what a stamp makes of it, and when a message is expired (Jakarta
 -- Messaging 3.1, section 3.4).
-use Rattle.std.specs.Prelude.{ℕ, ◌≢◌, ◌≤◌, ◌+◌, ◌^◌, ◌&&◌, ◌==◌, nat_le, nat_lt, if◌then◌else◌, Bool, true, false, None, Result, Ok, Err, List, []}
+use Rattle.std.specs.Prelude.{ℕ, ◌≢◌, ◌≤◌, ◌+◌, ◌^◌, ◌&&◌, ◌==◌, nat_le, nat_lt, if◌then◌else◌, Bool, false, None, Result, Ok, Err, List, []}
 use Rattle.jm_base.specs.declared.refusal.Refusal.{Refusal}
 use Rattle.jm_base.specs.declared.refusal.Refusal.TheVariants.{OutOfRange}
 use Rattle.jm_base.specs.declared.refusal.MessageFault.{MessageFault}

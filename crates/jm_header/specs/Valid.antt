@@ -1,5 +1,5 @@
 -- What holds of every draft and every message.
-use Rattle.std.specs.Prelude.{◌≡◌, ◌<◌, ◌≤◌, ◌^◌, ◌≢◌}
+use Rattle.std.specs.Prelude.{◌<◌, ◌≤◌, ◌^◌, ◌≢◌}
 use Rattle.jm_header.specs.declared.content.Content.{Content}
 use Rattle.jm_header.specs.declared.content.Settings.{Settings}
 

@@ -1,5 +1,5 @@
 -- Facts on tables of properties, and on the map that holds one.
-use Rattle.std.proofs.Common.{◌≡◌, ℕ, ◌<◌, Bool, true, false, cond, ◌&&◌, List, [], ◌∷◌, length, slice_get, Option, Some, None, Result, Ok, Err, OnOk, OnErr, arith, refl, sym, ◌∙◌, ap, subst, IsTrue, zero, suc}
+use Rattle.std.proofs.Common.{◌≡◌, ℕ, Bool, true, false, cond, ◌&&◌, List, [], ◌∷◌, length, slice_get, Some, None, Result, Ok, Err, OnOk, OnErr, arith, refl, sym, ◌∙◌, ap, subst, IsTrue, zero, suc}
 use Rattle.std.specs.Prelude.{string_bytes}
 use Rattle.std.specs.declared.string.String.{String}
 use Rattle.std.specs.Cmp.Lexicographic.{bytes_decides, pointwise}

@@ -1,6 +1,5 @@
-use Rattle.std.proofs.Common.{◌≡◌, ◌∙◌, sym, subst}
+use Rattle.std.proofs.Common.{◌∙◌, sym, subst}
 use Rattle.jm_property.proofs.Tables.{table_of-clone}
-use Rattle.jm_property.specs.Entries.{table_of}
 use Rattle.jm_property.specs.Properties.{IsTable}
 use Rattle.jm_property.proofs.properties.Properties.copy.Goals as goal
 

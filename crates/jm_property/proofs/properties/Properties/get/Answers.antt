@@ -1,4 +1,4 @@
-use Rattle.std.proofs.Common.{◌≡◌, ◌∙◌, sym, ap}
+use Rattle.std.proofs.Common.{◌∙◌, sym, ap}
 use Rattle.jm_property.proofs.Tables.{value_of-table_of}
 use Rattle.jm_property.specs.Properties.{value_of}
 use Rattle.jm_property.proofs.properties.Properties.get.Goals as goal

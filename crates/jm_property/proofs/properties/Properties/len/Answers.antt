@@ -1,4 +1,4 @@
-use Rattle.std.proofs.Common.{◌≡◌, ◌∙◌, sym, ap, length}
+use Rattle.std.proofs.Common.{◌∙◌, sym, ap, length}
 use Rattle.jm_property.proofs.Tables.{length-table_of}
 use Rattle.jm_property.proofs.properties.Properties.len.Goals as goal
 

@@ -1,4 +1,4 @@
-use Rattle.std.proofs.Common.{◌≡◌, ◌∙◌, sym, ap, slice_get, Some}
+use Rattle.std.proofs.Common.{◌∙◌, sym, ap, slice_get, Some}
 use Rattle.std.specs.Prelude.{string_bytes}
 use Rattle.std.specs.Option.{option_map}
 use Rattle.jm_property.proofs.Tables.{slice_get-table_of}

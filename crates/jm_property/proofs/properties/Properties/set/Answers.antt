@@ -1,4 +1,4 @@
-use Rattle.std.proofs.Common.{◌≡◌, ◌∙◌, sym, ap, subst, refl, IsTrue, rules}
+use Rattle.std.proofs.Common.{◌∙◌, sym, ap, subst, refl, IsTrue, rules}
 use Rattle.jm_property.proofs.Tables.{IsTable-with_property, table_of-insert_entry, either}
 use Rattle.jm_property.specs.Entries.{table_of}
 use Rattle.jm_property.specs.Properties.{IsTable, is_allowed, with_property}
