@@ -1,17 +1,15 @@
 -- What the items of an array spell.
-use Rattle.std.proofs.Common.{◌≡◌, ℕ, ◌<◌, ◌+◌, suc, List, [], ◌∷◌, ◌++◌, length, drop, get_or, Bool, true, false, if◌then◌else◌, Option, Some, None, option_map, refl, ap, sym, ◌∙◌, append_assoc, add-one, drop-cons, arith}
+use Rattle.std.proofs.Common.{◌≡◌, ℕ, ◌<◌, ◌+◌, suc, List, [], ◌∷◌, ◌++◌, length, drop, get_or, Bool, true, false, if◌then◌else◌, Option, Some, None, option_map, refl, ap, sym, ◌∙◌, append_assoc, add-one, drop-cons}
 use Rattle.serde_json.specs.Data.{Data, Items, item}
 use Rattle.serde_json.specs.View.{view, items_view}
 use Rattle.serde_json.specs.declared.value.Value.{Value}
-use Rattle.jm_dest.specs.declared.session.SessionId.{SessionId}
 use Rattle.jm_machine.specs.declared.call.ClientCall.{ClientCall}
 use Rattle.jm_scenario.specs.Calls.{call_of, calls_of_items}
-use Rattle.jm_base.specs.declared.refusal.MessageFault.{MessageFault}
 use Rattle.jm_base.specs.declared.refusal.MessageFault.TheVariants.{BadName, Memory}
 use Rattle.jm_header.specs.declared.content.Settings.{Settings}
 use Rattle.jm_scenario.specs.Reading.{where_true}
 use Rattle.jm_scenario.specs.Drafts.{with_three}
-use Rattle.jm_scenario.specs.Values.{number, session_of_items, session_of_numbers}
+use Rattle.jm_scenario.specs.Values.{session_of_items}
 
 -- items of another length than two spell no session
 pub session_of_items-others : (values : List Value) → (length values ≡ 2 → ⊥) → session_of_items (items_view values) ≡ None

@@ -1,11 +1,10 @@
 -- What the items and members of a key spell.
-use Rattle.std.proofs.Common.{◌≡◌, ℕ, List, [], ◌∷◌, length, get_or, Option, Some, None, option_and_then, slice_get, string_bytes, String, refl, arith}
+use Rattle.std.proofs.Common.{◌≡◌, List, [], ◌∷◌, length, Some, None, option_and_then, slice_get, string_bytes, String, refl, arith}
 use Rattle.std.specs.declared.alloc.Global.{Global}
 use Rattle.serde_json.specs.Find.{as_array}
 use Rattle.serde_json.specs.View.{view, items_view, members_view}
 use Rattle.serde_json.specs.declared.value.Value.{Value}
-use Rattle.jm_scenario.specs.Key.{durable_of_items, durable_of_names, key_of_items, key_of_members, own_of, own_of_items}
-use Rattle.jm_scenario.specs.Values.{name, number, session_of_numbers}
+use Rattle.jm_scenario.specs.Key.{durable_of_items, key_of_items, key_of_members, own_of_items}
 
 -- items of another length than three spell no consumer
 pub own_of_items-others : (values : List Value) → (length values ≡ 3 → ⊥) → own_of_items (items_view values) ≡ None

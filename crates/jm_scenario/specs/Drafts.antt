@@ -1,5 +1,5 @@
 -- The drafts that sends spell (ours).
-use Rattle.std.specs.Prelude.{ℕ, ◌&&◌, not, nat_le, ℤ, pos, negsuc, int_lt, Bool, true, false, List, Option, Some, None, Result, option_map, option_and_then, if◌then◌else◌, codes}
+use Rattle.std.specs.Prelude.{ℕ, ◌&&◌, not, nat_le, ℤ, pos, negsuc, int_lt, Bool, true, false, List, Option, Some, None, option_map, option_and_then, if◌then◌else◌, codes}
 use Rattle.std.specs.List.{list_all}
 use Rattle.std.specs.Result.{result_ok}
 use Rattle.std.specs.Str.{bytes_eq}

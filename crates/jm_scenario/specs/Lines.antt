@@ -1,5 +1,5 @@
 -- The lines of replies (ours).
-use Rattle.std.specs.Prelude.{ℕ, suc, ◌++◌, ◌+◌, List, [], ◌∷◌, Bool, true, false, nat_le, if◌then◌else◌, Result, Ok, Err, codes, decimal}
+use Rattle.std.specs.Prelude.{ℕ, suc, ◌++◌, List, [], ◌∷◌, nat_le, if◌then◌else◌, Result, Ok, Err, codes, decimal}
 use Rattle.json.specs.Print.{quoted}
 use Rattle.hex.specs.Hex.{encode_lower}
 use Rattle.jm_base.specs.declared.refusal.Refusal.{Refusal}

@@ -7,7 +7,7 @@ use Rattle.jmsrun.specs.declared.fault.Fault.TheVariants.{File, Scenario, Select
 
 -- a fault of reading is none of a scenario
 pub reading-scenario : (bytes : List ℕ) (fault : Fault) → IsFaultOfReading fault → IsFaultOfScenario bytes fault
-reading-scenario bytes File h = tt
+reading-scenario bytes (File _) h = tt
 reading-scenario bytes Memory h = tt
 reading-scenario bytes (Scenario other) h = absurd h
 reading-scenario bytes (Key other) h = absurd h
@@ -15,7 +15,7 @@ reading-scenario bytes (Selector cause at) h = absurd h
 
 -- and none of a selector
 pub reading-selector : (fault : Fault) → IsFaultOfReading fault → IsNoSelectorFault fault
-reading-selector File h = tt
+reading-selector (File _) h = tt
 reading-selector Memory h = tt
 reading-selector (Scenario other) h = absurd h
 reading-selector (Key other) h = absurd h
@@ -23,7 +23,7 @@ reading-selector (Selector cause at) h = absurd h
 
 -- and none of a key
 pub reading-key : (fault : Fault) → IsFaultOfReading fault → IsNoKeyFault fault
-reading-key File h = tt
+reading-key (File _) h = tt
 reading-key Memory h = tt
 reading-key (Scenario other) h = absurd h
 reading-key (Key other) h = absurd h

@@ -1,5 +1,5 @@
 -- What a run of the program does (ours).
-use Rattle.std.specs.Prelude.{◌≡◌, ℕ, Bool, true, false, List, Option, Some, None, Result, Ok, Err, IsUtf8, if◌then◌else◌}
+use Rattle.std.specs.Prelude.{◌≡◌, ℕ, Bool, true, false, List, Option, Some, None, Result, Err, IsUtf8, if◌then◌else◌}
 use Rattle.std.specs.List.{list_any}
 use Rattle.std.specs.Io.KnownBytes.{Appends}
 use Rattle.jm_base.specs.declared.refusal.Refusal.{Refusal}
@@ -35,7 +35,7 @@ status_of replies = if list_any is_shortage replies then 3 else 0
 
 -- the exit status of a fault
 abbrev pub status_of_fault : Fault → ℕ
-status_of_fault fault.File = 1
+status_of_fault (fault.File _) = 1
 status_of_fault (fault.Scenario _) = 1
 status_of_fault (fault.Selector _ _) = 1
 status_of_fault (fault.Key _) = 1
@@ -72,7 +72,7 @@ RefusesScenario bytes _ = ⊥
 
 -- a fault of reading bytes: a read fails, or memory is refused
 abbrev pub IsFaultOfReading : Fault → Type 0
-IsFaultOfReading fault.File = Unit {0}
+IsFaultOfReading (fault.File _) = Unit {0}
 IsFaultOfReading fault.Memory = Unit {0}
 IsFaultOfReading _ = ⊥
 

@@ -1,3 +1,4 @@
+use crate::reading::ReadFailure;
 use jm_base::Cause;
 use jm_scenario::ScenarioFault;
 use std::alloc::AllocError;
@@ -8,7 +9,7 @@ use thiserror::Error;
 pub enum Fault {
     /// A read failed, or the scenario has more than 16,777,216 bytes.
     #[error("file: not readable")]
-    File,
+    File(ReadFailure),
     /// The bytes are no scenario.
     #[error(transparent)]
     Scenario(ScenarioFault),

@@ -5,6 +5,7 @@
 mod fault;
 mod lone;
 mod play;
+mod reading;
 mod select;
 #[cfg(test)]
 mod tests;
@@ -25,6 +26,11 @@ use std::{env, fs, io};
 struct Unreadable;
 
 impl Read for Unreadable {
+    ghost use Rattle.std.specs.Prelude.{Some, ◌∷◌, []};
+
+    // A byte that no read gives, so that each read fails.
+    ghost remaining = { λ _. Some (0 ∷ []) };
+
     fn read(&mut self, _buf: &mut [u8]) -> io::Result<usize> {
         Err(io::Error::from(io::ErrorKind::NotFound))
     }

@@ -7,16 +7,13 @@ ghost use Rattle.jmsrun.specs.Play as spec;
 ghost use Rattle.jmsrun.specs.Play.{IsFaultOfScenario, IsRun, Plays, RefusesScenario, WritesLines, status_of_fault};
 
 use crate::fault::Fault;
+use crate::reading::read_all;
 use jm_base::Refusal;
 use jm_core::Core;
 use jm_machine::{ClientCall, Reply};
 use jm_scenario::{ScenarioFault, read_scenario, write_replies};
 use std::alloc::{AllocError, Global};
 use std::io::{Read, Write};
-
-const SCENARIO_MAX: usize = 16_777_216;
-
-const CHUNK: usize = 4096;
 
 /// The number of the only opening of a provider that keeps nothing.
 pub(crate) const OPENING: u32 = 1;
@@ -29,28 +26,6 @@ pub struct Ending {
     pub status: u8,
     /// What is printed on standard error.
     pub fault: Option<Fault>,
-}
-
-/// The bytes of the reader to its end, in at most 16,777,217 reads.
-fn read_all<R: Read>(alloc: Global, reader: &mut R) -> Result<Vec<u8>, Fault>
-    ensures ok { IfOk result (λ bytes. IfSome (R.remaining reader.old) (λ all. bytes.items ≡ all)) }
-    ensures err { IfErr result spec.IsFaultOfReading }
-{
-    let mut bytes = Vec::new(alloc);
-    'reads: for _ in 0..SCENARIO_MAX + 1 {
-        let mut chunk = [0; CHUNK];
-        let Ok(count) = reader.read(&mut chunk) else {
-            return Err(Fault::File);
-        };
-        if count == 0 {
-            return Ok(bytes);
-        }
-        if bytes.len() + count > SCENARIO_MAX {
-            return Err(Fault::File);
-        }
-        bytes.extend_from_slice(&chunk[..count])?;
-    }
-    Err(Fault::File)
 }
 
 /// The replies to the calls, made in turn on a new provider. `AllocError` where a request for memory
@@ -121,7 +96,7 @@ pub(crate) fn ended(fault: Fault) -> Ending
 {
     let status = match &fault {
         Fault::Memory => 3,
-        Fault::File | Fault::Scenario(_) | Fault::Selector { .. } | Fault::Key(_) => 1,
+        Fault::File(_) | Fault::Scenario(_) | Fault::Selector { .. } | Fault::Key(_) => 1,
     };
     Ending {
         status,

@@ -241,7 +241,7 @@ fn failing_reader(rt: HostRuntime) {
         let mut written = Vec::new(rt.alloc());
         let mut reader = FailingReader { good_reads };
         let ending = play(rt.alloc(), &mut reader, &mut written);
-        assert!(rt; ending.status == 1 && ending.fault == Some(Fault::File));
+        assert!(rt; ending.status == 1 && matches!(ending.fault, Some(Fault::File(_))));
         assert!(rt; written.is_empty());
     }
 }

@@ -168,7 +168,7 @@ fn lone_reads_before_its_key(rt: HostRuntime) {
     let mut reader = FailingReader { good_reads: 1 };
     let ending = lone(rt.alloc(), &mut reader, "{", &mut written);
     assert!(rt; ending.status == 1 && written.is_empty());
-    assert!(rt; ending.fault == Some(Fault::File));
+    assert!(rt; matches!(ending.fault, Some(Fault::File(_))));
 }
 
 #[test]

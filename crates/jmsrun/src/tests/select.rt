@@ -107,7 +107,7 @@ fn select_reads_after_its_selector(rt: HostRuntime) {
         let mut reader = FailingReader { good_reads: 1 };
         let ending = pick(alloc, selector, &mut reader, &mut written);
         assert!(rt; ending.status == 1 && written.is_empty());
-        assert!(rt; (ending.fault == Some(Fault::File)) == is_read);
+        assert!(rt; matches!(ending.fault, Some(Fault::File(_))) == is_read);
         assert!(rt; (reader.good_reads == 0) == is_read);
     }
 }

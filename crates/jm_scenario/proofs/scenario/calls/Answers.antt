@@ -1,6 +1,6 @@
 use Rattle.std.proofs.Common.{◌≡◌, ◌+◌, ◌++◌, ◌∷◌, [], drop, ap, sym, ◌∙◌, rules}
 use Rattle.serde_json.specs.View.{view, items_view}
-use Rattle.jm_scenario.specs.Calls.{call_of, calls_of_items}
+use Rattle.jm_scenario.specs.Calls.{calls_of_items}
 use Rattle.jm_scenario.proofs.Items.{after, after-item, after-none, items_view-drop}
 use Rattle.jm_scenario.proofs.scenario.calls.Goals as goal
 

@@ -1,5 +1,5 @@
 use Rattle.std.specs.Io.KnownBytes.{Consumes}
-use Rattle.jmsrun.proofs.play.read_all.Given as goal
+use Rattle.jmsrun.proofs.reading.read_all.Given as goal
 
 -- the bytes so far were read
 abbrev pub invariant-reads : goal.invariant-reads
