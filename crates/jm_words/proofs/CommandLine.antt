@@ -1,5 +1,5 @@
 -- The command line as clap sees it.
-use Rattle.std.proofs.Common.{◌≡◌, List, [], ℕ, true, Option, Some, None, refl}
+use Rattle.std.proofs.Common.{◌≡◌, List, ℕ, true, Option, Some, None, refl}
 use Rattle.std.specs.Prelude.{unwrap_or, option_map}
 use Rattle.std.specs.Borrow.{Bor}
 use Rattle.clap.specs.Words.{is_simple_and_free}
