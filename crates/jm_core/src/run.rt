@@ -93,7 +93,8 @@ impl Core {
 
     /// Makes the calls in turn, and gives the reply to each. The numbers of each session's sends count
     /// from 1 at the start of the list. `AllocError` where no room was found for the replies; then no
-    /// call was made. Where one call wants memory, its reply is `Memory`, and the run goes on.
+    /// call was made. Where one call wants memory, its reply is `Memory`, the core is as it was before that
+    /// call, and the run goes on; a send may have used its number then.
     pub fn run(&mut self, calls: Vec<ClientCall>) -> Result<Vec<Reply>, AllocError>
         ensures ok { IfOk result (λ replies. (end : Progress) × RepliesFit (begun self.old) calls.items replies.items end × (self.new ≡ end.state)) }
         ensures err { OnErr result (self.new ≡ self.old) }

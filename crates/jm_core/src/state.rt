@@ -192,7 +192,8 @@ impl Core {
     }
 
     /// Makes one step. A refusal is the first cause that stands, in the order of `Refusal`, and leaves
-    /// the core as it was; so does `Memory`, which comes only where no other cause stands.
+    /// the core as it was; so does `Memory`, which comes only where no other cause stands, or in place of
+    /// `InvalidSelector`.
     #[tactic(auto, unfolding(jm_machine::specs::Machine::reply, jm_machine::specs::Machine::step))]
     pub fn step(&mut self, step: &Step) -> Result<Answer, Refusal>
         ensures { StepFits self.old step.now.who step.now.call result self.new }
