@@ -8,7 +8,8 @@ pub enum Cause {
     Token,
     /// The grammar cannot go on with this token, or with the end of the text.
     Expected,
-    /// An operand is of a kind that its operator does not take.
+    /// An operand is of a kind that its operator does not take, or the text after ESCAPE is not one
+    /// character.
     Kind,
     /// A number word of no form that is read, or a number that is too large.
     Number,

@@ -13,7 +13,7 @@ const LENGTH_MAX: usize = 56;
 /// The text of a JMSMessageID, in a buffer of its own.
 #[derive(Drop)]
 pub struct MessageIdText {
-    bytes: [u8; 56],
+    bytes: [u8; LENGTH_MAX],
     start: usize,
 }
 

@@ -4,8 +4,12 @@ ghost use Rattle.jm_eval.specs.Values as spec;
 /// The value of a condition (Jakarta Messaging 3.1, section 3.8.1.2).
 #[derive(Clone, Copy, Debug, PartialEq, Eq)]
 pub enum Truth {
+    /// The condition holds.
     True,
+    /// The condition does not hold.
     False,
+    /// A value that the condition rests on is not known, as that of a name that is not set or of a
+    /// quotient by zero, and the rest does not settle it.
     Unknown,
 }
 

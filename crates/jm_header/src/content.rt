@@ -27,7 +27,7 @@ pub struct Sender {
 pub struct Content {
     /// The session that sent the message.
     pub sender: Sender,
-    /// The place of the message among the accepted sends of its session, from 1.
+    /// The place of the message among the stamped sends of its session, from 1.
     pub number: u64,
     /// JMSDestination.
     pub destination: Destination,

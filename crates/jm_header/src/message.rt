@@ -48,7 +48,7 @@ impl Message {
         self.content.sender
     }
 
-    /// The place of the message among the accepted sends of its session, from 1.
+    /// The place of the message among the stamped sends of its session, from 1.
     pub fn number(&self) -> u64
         ensures { result ≡ self.now.number }
     {

@@ -4,6 +4,7 @@ use Rattle.jm_base.specs.declared.refusal.Cause.{Cause}
 use Rattle.jm_base.specs.declared.refusal.Cause.TheVariants as causes
 use Rattle.jm_lexer.specs.declared.fault.SyntaxFault.{SyntaxFault}
 
+-- the fault of this cause at this offset
 abbrev pub fault_at : ℕ → Cause → SyntaxFault
 fault_at at cause = record { at = at; cause = cause }
 

@@ -18,6 +18,7 @@ content_from false found n [] = None
 content_from true found n (b ∷ z) = if b == 39 then content_from false (found ++ 39 ∷ []) (n + 1) z else Some (found, n)
 content_from false found n (b ∷ z) = if b == 39 then content_from true found (n + 1) z else content_from false (found ++ b ∷ []) (n + 1) z
 
+-- the content after an opening quote, and its length with the closing quote; none where the text is not closed
 unfoldable pub content : List ℕ → Option (List ℕ × ℕ)
 content z = content_from false [] 0 z
 
@@ -25,28 +26,35 @@ content z = content_from false [] 0 z
 abbrev pub Front : Type 0
 Front = Result (Kind × ℕ) SyntaxFault
 
+-- a text, its opening quote counted too, or Token
 abbrev pub text_by : ℕ → Option (List ℕ × ℕ) → Front
 text_by at None = Err (fault_at at causes.Token)
 text_by at (Some f) = Ok (kinds.Text f.0, f.1 + 1)
 
+-- the longest run of letters and digits, as a keyword or an identifier
 unfoldable pub word_front : List ℕ → Front
 word_front z = Ok (word_kind (take (prefix_len is_word z) z), prefix_len is_word z)
 
+-- a number word of this length, or the fault of its cause
 abbrev pub number_by : ℕ → ℕ → Result ℕ Cause → Front
 number_by at n (Ok value) = Ok (kinds.Number value, n)
 number_by at n (Err cause) = Err (fault_at at cause)
 
+-- the longest run of letters, digits and `.`, as a number or its fault
 unfoldable pub number_front : ℕ → List ℕ → Front
 number_front at z = number_by at (prefix_len is_number z) (number_of (take (prefix_len is_number z) z))
 
+-- a sign of one character, or Token
 abbrev pub one_by : ℕ → Option Mark → Front
 one_by at None = Err (fault_at at causes.Token)
 one_by at (Some mark) = Ok (kinds.Mark mark, 1)
 
+-- a sign of two characters, or else what one character alone gives
 abbrev pub two_by : Front → Option Mark → Front
 two_by one None = one
 two_by one (Some mark) = Ok (kinds.Mark mark, 2)
 
+-- a sign of two characters, else one of one character, else Token
 abbrev pub sign_front : ℕ → List ℕ → Front
 sign_front at [] = Err (fault_at at causes.Token)
 sign_front at (b ∷ []) = one_by at (one_sign b)
@@ -61,6 +69,7 @@ front at (b ∷ z) =
     else (if begins_number (b ∷ z) then number_front at (b ∷ z)
     else sign_front at (b ∷ z)))
 
+-- the token of this kind with this start and this end
 abbrev pub place : Kind → ℕ → ℕ → Token
 place kind start end = record { kind = kind; start = start; end = end }
 

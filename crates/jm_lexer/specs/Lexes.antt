@@ -22,7 +22,7 @@ abbrev pub number_kind : Result ℕ Cause → Result Kind Cause
 number_kind (Ok value) = Ok (kinds.Number value)
 number_kind (Err cause) = Err cause
 
--- the byte is no whitespace, and no keyword, identifier, text or sign begins with it
+-- the byte is no whitespace, no letter, no digit, no quote and no sign
 abbrev pub is_stray : ℕ → Bool
 is_stray b = not (is_blank b || (is_word b || (b == 39 || is_some (one_sign b))))
 

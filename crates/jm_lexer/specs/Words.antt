@@ -10,6 +10,7 @@ use Rattle.jm_lexer.specs.declared.token.Mark.TheVariants as m
 use Rattle.jm_lexer.specs.declared.token.Kind.{Kind}
 use Rattle.jm_lexer.specs.declared.token.Kind.TheVariants as kinds
 
+-- what is made of a thing where there is one, another value where there is none
 abbrev pub if_some : {A B : Type 0} → Option A → B → (A → B) → B
 if_some None other f = other
 if_some (Some a) other f = f a
@@ -77,6 +78,7 @@ abbrev pub digits_of : List ℕ → List ℕ × ℕ
 digits_of [] = ([], 10)
 digits_of (b ∷ z) = if b == 48 then zero_digits z else (b ∷ z, 10)
 
+-- a digit of the base: `a` to `f`, in any case, are 10 to 15
 abbrev pub is_digit_in : ℕ → ℕ → Bool
 is_digit_in base b = nat_lt (digit_value b) base
 

@@ -3,7 +3,7 @@ use std::alloc::AllocError;
 
 /// Why a selector text is refused, and at which byte offset.
 ///
-/// `Memory` stands at offset 0.
+/// Where the cause is `Memory` the offset means nothing.
 #[derive(Clone, Copy, Debug, PartialEq, Eq)]
 pub struct SyntaxFault {
     /// The offset in bytes.

@@ -19,7 +19,7 @@ fn tokens_of_a_text(rt: HostRuntime) -> Result<(), Fail> {
             }
             _ => assert_eq!(rt; "other tokens", "four tokens"),
         },
-        Err(fault) => assert_eq!(rt; fault.at, 17),
+        Err(_) => assert_eq!(rt; "a fault", "four tokens"),
     }
     match lex(alloc, "x # 'a''") {
         Ok(_) => assert_eq!(rt; "tokens", "a fault"),

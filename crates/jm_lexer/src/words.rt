@@ -135,7 +135,8 @@ fn digits_of(stem: &[u8]) -> (&[u8], u8)
     }
 }
 
-/// The value of a hexadecimal digit; 36 for any other byte.
+/// The value of a byte as a digit: `0` to `9` are 0 to 9, the letters of either case 10 to 35, and any
+/// other byte is 36.
 fn digit_value(b: u8) -> u8
     ensures value { result ≡ value_of_digit b }
     ensures within { result ≤ 36 }

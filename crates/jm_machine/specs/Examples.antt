@@ -28,10 +28,11 @@ use Rattle.jm_machine.specs.Isolation.{alone}
 abbrev pub new_run : Progress
 new_run = begun (new_core 1)
 
--- session 1.1 and session 2.1
+-- session 1.1, which receives
 abbrev pub receiver : SessionId
 receiver = record { connection = 1; number = 1 }
 
+-- session 2.1, which sends
 abbrev pub publisher : SessionId
 publisher = record { connection = 2; number = 1 }
 
@@ -51,13 +52,15 @@ send now draft = Send publisher draft (Topic topic) now
 abbrev pub receive : ℕ → ℕ → ClientCall
 receive c now = Ask (Session receiver) (Receive c now)
 
--- replies
+-- the reply to a call that is done
 abbrev pub ok : Result Answer Refusal
 ok = Ok Done
 
+-- the reply to a receive that gets nothing
 abbrev pub none : Result Answer Refusal
 none = Ok Nothing
 
+-- the reply to a receive that gets the message of that draft, number and moment, with that count
 abbrev pub got : Settings → ℕ → ℕ → ℕ → Result Answer Refusal
 got draft n now count = Ok (Delivered (record {
   message = protected (message_of draft (Topic topic) (record { opening = 1; session = publisher }) n now);
@@ -70,12 +73,15 @@ opened =
     Ask (Connection 1) Open ∷ Ask (Connection 2) Open ∷ Ask (Session receiver) (CreateSession Auto) ∷ Ask (Session publisher) (CreateSession Auto)
     ∷ Ask (Session receiver) (CreateConsumer 1 topic None) ∷ []
 
+-- the same, and connection 1 starts
 abbrev pub started : List ClientCall
 started = opened ++ Ask (Connection 1) Start ∷ []
 
+-- the replies to the five calls that open: each is done
 abbrev pub five : List (Result Answer Refusal)
 five = ok ∷ ok ∷ ok ∷ ok ∷ ok ∷ []
 
+-- the replies to these and to the start: each is done
 abbrev pub six : List (Result Answer Refusal)
 six = five ++ ok ∷ []
 
@@ -83,9 +89,11 @@ six = five ++ ok ∷ []
 abbrev pub first_message_calls : List ClientCall
 first_message_calls = started ++ send 1000 (text 97) ∷ receive 1 1000 ∷ receive 1 1000 ∷ []
 
+-- the replies to these calls
 abbrev pub first_message_replies : List (Result Answer Refusal)
 first_message_replies = six ++ Ok (Sent 1) ∷ got (text 97) 1 1000 1 ∷ none ∷ []
 
+-- they are the machine's replies
 pub first_message : replies_to new_run first_message_calls ≡ first_message_replies
 unfolding life_after is_next left_of selector_refusal selects defined accepts published refusal publish_refusal after answer rows_for reply step reply_to progress_to
 first_message = refl

@@ -32,6 +32,7 @@ abbrev pub number_made : Request → Option ℕ
 number_made (CreateConsumer c topic selector) = Some c
 number_made _ = None
 
+-- a number that may be absent is there, and is that one
 abbrev pub is_number : ℕ → Option ℕ → Bool
 is_number c None = false
 is_number c (Some d) = d == c
@@ -53,6 +54,7 @@ abbrev pub NewNumber : List Consumer → List Entry → SessionId → Option ℕ
 NewNumber consumers later s None = Unit {0}
 NewNumber consumers later s (Some c) = (consumer_of consumers s c ≡ None) × (list_any (creates s c) later ≡ false)
 
+-- an entry is new: it is no creating call of a session, or the number that it names is new
 abbrev pub IsNew : List Consumer → List Entry → Entry → Type 0
 IsNew consumers later (Asked (Connection c) request told) = Unit {0}
 IsNew consumers later (Asked (Session s) request told) = NewNumber consumers later s (number_made request)

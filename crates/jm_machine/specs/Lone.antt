@@ -98,10 +98,12 @@ about scope s (CreateConsumer c topic selector) = Some (belongs scope s c)
 about scope s (Receive c now) = Some (belongs scope s c)
 about scope s _ = None
 
+-- a truth value that may be absent is true or absent
 abbrev pub true_or_none : Option Bool → Bool
 true_or_none None = true
 true_or_none (Some b) = b
 
+-- a truth value that may be absent is there, and true
 abbrev pub is_true : Option Bool → Bool
 is_true None = false
 is_true (Some b) = b

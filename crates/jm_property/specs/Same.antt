@@ -27,12 +27,14 @@ values_of table = map (λ entry. entry.1) table
 abbrev pub table_eq : Table → Table → Bool
 table_eq a b = pointwise bytes_eq (names_of a) (names_of b) && pointwise property_eq (values_of a) (values_of b)
 
+-- the test of two truth values answers true exactly where they are equal
 bool_same : (a b : Bool) → Decides (beq a b) (a ≡ b)
 bool_same true true = (λ _. refl, λ _. refl)
 bool_same true false = (λ e. cc, λ e. cc)
 bool_same false true = (λ e. cc, λ e. cc)
 bool_same false false = (λ _. refl, λ _. refl)
 
+-- the test of two values answers true exactly where they are equal
 pub property_same : (a b : Property) → Decides (property_eq a b) (a ≡ b)
 property_same (Truth a) (Truth b) = Decides-like _ (λ e. ap Truth e) (λ e. cc) (bool_same a b)
 property_same (Byte a) (Byte b) = Decides-like _ (λ e. ap Byte e) (λ e. cc) (Decides-int_eq a b)
@@ -71,6 +73,7 @@ property_same (Text a) (Short b) = (λ e. cc, λ e. cc)
 property_same (Text a) (Int b) = (λ e. cc, λ e. cc)
 property_same (Text a) (Long b) = (λ e. cc, λ e. cc)
 
+-- two tables are equal where their names and their values are
 tables_same : (a b : Table) → names_of a ≡ names_of b → values_of a ≡ values_of b → a ≡ b
 tables_same [] [] names values = refl
 tables_same [] (y ∷ ys) names values = cc
@@ -83,12 +86,14 @@ tables_same (x ∷ xs) (y ∷ ys) names values =
     let rest : xs ≡ ys = tables_same xs ys later_names later_values in
     λ i. (name i, value i) ∷ rest i
 
+-- the test of two tables answers true exactly where they are equal
 pub table_same : (a b : Table) → Decides (table_eq a b) (a ≡ b)
 table_same a b =
     Decides-like _ (λ e. tables_same a b e.0 e.1) (λ e. (ap names_of e, ap values_of e))
     (Decides-and _ _ (pointwise_decides bytes_decides (names_of a) (names_of b))
     (pointwise_decides property_same (values_of a) (values_of b)))
 
+-- the test of two tables is symmetric and transitive
 pub table_laws : IsPartialEquivalence table_eq
 table_laws = record {
   symm = λ a b. same_from_decides _ _ (table_same a b) (Decides-like _ (λ e. sym e) (λ e. sym e) (table_same b a));

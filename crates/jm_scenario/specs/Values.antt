@@ -43,12 +43,12 @@ mode value = option_and_then mode_named (as_str value)
 abbrev pub name : Data → Option (List ℕ)
 name value = option_and_then (λ text. where_true (is_name text) (Some text)) (as_str value)
 
--- a moment: a whole number from 0 to 2^63-1
+-- a whole number as a moment, and none where it is negative
 abbrev pub moment_of : ℤ → Option ℕ
 moment_of (pos n) = Some n
 moment_of (negsuc n) = None
 
--- a moment
+-- a moment: a whole number from 0 to 2^63-1
 abbrev pub moment : Data → Option ℕ
 moment value = option_and_then moment_of (option_and_then as_i64 (as_number value))
 

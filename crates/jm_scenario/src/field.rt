@@ -11,23 +11,41 @@ use std::fmt;
 /// A field of a scenario, or of one of its calls.
 #[derive(Clone, Copy, Debug, PartialEq, Eq)]
 pub enum Field {
+    /// The calls of the scenario, in order.
     Calls,
+    /// Which call it is.
     Operation,
+    /// The number of the connection that is opened, started or stopped.
     Connection,
+    /// The session of the call: the number of its connection, and its own.
     Session,
+    /// The acknowledgement mode of a new session.
     Mode,
+    /// The number of the consumer within its session.
     Consumer,
+    /// The name of a queue. No call has it; a fault names it where a call has no topic.
     Queue,
+    /// The name of the topic that a consumer listens to, or that a message is sent to.
     Topic,
+    /// The text of the selector of a new consumer.
     Selector,
+    /// The moment of a send or a receive.
     Now,
+    /// JMSPriority, from 0 to 9.
     Priority,
+    /// Whether the delivery mode is PERSISTENT.
     Persistent,
+    /// The time to live in milliseconds, where 0 means that the message does not expire.
     TimeToLive,
+    /// JMSCorrelationID.
     Correlation,
+    /// JMSType.
     Type,
+    /// The properties, each with its name, its type and its value.
     Properties,
+    /// The text of a text body.
     Text,
+    /// The bytes of a bytes body, in hexadecimal digits.
     Bytes,
 }
 

@@ -1,37 +1,13 @@
 ghost use Rattle.std.specs.Prelude.{◌≡◌, string_bytes, IfOk};
 ghost use Rattle.serde_json.specs.View.{view, items_view};
 ghost use Rattle.jm_scenario.specs.Key as spec;
-ghost use Rattle.jm_scenario.specs.Values.{name as name_of, number as number_of, session_of_numbers};
+ghost use Rattle.jm_scenario.specs.Values.{name as name_of};
 
+use crate::value::{consumer_of, session_of};
 use jm_base::Refusal;
-use jm_dest::{ClientId, ConnectionId, ConsumerId, Key, SessionId, SubscriptionName};
+use jm_dest::{ClientId, Key, SubscriptionName};
 use serde_json::{Category, Value};
 use std::alloc::{AllocError, Global};
-
-/// A number of a connection, session or consumer.
-fn number(value: &Value) -> Option<u32>
-    ensures { result ≡ number_of (view value.now) }
-{
-    match value.as_u64() {
-        Some(number) if 1 <= number && number <= u32::MAX as u64 => Some(number as u32),
-        _ => None,
-    }
-}
-
-/// The session of those two numbers.
-fn session(connection: &Value, number_value: &Value) -> Option<SessionId>
-    ensures { result ≡ session_of_numbers (number_of (view connection.now)) (number_of (view number_value.now)) }
-{
-    let connection = ConnectionId::new(number(connection)?).ok()?;
-    SessionId::new(connection, number(number_value)?).ok()
-}
-
-/// The consumer of that number.
-fn consumer(value: &Value) -> Option<ConsumerId>
-    ensures { result ≡ number_of (view value.now) }
-{
-    ConsumerId::new(number(value)?).ok()
-}
 
 /// The key of the consumer of those three numbers.
 fn own(numbers: &[Value]) -> Option<Key>
@@ -40,8 +16,9 @@ fn own(numbers: &[Value]) -> Option<Key>
     if numbers.len() != 3 {
         return None;
     }
-    let session = session(&numbers[0], &numbers[1])?;
-    Some(Key::Own(session, consumer(&numbers[2])?))
+    let session = session_of(&numbers[0], &numbers[1]).ok()?;
+    let consumer = consumer_of(&numbers[2]).ok()?;
+    Some(Key::Own(session, consumer))
 }
 
 /// The client identifier of that value. `AllocError` where a request for memory was refused.

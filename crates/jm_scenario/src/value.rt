@@ -74,7 +74,7 @@ pub(crate) fn connection(object: &Value) -> Result<ConnectionId, Misfit>
 }
 
 /// The session of those two numbers.
-fn session_of(connection: &Value, number_value: &Value) -> Result<SessionId, Misfit>
+pub(crate) fn session_of(connection: &Value, number_value: &Value) -> Result<SessionId, Misfit>
     ensures { ReadsExactly result (spec.session_of_numbers (spec.number (view connection.now)) (spec.number (view number_value.now))) }
 {
     let connection = connection_of(connection, Field::Session)?;
@@ -106,16 +106,22 @@ pub(crate) fn session(object: &Value) -> Result<SessionId, Misfit>
     session_in(required(object, Field::Session)?)
 }
 
-/// The consumer of the field `k`.
-pub(crate) fn consumer(object: &Value) -> Result<ConsumerId, Misfit>
-    ensures { ReadsExactly result (spec.required spec.number (codes "k") (view object.now)) }
+/// The consumer of that number.
+pub(crate) fn consumer_of(value: &Value) -> Result<ConsumerId, Misfit>
+    ensures { ReadsExactly result (spec.number (view value.now)) }
 {
-    let value = required(object, Field::Consumer)?;
     let number = number(value, Field::Consumer)?;
     match ConsumerId::new(number) {
         Ok(id) => Ok(id),
         Err(_) => Err(Misfit::Shape(Field::Consumer)),
     }
+}
+
+/// The consumer of the field `k`.
+pub(crate) fn consumer(object: &Value) -> Result<ConsumerId, Misfit>
+    ensures { ReadsExactly result (spec.required spec.number (codes "k") (view object.now)) }
+{
+    consumer_of(required(object, Field::Consumer)?)
 }
 
 /// The acknowledgement mode of the field `mode`.

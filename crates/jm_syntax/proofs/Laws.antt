@@ -25,7 +25,7 @@ answer_spelled toks end t h = by_outcome (either 64 (below 64) (start_of toks en
     place : ℕ
     place = start (start_of toks end)
 
-    by_check : (x : Tree) (w late : Option ℕ) (i : Input) → tree_of (checked x (or_else w late) (Ok (x, i))) ≡ Ok t → (w ≡ None) × (late ≡ None) × (x ≡ t)
+    by_check : (x : Tree) (w late : Option ℕ) (i : Input) → tree_of (checked (or_else w late) (Ok (x, i))) ≡ Ok t → (w ≡ None) × (late ≡ None) × (x ≡ t)
     by_check x None None i h = (refl, refl, cc)
     by_check x None (Some a) i h = absurd (cc)
     by_check x (Some a) late i h = absurd (cc)

@@ -9,24 +9,27 @@ use Rattle.jm_lexer.specs.Faults.{fault_at}
 use Rattle.jm_syntax.specs.Input.{Outcome, Parser, ◌>>=◌, ◌>>◌, here, note, refuse, is_end, start_of, unless}
 use Rattle.jm_syntax.specs.Grammar.{either, below}
 
-abbrev pub checked : Tree → Option ℕ → Outcome Tree → Outcome Tree
-checked t None done = done
-checked t (Some at) done = Err (fault_at at causes.Kind)
+-- the outcome, or Kind at the place of a wrong operand where there is one
+abbrev pub checked : Option ℕ → Outcome Tree → Outcome Tree
+checked None done = done
+checked (Some at) done = Err (fault_at at causes.Kind)
 
 -- the tree, if no operand was of a wrong kind
 unfoldable pub settled : Tree → Parser Tree
-settled t = λ i. checked t i.wrong (Ok (t, i))
+settled t = λ i. checked i.wrong (Ok (t, i))
 
 -- nothing is left, and the whole is a condition
 unfoldable pub finished : Tree → ℕ → Parser Tree
 finished t at = λ i. if is_end i then (note (unless (fits_truth t) at) >> settled t) i else refuse i
 
+-- a whole selector: `or` with 64 levels, and then the end
 unfoldable pub whole : Parser Tree
 whole = do
   at ← here
   t ← either 64 (below 64)
   finished t at
 
+-- the tree of an outcome, or its fault
 abbrev pub tree_of : Outcome Tree → Result Tree SyntaxFault
 tree_of (Ok p) = Ok p.0
 tree_of (Err e) = Err e

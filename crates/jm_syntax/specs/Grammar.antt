@@ -82,6 +82,7 @@ chain operators item fits make part = do
   first ← part
   (λ i. chain_from operators item fits make part (left i) first [] (unless (fits first) at) i)
 
+-- the test of an identifier; of another operand the place is kept
 abbrev pub named_by : (List ℕ → Tree) → Tree → ℕ → Tree-F Tree → Parser Tree
 named_by make operand at (Tree-F.Name name) = pure (make name)
 named_by make operand at _ = note (Some at) >> pure operand
@@ -138,6 +139,7 @@ only (c ∷ d ∷ more) = None
 unfoldable pub single : List ℕ → Option ℕ
 single w = only (chars w)
 
+-- the test after ESCAPE text: the left operand is checked, then that text
 abbrev pub escaped_by : Bool → Tree → ℕ → List ℕ → List ℕ → ℕ → Parser Tree
 escaped_by negated operand at pattern escape place = do
   tree ← named (like_of negated pattern (single escape)) operand at
@@ -162,6 +164,7 @@ likeness negated operand at = do
 
 -- with this many levels left, and the rules one level down
 module _ (levels : ℕ) (lower : Line → Parser Tree) where
+  -- a rule that opens a level: TooDeep where none is left
   abbrev pub deeper : Parser Tree → Parser Tree
   deeper p = if levels == 0 then stop causes.TooDeep else p
 
@@ -173,12 +176,14 @@ module _ (levels : ℕ) (lower : Line → Parser Tree) where
     expect m.Close
     pure inner
 
+  -- a primary that begins with a mark
   abbrev pub marked : Mark → Parser Tree
   marked m.True = pass >> pure (e.Truth true)
   marked m.False = pass >> pure (e.Truth false)
   marked m.Open = deeper opened
   marked _ = refuse
 
+  -- a primary, by the kind of the next token; 2^63 and above is Number
   abbrev pub primary_by : Option Kind → Parser Tree
   primary_by None = refuse
   primary_by (Some (kinds.Mark mark)) = marked mark
@@ -198,6 +203,7 @@ module _ (levels : ℕ) (lower : Line → Parser Tree) where
     note (unless (fits_number operand) at)
     pure (make operand)
 
+  -- what follows a minus, by the kind of the next token: 2^63 gives -2^63
   abbrev pub minus_by : Option Kind → Parser Tree
   minus_by None = signed e.Neg
   minus_by (Some (kinds.Mark mark)) = signed e.Neg
@@ -205,9 +211,11 @@ module _ (levels : ℕ) (lower : Line → Parser Tree) where
   minus_by (Some (kinds.Number n)) = if n == limit then pass >> pure (e.Num least) else signed e.Neg
   minus_by (Some (kinds.Text w)) = signed e.Neg
 
+  -- a minus and what follows it
   unfoldable pub minus : Parser Tree
   minus = pass >> (peek >>= minus_by)
 
+  -- a plus and its operand
   unfoldable pub plus : Parser Tree
   plus = pass >> signed e.Plus
 
@@ -247,6 +255,7 @@ module _ (levels : ℕ) (lower : Line → Parser Tree) where
     note (unless (fits_comparison op right) right_at)
     pure (e.Compare op operand right)
 
+  -- what follows NOT, after a sum, by the kind of the next token
   abbrev pub negated_by : Tree → ℕ → Option Kind → Parser Tree
   negated_by operand at (Some (kinds.Mark m.Between)) = between true operand at
   negated_by operand at (Some (kinds.Mark m.In)) = membership true operand at
@@ -260,6 +269,7 @@ module _ (levels : ℕ) (lower : Line → Parser Tree) where
     found ← peek
     negated_by operand at found
 
+  -- the tail of a sum, by the mark that stands next; where none begins the sum stands alone
   abbrev pub tail : Tree → ℕ → Mark → Parser Tree
   tail operand at m.Equal = compared comparisons.Equal operand at
   tail operand at m.NotEqual = compared comparisons.NotEqual operand at
@@ -274,6 +284,7 @@ module _ (levels : ℕ) (lower : Line → Parser Tree) where
   tail operand at m.Not = negated_tail operand at
   tail operand at _ = pure operand
 
+  -- the tail of a sum, by the kind of the next token
   abbrev pub tail_by : Tree → ℕ → Option Kind → Parser Tree
   tail_by operand at None = pure operand
   tail_by operand at (Some (kinds.Mark mark)) = tail operand at mark
@@ -289,6 +300,7 @@ module _ (levels : ℕ) (lower : Line → Parser Tree) where
     found ← peek
     tail_by operand at found
 
+  -- NOT and its operand
   unfoldable pub denied : Parser Tree
   denied = do
     pass
@@ -309,6 +321,7 @@ module _ (levels : ℕ) (lower : Line → Parser Tree) where
   unfoldable pub either : Parser Tree
   either = chain or_of (λ o x. x) fits_truth (λ first rest. e.AnyOf (first ∷ rest)) both
 
+  -- the rule of each line that opens a level
   abbrev pub line_by : Line → Parser Tree
   line_by Ors = either
   line_by Nots = condition

@@ -9,6 +9,7 @@ use Rattle.jm_syntax.specs.Spells.{Spells}
 use Rattle.jm_syntax.specs.Answer.{answer}
 use Rattle.jm_lexer.specs.Lex.{tokens}
 
+-- a tree that was found, or its fault
 abbrev pub some_tree : Result Tree SyntaxFault → Result (Option Tree) SyntaxFault
 some_tree (Ok tree) = Ok (Some tree)
 some_tree (Err e) = Err e
@@ -23,6 +24,7 @@ read end (Ok (t ∷ ts)) = some_tree (answer (t ∷ ts) end)
 unfoldable pub parsed : List ℕ → Result (Option Tree) SyntaxFault
 parsed text = if nat_lt 8192 (length text) then Err (fault_at 8192 causes.TooLong) else read (length text) (tokens text)
 
+-- the fault of an answer, if it is one
 abbrev pub fault_of : Result (Option Tree) SyntaxFault → Option SyntaxFault
 fault_of (Ok found) = None
 fault_of (Err e) = Some e

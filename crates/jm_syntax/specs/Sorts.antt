@@ -7,7 +7,7 @@ use Rattle.jm_syntax.specs.declared.tree.Comparison.TheVariants as c
 use Rattle.jm_syntax.specs.declared.tree.Tree.{Tree, out-Tree}
 use Rattle.jm_syntax.specs.declared.tree.Tree.TheOpen.{Tree-F}
 
--- arithmetic stands for a number, an identifier for anything, all that is no operand for a truth value
+-- numbers and arithmetic stand for a number, a text for a text, an identifier for anything, all else for a truth value
 abbrev pub sort_by : Tree-F Tree → Sort
 sort_by (Tree-F.Num number) = Number
 sort_by (Tree-F.Plus operand) = Number

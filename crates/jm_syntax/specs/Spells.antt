@@ -14,6 +14,7 @@ use Rattle.jm_syntax.specs.Input.{operator_in}
 use Rattle.jm_lexer.specs.Words.{limit}
 use Rattle.jm_syntax.specs.Grammar.{Line, Ors, Nots, Signs, least, additive_of, multiplicative_of, comparison_of, and_of, or_of, single}
 
+-- which tokens spell which tree
 abbrev pub Spelling : Type 1
 Spelling = Tree → List Token → Type 0
 
@@ -114,6 +115,7 @@ Both levels Lower = Chain (Unit {0}) Tree and_of (λ o x. x) fits_truth (λ firs
 abbrev pub Either : ℕ → (Line → Spelling) → Spelling
 Either levels Lower = Chain (Unit {0}) Tree or_of (λ o x. x) fits_truth (λ first rest. e.AnyOf (first ∷ rest)) (Both levels Lower)
 
+-- what each line that opens a level spells, with this many levels left
 abbrev pub LineOf : ℕ → (Line → Spelling) → Line → Spelling
 LineOf levels Lower Ors = Either levels Lower
 LineOf levels Lower Nots = Condition levels Lower

@@ -77,8 +77,9 @@ fn parsed(alloc: Global, text: &str) -> Result<Option<Tree>, SyntaxFault>
 /// A refused text gives the first fault: TooLong at 8192 (ours, as is the limit of 64 levels), then
 /// the first lexical fault of the whole text (Token, Number, Floating), then the first token at which
 /// the grammar cannot go on (Expected; TooDeep; Number where 2^63 stands without its minus), and where
-/// the text is in the grammar the first operand of a wrong kind (Kind), inner operands before outer
-/// ones. Memory where a request for memory was refused.
+/// the text is in the grammar the first operand of a wrong kind, or text after ESCAPE that is not one
+/// character (Kind), inner operands before outer ones, and the left operand of LIKE before its ESCAPE
+/// text. Memory where a request for memory was refused.
 pub fn parse(alloc: Global, text: &str) -> Result<Option<Tree>, SyntaxFault>
     // Which tree, or which fault.
     ensures exact { Gives result (whole.parsed text.now) }

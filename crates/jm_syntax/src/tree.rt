@@ -123,11 +123,7 @@ impl Tree {
                 first: copy_boxed(alloc, first)?,
                 rest: copy_factors(alloc, rest.as_slice())?,
             },
-            Tree::Compare { op, left, right } => Tree::Compare {
-                op: *op,
-                left: copy_boxed(alloc, left)?,
-                right: copy_boxed(alloc, right)?,
-            },
+            Tree::Compare { op, left, right } => copy_comparison(alloc, *op, left, right)?,
             Tree::Not(operand) => Tree::Not(copy_boxed(alloc, operand)?),
             Tree::All(members) => Tree::All(copy_members(alloc, members.as_slice())?),
             Tree::AnyOf(members) => Tree::AnyOf(copy_members(alloc, members.as_slice())?),
@@ -136,36 +132,19 @@ impl Tree {
                 operand,
                 low,
                 high,
-            } => Tree::Between {
-                negated: *negated,
-                operand: copy_boxed(alloc, operand)?,
-                low: copy_boxed(alloc, low)?,
-                high: copy_boxed(alloc, high)?,
-            },
+            } => copy_between(alloc, *negated, operand, low, high)?,
             Tree::In {
                 negated,
                 name,
                 list,
-            } => Tree::In {
-                negated: *negated,
-                name: name.copy()?,
-                list: copy_texts(alloc, list.as_slice())?,
-            },
+            } => copy_in(alloc, *negated, name, list.as_slice())?,
             Tree::Like {
                 negated,
                 name,
                 pattern,
                 escape,
-            } => Tree::Like {
-                negated: *negated,
-                name: name.copy()?,
-                pattern: pattern.copy()?,
-                escape: *escape,
-            },
-            Tree::IsNull { negated, name } => Tree::IsNull {
-                negated: *negated,
-                name: name.copy()?,
-            },
+            } => copy_like(*negated, name, pattern, *escape)?,
+            Tree::IsNull { negated, name } => copy_is_null(*negated, name)?,
         })
     }
 }
@@ -175,6 +154,75 @@ fn copy_boxed(alloc: Global, tree: &Boxed<Tree>) -> Result<Boxed<Tree>, AllocErr
     ensures { IfOk result (λ copy. copy ≡ tree.now) }
 {
     Boxed::new(alloc, tree.get().copy(alloc)?)
+}
+
+#[cycle(copy)]
+fn copy_comparison(
+    alloc: Global,
+    op: Comparison,
+    left: &Boxed<Tree>,
+    right: &Boxed<Tree>,
+) -> Result<Tree, AllocError>
+    ensures { IfOk result (λ copy. copy ≡ Tree.Compare op left.now right.now) }
+{
+    Ok(Tree::Compare {
+        op,
+        left: copy_boxed(alloc, left)?,
+        right: copy_boxed(alloc, right)?,
+    })
+}
+
+#[cycle(copy)]
+fn copy_between(
+    alloc: Global,
+    negated: bool,
+    operand: &Boxed<Tree>,
+    low: &Boxed<Tree>,
+    high: &Boxed<Tree>,
+) -> Result<Tree, AllocError>
+    ensures { IfOk result (λ copy. copy ≡ Tree.Between negated operand.now low.now high.now) }
+{
+    Ok(Tree::Between {
+        negated,
+        operand: copy_boxed(alloc, operand)?,
+        low: copy_boxed(alloc, low)?,
+        high: copy_boxed(alloc, high)?,
+    })
+}
+
+fn copy_in(alloc: Global, negated: bool, name: &Str, list: &[Str]) -> Result<Tree, AllocError>
+    ensures { IfOk result (λ copy. copy ≡ Tree.In negated name.now list.now) }
+{
+    Ok(Tree::In {
+        negated,
+        name: name.copy()?,
+        list: copy_texts(alloc, list)?,
+    })
+}
+
+fn copy_like(
+    negated: bool,
+    name: &Str,
+    pattern: &Str,
+    escape: Option<char>,
+) -> Result<Tree, AllocError>
+    ensures { IfOk result (λ copy. copy ≡ Tree.Like negated name.now pattern.now escape) }
+{
+    Ok(Tree::Like {
+        negated,
+        name: name.copy()?,
+        pattern: pattern.copy()?,
+        escape,
+    })
+}
+
+fn copy_is_null(negated: bool, name: &Str) -> Result<Tree, AllocError>
+    ensures { IfOk result (λ copy. copy ≡ Tree.IsNull negated name.now) }
+{
+    Ok(Tree::IsNull {
+        negated,
+        name: name.copy()?,
+    })
 }
 
 #[cycle(copy)]

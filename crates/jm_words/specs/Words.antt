@@ -32,10 +32,11 @@ lone_command = with_rule (with_rule (new_app (codes "lone")) (argument (codes "F
 abbrev pub versioned : Shape → Shape
 versioned shape = record shape { has_version = true }
 
--- the program's command line: those three commands, and a version
+-- the command line with the first two of these commands, and a version
 abbrev pub with_run_and_select : App
 with_run_and_select = with_subcommand (with_subcommand (on_top versioned (new_app (codes "jmsrun"))) run_command.top) select_command.top
 
+-- the program's command line: the same, with the third command too
 abbrev pub program : App
 program = with_subcommand with_run_and_select lone_command.top
 

@@ -77,8 +77,8 @@ fn lone_command<'a>(alloc: Global) -> Result<Command<'a>, AllocError>
         .arg(argument(alloc, "KEY", "The subscription, as {\"own\":[1,1,1]}"))
 }
 
-/// The command line with the commands that go by a scenario's calls. `AllocError` where a request for
-/// memory was refused.
+/// The command line with the commands `run` and `select`, and no others. `AllocError` where a request
+/// for memory was refused.
 fn with_run_and_select<'a>(alloc: Global) -> Result<Command<'a>, AllocError>
     ensures { IfOk result (spec.IsCommand spec.with_run_and_select) }
 {

@@ -22,22 +22,29 @@ use Rattle.jm_base.specs.declared.boxed.Boxed.TheView.{view, invariant}
 use Rattle.jm_base.specs.contracts.boxed.Boxed as C
 use Rattle.jm_base.specs.contracts.boxed.Boxed.TheInside as I
 
+-- what a `Boxed` holds: one inner value
 abbrev pub the_former : Former {0} → Former {0}
 the_former g = g
 
+-- the measure of a `Boxed`: that of its inner value
 abbrev pub the_weighed : {g : Former {0}} → Weighed g → Weighed (the_former g)
 the_weighed w = w
 
+-- what the field holds: the pointer and the allocator of a box, and one inner value
 abbrev fields : Former {0}
 fields = via (pair (const (Ptr × Global)) this) Inside (λ X a. ((a.inner.ptr, a.inner.alloc), a.inner.value))
     (λ X v. record { inner = record { ptr = v.0.0; alloc = v.0.1; value = v.1 } }) (λ X a. refl) (λ X v. refl)
 
+-- a box with another value in it, and the same pointer and allocator
 abbrev with_value : {X Y : Type 0} → Box X Global → Y → Box Y Global
 with_value b y = record { ptr = b.ptr; alloc = b.alloc; value = y }
 
+-- the type of boxes of a type
 abbrev box_of : RattleType → RattleType
 box_of R = box.the_row R heap.the_row ghosts
 
+-- where two types are laid out, owned and lent alike, so are boxes of them, and so are `Boxed` of them; and where
+-- the logic stores their values by the same codes, so it does `Boxed` of them
 module _ (R S : RattleType) (h : R.Denot → S.Denot) where
   box_places : Alike R S h → Alike (box_of R) (box_of S) (λ b. with_value b (h b.value))
   unfolding part_of

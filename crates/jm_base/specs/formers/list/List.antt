@@ -19,24 +19,32 @@ use Rattle.jm_base.specs.declared.list.List.TheView.{view, invariant}
 use Rattle.jm_base.specs.contracts.list.List as C
 use Rattle.jm_base.specs.contracts.list.List.TheInside as I
 
+-- what a list holds: a list of inner values
 abbrev pub the_former : Former {0} → Former {0}
 the_former g = list g
 
+-- the measure of a list: the largest among its inner values
 abbrev pub the_weighed : {g : Former {0}} → Weighed g → Weighed (the_former g)
 the_weighed w = w_list w
 
+-- the empty list, which holds no inner value
 pub the_empty : List ⊥
 the_empty = []
 
+-- the inner values in order, which are the list itself
 abbrev pub the_items : (X : Type 0) → List X → List X
 the_items X d = d
 
+-- the inner values that the former has are the same ones, in the same order
 pub the_items_listed : (X : Type 0) (d : List X) → listed _ (children (the_former this) X d) ≡ the_items X d
 the_items_listed X d = list-listed X d
 
+-- what the field holds: the inner values of a vector
 abbrev fields : Former {0}
 fields = via (vec.the_former this Global) Inside (λ X a. a.items) (λ X v. record { items = v }) (λ X a. refl) (λ X v. refl)
 
+-- where two types are laid out, owned and lent alike, so are lists of them; and where the logic stores their
+-- values by the same codes, so it does lists of them
 module _ (R S : RattleType) (h : R.Denot → S.Denot) where
   pub the_places : Alike R S h → Alike (C.the_row R) (C.the_row S) ((the_former this).map R.Denot S.Denot h)
   the_places a = view_places fields (list this) view (λ X Y k u. refl) (λ X u. refl) R.Denot S.Denot h (C.the_row R).coded (C.the_row S).coded

@@ -1,0 +1,5 @@
+pub mod Source
+pub mod Play
+pub mod Select
+pub mod Lone
+pub mod Perform

@@ -1,0 +1,95 @@
+-- What `select` prints: the value of a selector over each send (ours).
+use Rattle.std.specs.Prelude.{◌≡◌, ◌++◌, ◌+◌, ℕ, suc, List, [], ◌∷◌, Option, Some, None, Result, Ok, Err, if◌then◌else◌, codes, decimal, ◌⊎◌, MatchResult}
+use Rattle.jm_base.specs.declared.refusal.Refusal.{Refusal}
+use Rattle.jm_dest.specs.Names.{session_eq}
+use Rattle.jm_dest.specs.declared.destination.Destination.{Destination}
+use Rattle.jm_dest.specs.declared.session.SessionId.{SessionId}
+use Rattle.jm_eval.specs.Evaluation.{condition}
+use Rattle.jm_eval.specs.Views.{view}
+use Rattle.jm_eval.specs.declared.truth.Truth.{Truth}
+use Rattle.jm_eval.specs.declared.truth.Truth.TheVariants as truths
+use Rattle.jm_header.specs.Headers.{stamped}
+use Rattle.jm_header.specs.declared.content.Content.{Content}
+use Rattle.jm_header.specs.declared.content.Settings.{Settings}
+use Rattle.jm_machine.specs.declared.call.ClientCall.{ClientCall}
+use Rattle.jm_machine.specs.declared.call.ClientCall.TheVariants.{Ask, Send}
+use Rattle.jm_lexer.specs.declared.fault.SyntaxFault.{SyntaxFault}
+use Rattle.jm_syntax.specs.Parse.{parsed}
+use Rattle.jm_syntax.specs.declared.tree.Tree.{Tree}
+use Rattle.jm_scenario.specs.Calls.{calls_of_text}
+use Rattle.jm_base.specs.Shown.{refusal_name}
+use Rattle.jm_runner.specs.Play.{RefusesScenario}
+use Rattle.jm_runner.specs.declared.fault.Fault.{Fault}
+use Rattle.jm_runner.specs.declared.fault.Fault.TheVariants as faults
+use Rattle.jm_runner.specs.declared.source.Source.{Source}
+
+-- the number of each session's newest stamped send, 0 where it has none
+abbrev pub Newest : Type 0
+Newest = SessionId → ℕ
+
+-- the message of the session's next send in opening 1, or why it is not stamped
+abbrev pub stamp_next : Newest → SessionId → Settings → Destination → ℕ → Result Content Refusal
+stamp_next newest session draft destination now =
+    stamped draft destination (record { opening = 1; session = session }) (newest session + 1) now
+
+-- a message that is stamped uses its number; another number stays free
+abbrev pub counted : SessionId → Result Content Refusal → Newest → Newest
+counted session (Ok message) newest other = if session_eq session other then message.number else newest other
+counted session (Err refusal) newest other = newest other
+
+-- the value of a selector over a message, as a condition; a selector without tokens is TRUE
+abbrev pub truth : Option Tree → Content → Truth
+truth None message = truths.True
+truth (Some tree) message = condition (view message) tree
+
+-- a truth value as it is printed
+abbrev pub truth_name : Truth → List ℕ
+truth_name truths.True = codes "TRUE"
+truth_name truths.False = codes "FALSE"
+truth_name truths.Unknown = codes "UNKNOWN"
+
+-- what is printed of a send: the value of the selector, or why the message is not stamped
+abbrev pub verdict : Option Tree → Result Content Refusal → List ℕ
+verdict selector (Ok message) = truth_name (truth selector message)
+verdict selector (Err refusal) = codes "refused " ++ refusal_name refusal
+
+-- the line of a send: the number of its call, a space, what is printed of it and a line feed
+abbrev pub send_line : Option Tree → ℕ → Result Content Refusal → List ℕ
+send_line selector number stamp = decimal number ++ codes " " ++ verdict selector stamp ++ codes "\n"
+
+-- the line of a call: of a send its line, of another call nothing
+abbrev pub call_line : Option Tree → Newest → ℕ → ClientCall → List ℕ
+call_line selector newest number (Ask who request) = []
+call_line selector newest number (Send session draft destination now) =
+    send_line selector number (stamp_next newest session draft destination now)
+
+-- the newest numbers after a call
+abbrev pub newest_after : Newest → ClientCall → Newest
+newest_after newest (Ask who request) = newest
+newest_after newest (Send session draft destination now) =
+    counted session (stamp_next newest session draft destination now) newest
+
+-- the lines of calls in order, the first of that number
+abbrev pub lines_from : Option Tree → Newest → ℕ → List ClientCall → List ℕ
+lines_from selector newest number [] = []
+lines_from selector newest number (call ∷ calls) =
+    call_line selector newest number call ++ lines_from selector (newest_after newest call) (suc number) calls
+
+-- the lines of all sends, numbered by their calls from 1
+abbrev pub lines : Option Tree → List ClientCall → List ℕ
+lines selector calls = lines_from selector (λ session. 0) 1 calls
+
+-- the text is read as a selector, the bytes as calls, and those are the lines of the sends
+abbrev pub Picks : List ℕ → List ℕ → List ℕ → Type 0
+Picks text bytes written =
+    (selector : Option Tree) × (calls : List ClientCall)
+    × (parsed text ≡ Ok selector) × (calls_of_text bytes ≡ Some calls) × (written ≡ lines selector calls)
+
+-- why a selector is refused: the fault that the text has, or memory is refused
+abbrev pub RefusesSelector : SyntaxFault → Fault → Type 0
+RefusesSelector refused fault = (fault ≡ faults.Memory) ⊎ (fault ≡ faults.Selector refused.cause refused.at)
+
+-- why nothing is picked: the text's fault, and where it has none what the source gives none for
+abbrev pub RefusesPick : {R : Type 0} → (R → Option (List ℕ)) → List ℕ → Source R → Source R → Fault → Type 0
+RefusesPick remaining text old new fault =
+    MatchResult (parsed text) (λ _. RefusesScenario remaining old new fault) (λ refused. (new ≡ old) × RefusesSelector refused fault)

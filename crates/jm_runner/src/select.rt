@@ -1,0 +1,210 @@
+ghost use Rattle.std.specs.Prelude.{◌≡◌, ◌≢◌, ◌+◌, None, Ok, Err, string_bytes, IfOk, IfErr, IfSome, MatchResult};
+ghost use Rattle.jm_core.specs.Runs.{sent_of};
+ghost use Rattle.jm_syntax.specs.Parse.{parsed};
+ghost use Rattle.jm_lexer.specs.declared.fault.SyntaxFault.{SyntaxFault};
+ghost use Rattle.jm_runner.specs.Play.{Writes, status_of_fault};
+ghost use Rattle.jm_runner.specs.Select as spec;
+ghost use Rattle.jm_runner.specs.Select.{Picks, RefusesPick, RefusesSelector};
+ghost use Rattle.jm_runner.specs.Source.{source_remaining};
+
+use crate::fault::Fault;
+use crate::scenario::{Ending, OPENING, calls_of, ended, written};
+use crate::source::Source;
+use jm_base::{Cause, Refusal};
+use jm_dest::{Destination, Moment, Number, SessionId};
+use jm_eval::{Truth, condition};
+use jm_header::{Draft, Message, Sender, stamp};
+use jm_machine::ClientCall;
+use jm_syntax::{Tree, parse};
+use std::alloc::{AllocError, Global};
+use std::collections::HashMap;
+use std::io::{Read, Write};
+
+/// The number of each session's newest stamped send.
+type Sends = HashMap<SessionId, u64>;
+
+/// The tree of the selector, or none where it has no tokens.
+fn tree_of(alloc: Global, selector: &str) -> Result<Option<Tree>, Fault>
+    ensures ok { IfOk result (λ tree. parsed selector.now ≡ Ok tree) }
+    ensures err { IfErr result (λ fault. MatchResult (parsed selector.now) (λ _. fault ≡ Fault.Memory) (λ refused. RefusesSelector refused fault)) }
+{
+    match parse(alloc, selector) {
+        Ok(tree) => Ok(tree),
+        Err(refused) => match refused.cause {
+            Cause::Memory => Err(Fault::Memory),
+            cause => Err(Fault::Selector {
+                cause,
+                at: refused.at,
+            }),
+        },
+    }
+}
+
+/// The number of the session's newest stamped send, 0 where it has none.
+fn newest(sends: &Sends, session: &SessionId) -> u64
+    ensures { result ≡ sent_of sends.now session.now }
+{
+    sends.get(session).copied().unwrap_or(0)
+}
+
+/// The message of the session's next send, or `OutOfRange`.
+fn stamp_next(
+    sends: &Sends,
+    session: &SessionId,
+    draft: Draft,
+    destination: Destination,
+    now: Moment,
+) -> Result<Message, Refusal>
+    ensures { result ≡ spec.stamp_next (sent_of sends.now) session.now draft destination now }
+{
+    let sender = Sender {
+        opening: Number::new(OPENING)?,
+        session: *session,
+    };
+    match newest(sends, session).checked_add(1) {
+        Some(number) => stamp(draft, destination, sender, number, now),
+        None => Err(Refusal::OutOfRange),
+    }
+}
+
+/// The stamped message, whose number is noted, or why it is not stamped. `AllocError` where a request
+/// for memory was refused.
+fn noted(
+    sends: &mut Sends,
+    session: &SessionId,
+    stamped: Result<Message, Refusal>,
+) -> Result<Result<Message, Refusal>, AllocError>
+    ensures { IfOk result (λ kept. (kept ≡ stamped) × (sent_of sends.new ≡ spec.counted session.now stamped (sent_of sends.old))) }
+{
+    match stamped {
+        Ok(message) => {
+            sends.insert(*session, message.number())?;
+            Ok(Ok(message))
+        }
+        Err(refusal) => Ok(Err(refusal)),
+    }
+}
+
+/// The value of the selector over the message; a selector without tokens is TRUE.
+fn truth(selector: &Option<Tree>, message: &Message) -> Truth
+    ensures { result ≡ spec.truth selector.now message.now }
+{
+    match selector {
+        Some(tree) => condition(tree, message),
+        None => Truth::True,
+    }
+}
+
+fn truth_name(truth: Truth) -> &'static str
+    ensures { result.now ≡ spec.truth_name truth }
+{
+    match truth {
+        Truth::True => "TRUE",
+        Truth::False => "FALSE",
+        Truth::Unknown => "UNKNOWN",
+    }
+}
+
+/// What is printed of a send. `AllocError` where a request for memory was refused.
+fn verdict(
+    alloc: Global,
+    selector: &Option<Tree>,
+    stamped: Result<Message, Refusal>,
+) -> Result<String, AllocError>
+    ensures { IfOk result (λ text. string_bytes text ≡ spec.verdict selector.now stamped) }
+{
+    match stamped {
+        Ok(message) => String::from_str(alloc, truth_name(truth(selector, &message))),
+        Err(refusal) => format!(in alloc; "refused {refusal}"),
+    }
+}
+
+/// The line of a send, the call of that number. `AllocError` where a request for memory was refused.
+fn send_line(
+    alloc: Global,
+    selector: &Option<Tree>,
+    number: usize,
+    stamped: Result<Message, Refusal>,
+) -> Result<String, AllocError>
+    ensures { IfOk result (λ line. string_bytes line ≡ spec.send_line selector.now number stamped) }
+{
+    let verdict = verdict(alloc, selector, stamped)?;
+    format!(in alloc; "{number} {verdict}\n")
+}
+
+/// The line of the call of that number, empty where it is no send. `AllocError` where a request for
+/// memory was refused.
+fn call_line(
+    alloc: Global,
+    selector: &Option<Tree>,
+    sends: &mut Sends,
+    number: usize,
+    call: ClientCall,
+) -> Result<String, AllocError>
+    ensures { IfOk result (λ line. (string_bytes line ≡ spec.call_line selector.now (sent_of sends.old) number call)
+        × (sent_of sends.new ≡ spec.newest_after (sent_of sends.old) call)) }
+{
+    match call {
+        ClientCall::Ask { .. } => Ok(String::new(alloc)),
+        ClientCall::Send {
+            session,
+            draft,
+            destination,
+            now,
+        } => {
+            let stamped = stamp_next(sends, &session, draft, destination, now);
+            let stamped = noted(sends, &session, stamped)?;
+            send_line(alloc, selector, number, stamped)
+        }
+    }
+}
+
+/// The lines of the sends, in order. `AllocError` where a request for memory was refused.
+fn call_lines(
+    alloc: Global,
+    selector: &Option<Tree>,
+    calls: Vec<ClientCall>,
+) -> Result<String, AllocError>
+    ensures { IfOk result (λ lines. string_bytes lines ≡ spec.lines selector.now calls.items) }
+{
+    let mut lines = String::new(alloc);
+    let mut sends = HashMap::new(alloc);
+    for (index, call) in calls.into_iter().enumerate() {
+        let line = call_line(alloc, selector, &mut sends, index + 1, call)?;
+        lines.push_str(line.as_str())?;
+    }
+    Ok(lines)
+}
+
+/// The lines of the sends of the scenario that the source gives.
+fn lines_of<R: Read>(alloc: Global, selector: &str, source: &mut Source<R>) -> Result<String, Fault>
+    ensures { MatchResult result
+        (λ lines. IfSome (source_remaining R.remaining source.old) (λ all. Picks selector.now all (string_bytes lines)))
+        (RefusesPick R.remaining selector.now source.old source.new) }
+{
+    let tree = tree_of(alloc, selector)?;
+    let calls = calls_of(alloc, source)?;
+    Ok(call_lines(alloc, &tree, calls)?)
+}
+
+/// Reads a selector and then a scenario, and writes the value of the selector over each send: the
+/// number of its call and TRUE, FALSE or UNKNOWN. The sends are stamped in order; one that is refused
+/// leaves its number free, and whether a session is open does not matter (ours). Of a selector that is
+/// refused the fault is told before anything is read.
+pub fn pick<R: Read, W: Write>(
+    alloc: Global,
+    selector: &str,
+    source: &mut Source<R>,
+    writer: &mut W,
+) -> Ending
+    ensures fault { IfSome result.fault (λ fault. (writer.new ≡ writer.old) × (result.status ≡ status_of_fault fault)) }
+    ensures refused { IfSome result.fault (RefusesPick R.remaining selector.now source.old source.new) }
+    // What is written where no fault comes, and the writes succeed.
+    ensures lines { result.fault ≡ None → result.status ≢ 1 → (result.status ≡ 0) × IfSome (source_remaining R.remaining source.old)
+        (λ all. Writes (Picks selector.now all) (W.contents writer.old) (W.contents writer.new)) }
+{
+    match lines_of(alloc, selector, source) {
+        Ok(lines) => written(writer, lines.as_str(), 0),
+        Err(fault) => ended(fault),
+    }
+}

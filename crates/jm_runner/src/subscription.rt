@@ -1,0 +1,187 @@
+ghost use Rattle.std.specs.Prelude.{◌≡◌, ◌≢◌, Some, None, true, string_bytes, IfOk, IfErr, IfSome, MatchResult};
+ghost use Rattle.jm_machine.specs.Isolation.{is_unshared};
+ghost use Rattle.jm_machine.specs.Machine.{new_core};
+ghost use Rattle.jm_scenario.specs.Key.{key_of_text};
+ghost use Rattle.jm_runner.specs.Lone as spec;
+ghost use Rattle.jm_runner.specs.Lone.{Ran, RefusesLone, WritesLone};
+ghost use Rattle.jm_runner.specs.Play.{RefusesScenario, status_of_fault};
+ghost use Rattle.jm_runner.specs.Source.{source_remaining};
+
+use crate::fault::{Fault, KeyFault};
+use crate::scenario::{Ending, OPENING, calls_of, ended, run, status_of, written};
+use crate::source::Source;
+use jm_core::Core;
+use jm_dest::{Key, Number};
+use jm_machine::{ClientCall, Reply};
+use jm_model::{LoneFault, entries, lone_replies};
+use jm_scenario::{read_key, write_reply};
+use std::alloc::{AllocError, Global};
+use std::io::{Read, Write};
+use std::slice;
+
+/// Equal calls. `AllocError` where a request for memory was refused.
+fn copy_calls(alloc: Global, calls: &[ClientCall]) -> Result<Vec<ClientCall>, AllocError>
+    ensures { IfOk result (λ copy. copy.items ≡ calls.now) }
+{
+    let mut copy = Vec::with_capacity(alloc, calls.len())?;
+    for call in calls {
+        copy.push(call.copy()?)?;
+    }
+    Ok(copy)
+}
+
+/// Whether the call leaves an entry in the record of a run in that opening. `AllocError` where a
+/// request for memory was refused.
+fn leaves_entry(
+    opening: Number,
+    alloc: Global,
+    call: &ClientCall,
+    reply: &Reply,
+) -> Result<bool, AllocError>
+    ensures { IfOk result (λ leaves. leaves ≡ spec.leaves_entry opening call.now reply.now) }
+{
+    let entries = entries(
+        alloc,
+        opening,
+        slice::from_ref(call),
+        slice::from_ref(reply),
+    )?;
+    Ok(!entries.is_empty())
+}
+
+/// The numbers, from 1, of the calls that leave an entry in the record of a run in that opening.
+/// `AllocError` where a request for memory was refused.
+fn numbers(
+    opening: Number,
+    alloc: Global,
+    calls: &[ClientCall],
+    replies: &[Reply],
+) -> Result<Vec<usize>, AllocError>
+    ensures { IfOk result (λ numbers. numbers.items ≡ spec.numbers_from opening 1 calls.now replies.now) }
+{
+    let mut numbers = Vec::new(alloc);
+    for (index, call) in calls.iter().enumerate() {
+        let Some(reply) = replies.get(index) else {
+            return Ok(numbers);
+        };
+        if leaves_entry(opening, alloc, call, reply)? {
+            numbers.push(index + 1)?;
+        }
+    }
+    Ok(numbers)
+}
+
+/// The line of a reply with the place of its entry, by the numbers of the entries' calls. `AllocError`
+/// where a request for memory was refused.
+fn line_at(alloc: Global, numbers: &[usize], placed: &(usize, Reply)) -> Result<String, AllocError>
+    ensures { IfOk result (λ text. string_bytes text ≡ spec.line_at numbers.now placed.now) }
+{
+    let number = numbers.get(placed.0).copied().unwrap_or(0);
+    write_reply(alloc, number, &placed.1)
+}
+
+/// The lines of replies, each with the place of its entry, by the numbers of the entries' calls.
+/// `AllocError` where a request for memory was refused.
+fn lines_at(
+    alloc: Global,
+    numbers: &[usize],
+    replies: &[(usize, Reply)],
+) -> Result<String, AllocError>
+    ensures { IfOk result (λ lines. string_bytes lines ≡ spec.lines_at numbers.now replies.now) }
+{
+    let mut lines = String::new(alloc);
+    for placed in replies {
+        let line = line_at(alloc, numbers, placed)?;
+        lines.push_str(line.as_str())?;
+    }
+    Ok(lines)
+}
+
+/// The calls of the scenario that the source gives, and the replies to them, made in turn on a new
+/// provider.
+fn ran<R: Read>(
+    alloc: Global,
+    source: &mut Source<R>,
+) -> Result<(Vec<ClientCall>, Vec<Reply>), Fault>
+    ensures { MatchResult result
+        (λ ran. IfSome (source_remaining R.remaining source.old) (λ all. Ran all ran.0.items ran.1.items))
+        (RefusesScenario R.remaining source.old source.new) }
+{
+    let calls = calls_of(alloc, source)?;
+    let replies = run(alloc, copy_calls(alloc, &calls)?)?;
+    Ok((calls, replies))
+}
+
+/// The key that the text spells.
+fn key_of(alloc: Global, text: &str) -> Result<Key, Fault>
+    ensures ok { IfOk result (λ key. key_of_text text.now ≡ Some key) }
+    ensures err { IfErr result (spec.RefusesText text.now) }
+{
+    match read_key(alloc, text)? {
+        Some(key) => Ok(key),
+        None => Err(Fault::Key(KeyFault::Syntax)),
+    }
+}
+
+/// The lines of what the key's subscription answers alone, over the record of those calls and replies.
+fn lines_alone(
+    alloc: Global,
+    key: &Key,
+    calls: &[ClientCall],
+    replies: &[Reply],
+) -> Result<String, Fault>
+    ensures ok { IfOk result (λ lines. (string_bytes lines ≡ spec.lines_alone key.now calls.now replies.now)
+        × (is_unshared key.now (new_core 1) ≡ true)) }
+    ensures err { IfErr result (spec.RefusesKey key.now) }
+{
+    let Ok(opening) = Core::new(alloc, OPENING) else {
+        return Err(Fault::Memory);
+    };
+    let numbers = numbers(opening.opening(), alloc, calls, replies)?;
+    let entries = entries(alloc, opening.opening(), calls, replies)?;
+    match lone_replies(alloc, &opening, &entries, key) {
+        Ok(replies) => Ok(lines_at(alloc, &numbers, &replies)?),
+        Err(LoneFault::NotUnshared) => Err(Fault::Key(KeyFault::NotUnshared)),
+        Err(LoneFault::Memory) => Err(Fault::Memory),
+    }
+}
+
+/// The lines of the subscription of the key that the text spells, over a run of the scenario that the
+/// source gives, and the status of that run.
+fn lines_of<R: Read>(
+    alloc: Global,
+    source: &mut Source<R>,
+    key: &str,
+) -> Result<(String, u8), Fault>
+    ensures { MatchResult result
+        (λ lines. IfSome (source_remaining R.remaining source.old) (λ all. spec.TellsLone all key.now (string_bytes lines.0) lines.1))
+        (RefusesLone R.remaining key.now source.old source.new) }
+{
+    let (calls, replies) = ran(alloc, source)?;
+    let key = key_of(alloc, key)?;
+    let lines = lines_alone(alloc, &key, &calls, &replies)?;
+    Ok((lines, status_of(&replies)))
+}
+
+/// Reads a scenario and makes its calls on a new provider, then reads the key of a subscription, and
+/// writes what this subscription answers alone, fed with the calls of its own session, with the
+/// accepted calls of that session's connection, and with the messages sent that it accepts: a line for
+/// each reply, with the number of its call. The status is that of the run. The fault of a scenario is
+/// told before any of the key.
+pub fn lone<R: Read, W: Write>(
+    alloc: Global,
+    source: &mut Source<R>,
+    key: &str,
+    writer: &mut W,
+) -> Ending
+    ensures fault { IfSome result.fault (λ fault. (writer.new ≡ writer.old) × (result.status ≡ status_of_fault fault)) }
+    ensures refused { IfSome result.fault (RefusesLone R.remaining key.now source.old source.new) }
+    // What is written where no fault comes, and the writes succeed.
+    ensures lines { result.fault ≡ None → result.status ≢ 1 → IfSome (source_remaining R.remaining source.old)
+        (λ all. WritesLone all key.now result.status (W.contents writer.old) (W.contents writer.new)) }
+{
+    match lines_of(alloc, source, key) {
+        Ok((lines, status)) => written(writer, lines.as_str(), status),
+        Err(fault) => ended(fault),
+    }
+}
