@@ -13,6 +13,3 @@ pub use list::List;
 pub use mode::Mode;
 pub use refusal::{Cause, MessageFault, Refusal};
 pub use text::Str;
-
-#[cfg(test)]
-mod tests;

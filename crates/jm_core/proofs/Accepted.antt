@@ -8,7 +8,7 @@ use Rattle.jm_dest.specs.declared.key.Key.{Key}
 use Rattle.jm_dest.specs.Keys.{key_eq}
 use Rattle.jm_header.specs.declared.content.Content.{Content}
 use Rattle.jm_lexer.specs.declared.fault.SyntaxFault.{SyntaxFault}
-use Rattle.jm_syntax.specs.declared.tree.Tree.{Tree}
+use Rattle.jm_tree.specs.declared.tree.Tree.{Tree}
 use Rattle.jm_eval.specs.Values.{Value, Unknown, Boolean, Number, Text, condition_of}
 use Rattle.jm_eval.specs.Evaluation.{value, Selects}
 use Rattle.jm_eval.specs.Views.{view}
@@ -17,9 +17,10 @@ use Rattle.jm_machine.specs.declared.state.PlacedRow.{PlacedRow}
 use Rattle.jm_machine.specs.declared.state.Row.{Row}
 use Rattle.jm_machine.specs.declared.state.Station.{Station}
 use Rattle.jm_machine.specs.Rows.{fresh, left_of, live_placed, change_placed, deliver_placed}
-use Rattle.jm_machine.specs.Selectors.{selector_read, selector_refusal, read_refusal, read_selects, selects, holds}
-use Rattle.jm_machine.specs.Machine.{State, accepts, after, answer, at_key, is_to, may_begin, moved, offered, refusal, replied, reply, rows_for, step, with_rows, without}
-use Rattle.jm_machine.specs.Client.{is_want, may_want}
+use Rattle.jm_machine.specs.Selectors.{selector_read, selector_refusal, read_selects, selects, holds}
+use Rattle.jm_machine.specs.Life.{Life}
+use Rattle.jm_machine.specs.Machine.{State, Publisher, publisher_of, accepts, after, answer, at_key, held, is_to, may_begin, moved, offered, places_end, refusal, replied, reply, step, with_rows, without}
+use Rattle.jm_machine.specs.Wants.{is_want, may_want}
 use Rattle.jm_machine.specs.declared.answer.Answer.{Answer}
 use Rattle.jm_machine.specs.declared.call.Who.TheVariants.{Session}
 use Rattle.jm_machine.specs.declared.call.Call.TheVariants.{Ask}
@@ -50,34 +51,45 @@ at_key-same k g (x ∷ xs) = go (at_key-same k g xs) (key_eq x.key k)
     go rest true = refl
     go rest false = ap (λ ys. subscription_of x ∷ ys) rest
 
-offered-same : (m : Content) (place : ℕ) (x : Station) → subscription_of (offered m place x) ≡ subscription_of x
-offered-same m place x = go (accepts x.key x.definition m)
+-- nobody that publishes, and no connections
+abbrev pub nobody : Publisher
+nobody = record { connection = 0; client = None }
+
+abbrev pub no_life : Life
+no_life = record { connections = []; sessions = [] }
+
+offered-same : (p : Publisher) (m : Content) (place : ℕ) (x : Station) → subscription_of (offered p m place x) ≡ subscription_of x
+offered-same p m place x = go (accepts x.key x.definition p m)
   where
     go : (b : Bool) → subscription_of (cond b (with_rows (λ rows. rows ++ record { place = place; row = fresh m } ∷ []) x) x) ≡ subscription_of x
     go true = refl
     go false = refl
 
-all_offered-same : (m : Content) (place : ℕ) (xs : List Station) → map subscription_of (map (offered m place) xs) ≡ map subscription_of xs
-all_offered-same m place [] = refl
-all_offered-same m place (x ∷ xs) = λ i. offered-same m place x i ∷ all_offered-same m place xs i
+all_offered-same : (p : Publisher) (m : Content) (place : ℕ) (xs : List Station) → map subscription_of (map (offered p m place) xs) ≡ map subscription_of xs
+all_offered-same p m place [] = refl
+all_offered-same p m place (x ∷ xs) = λ i. offered-same p m place x i ∷ all_offered-same p m place xs i
 
 -- also where the message came to the first ones only
-some_offered-same : (m : Content) (place : ℕ) (n : ℕ) (xs : List Station) → map subscription_of (map (offered m place) (take n xs) ++ drop n xs) ≡ map subscription_of xs
-some_offered-same m place zero xs = refl
-some_offered-same m place (suc n) [] = refl
-some_offered-same m place (suc n) (x ∷ xs) = λ i. offered-same m place x i ∷ some_offered-same m place n xs i
+some_offered-same : (p : Publisher) (m : Content) (place : ℕ) (n : ℕ) (xs : List Station) → map subscription_of (map (offered p m place) (take n xs) ++ drop n xs) ≡ map subscription_of xs
+some_offered-same p m place zero xs = refl
+some_offered-same p m place (suc n) [] = refl
+some_offered-same p m place (suc n) (x ∷ xs) = λ i. offered-same p m place x i ∷ some_offered-same p m place n xs i
 
-pub published-same : (place : ℕ) (ms : List Content) (xs : List Station) → map subscription_of (published_stations place ms xs) ≡ map subscription_of xs
-published-same place [] xs = refl
-published-same place (m ∷ ms) xs = published-same (place + 1) ms (map (offered m place) xs) ∙ all_offered-same m place xs
+pub published-same : (life : Life) (place : ℕ) (ms : List Content) (xs : List Station) → map subscription_of (published_stations life place ms xs) ≡ map subscription_of xs
+published-same life place [] xs = refl
+published-same life place (m ∷ ms) xs = published-same life (place + 1) ms (map (offered (publisher_of life m) m place) xs) ∙ all_offered-same (publisher_of life m) m place xs
 
 -- the subscription of the station that is next, while a message comes to one after the other
-pub next_subscription : (list : List Subscription) (m : Content) (place : ℕ) (xs ys : List Station) (i : ℕ) (x : Station) →
-    list ≡ map subscription_of xs → ys ≡ map (offered m place) (take i xs) ++ drop i xs → i < length ys → x ≡ get_or ys i x → slice_get list i ≡ Some (subscription_of x)
-next_subscription list m place xs ys i x same so_far lt is =
-    ap (λ (l : List Subscription). slice_get l i) (same ∙ sym (ap (map subscription_of) so_far ∙ some_offered-same m place i xs))
+pub next_subscription : (p : Publisher) (list : List Subscription) (m : Content) (place : ℕ) (xs ys : List Station) (i : ℕ) (x : Station) →
+    list ≡ map subscription_of xs → ys ≡ map (offered p m place) (take i xs) ++ drop i xs → i < length ys → x ≡ get_or ys i x → slice_get list i ≡ Some (subscription_of x)
+next_subscription p list m place xs ys i x same so_far lt is =
+    ap (λ (l : List Subscription). slice_get l i) (same ∙ sym (ap (map subscription_of) so_far ∙ some_offered-same p m place i xs))
     ∙ slice_get-map subscription_of ys i
     ∙ ap (option_map subscription_of) (slice_get_read ys (length ys) i x refl lt is)
+
+-- whether the subscription that stands at a place accepts a message
+pub accepts_held : (p : Publisher) (list : List Subscription) (i : ℕ) (x : Station) (m : Content) (r : Bool) → slice_get list i ≡ Some (subscription_of x) → option_map (subs.takes p m) (slice_get list i) ≡ Some r → accepts x.key x.definition p m ≡ r
+accepts_held p list i x m r is told = let e : Some (accepts x.key x.definition p m) ≡ Some r = sym (ap (option_map (subs.takes p m)) is) ∙ told in cc
 
 -- ---- what is held is accepted
 
@@ -93,9 +105,9 @@ unfolding selects
 selected None m h = tt
 selected (Some tree) m h = by_value (value (view m) tree) h
 
-accepted_is : (key : Key) (d : Definition) (m : Content) → accepts key d m ≡ true → IsAccepted d m
+accepted_is : (key : Key) (d : Definition) (p : Publisher) (m : Content) → accepts key d p m ≡ true → IsAccepted d m
 unfolding accepts
-accepted_is key d m h = go (is_to d.topic m.destination) (selector_read d.selector) h
+accepted_is key d p m h = go (is_to d.topic m.destination) (selector_read d.selector) h
   where
     go : (a : Bool) (r : Result (Option Tree) SyntaxFault) → (a && read_selects r m) ≡ true → (a ≡ true) × ((tree : Option Tree) × ((r ≡ Ok tree) × Selects (view m) tree))
     go true (Ok tree) h = (refl, (tree, (refl, selected tree m h)))
@@ -130,20 +142,20 @@ added d (y ∷ rows) x h k = (h.0, added d rows x h.1 k)
 abbrev with_place : Content → ℕ → Station → Station
 with_place m place x = with_rows (λ rows. rows ++ record { place = place; row = fresh m } ∷ []) x
 
-offered_holds : (m : Content) (place : ℕ) (x : Station) → AllAccepted x.definition x.rows → AllAccepted (offered m place x).definition (offered m place x).rows
-offered_holds m place x h = go (accepts x.key x.definition m) refl
+offered_holds : (p : Publisher) (m : Content) (place : ℕ) (x : Station) → AllAccepted x.definition x.rows → AllAccepted (offered p m place x).definition (offered p m place x).rows
+offered_holds p m place x h = go (accepts x.key x.definition p m) refl
   where
-    go : (b : Bool) → accepts x.key x.definition m ≡ b → AllAccepted (cond b (with_place m place x) x).definition (cond b (with_place m place x) x).rows
-    go true e = added x.definition x.rows (record { place = place; row = fresh m }) h (accepted_is x.key x.definition m e)
+    go : (b : Bool) → accepts x.key x.definition p m ≡ b → AllAccepted (cond b (with_place m place x) x).definition (cond b (with_place m place x) x).rows
+    go true e = added x.definition x.rows (record { place = place; row = fresh m }) h (accepted_is x.key x.definition p m e)
     go false e = h
 
-all_offered_hold : (m : Content) (place : ℕ) (xs : List Station) → HoldsAccepted xs → HoldsAccepted (map (offered m place) xs)
-all_offered_hold m place [] h = h
-all_offered_hold m place (x ∷ xs) h = (offered_holds m place x h.0, all_offered_hold m place xs h.1)
+all_offered_hold : (p : Publisher) (m : Content) (place : ℕ) (xs : List Station) → HoldsAccepted xs → HoldsAccepted (map (offered p m place) xs)
+all_offered_hold p m place [] h = h
+all_offered_hold p m place (x ∷ xs) h = (offered_holds p m place x h.0, all_offered_hold p m place xs h.1)
 
-published_hold : (place : ℕ) (ms : List Content) (xs : List Station) → HoldsAccepted xs → HoldsAccepted (published_stations place ms xs)
-published_hold place [] xs h = h
-published_hold place (m ∷ ms) xs h = published_hold (place + 1) ms (map (offered m place) xs) (all_offered_hold m place xs h)
+published_hold : (life : Life) (place : ℕ) (ms : List Content) (xs : List Station) → HoldsAccepted xs → HoldsAccepted (published_stations life place ms xs)
+published_hold life place [] xs h = h
+published_hold life place (m ∷ ms) xs h = published_hold life (place + 1) ms (map (offered (publisher_of life m) m place) xs) (all_offered_hold (publisher_of life m) m place xs h)
 
 without_holds : (k : Key) (xs : List Station) → HoldsAccepted xs → HoldsAccepted (without k xs)
 without_holds k [] h = h
@@ -170,22 +182,14 @@ at_key_holds k now (x ∷ xs) h = go (at_key_holds k now xs h.1) (key_eq x.key k
 not_wanted : (r : Refusal) → is_want (Err r) ≡ false → r ≢ Memory
 not_wanted r e n = let f = rw n at e in cc
 
-selector_wanted : (selector : Option (List ℕ)) (a : Answer) → may_want (replied (selector_refusal selector) a) ≡ true
-unfolding selector_refusal
-selector_wanted selector a = go (selector_read selector)
-  where
-    go : (read : Result (Option Tree) SyntaxFault) → may_want (replied (read_refusal read) a) ≡ true
-    go (Ok tree) = refl
-    go (Err fault) = refl
-
 pub create_refused : (state : State) (s : SessionId) (c : ℕ) (topic : List ℕ) (selector : Option (List ℕ)) (r : Refusal) →
     may_begin state.life state.consumers s c ≡ true → (r ≢ Memory → selector_refusal selector ≡ Some r) → StepFits state (Session s) (Ask (CreateConsumer c topic selector)) (Err r) state
-unfolding reply step refusal
-create_refused state s c topic selector r h k = rw h (go (answer state.life (rows_for state (Session s) (CreateConsumer c topic selector)) (Session s) (CreateConsumer c topic selector)) (after state (Session s) (CreateConsumer c topic selector)) (is_want (Err r)) refl)
+unfolding reply step refusal may_want
+create_refused state s c topic selector r h k = rw h (go (answer state.life state.consumers (held state (Session s) (CreateConsumer c topic selector)) (Session s) (CreateConsumer c topic selector)) (after state (Session s) (CreateConsumer c topic selector)) (is_want (Err r)) refl)
   where
     go : (a : Answer) (next : State) (b : Bool) → is_want (Err r) ≡ b →
-        MatchBool b ((may_want (replied (selector_refusal selector) a) ≡ true) × (state ≡ state)) ((Err r ≡ replied (selector_refusal selector) a) × (state ≡ moved (selector_refusal selector) next state))
-    go a next true e = (selector_wanted selector a, refl)
+        MatchBool b ((true ≡ true) × (state ≡ state)) ((Err r ≡ replied (selector_refusal selector) a) × (state ≡ moved (selector_refusal selector) next state))
+    go a next true e = (refl, refl)
     go a next false e = let is : selector_refusal selector ≡ Some r = k (not_wanted r e) in (rw is refl, rw is refl)
 
 -- ---- what every core keeps
@@ -199,10 +203,10 @@ sound_delivered list xs place k now h = record {
 }
 
 -- publications
-pub sound_published : (list : List Subscription) (xs : List Station) (place : ℕ) (ms : List Content) (next : ℕ) → IsSound list xs place → next ≤ 9223372036854775808 → IsSound list (published_stations place ms xs) next
-sound_published list xs place ms next h le = record {
-  same = h.same ∙ sym (published-same place ms xs);
-  accepted = published_hold place ms xs h.accepted;
+pub sound_published : (list : List Subscription) (life : Life) (xs : List Station) (place : ℕ) (ms : List Content) (next : ℕ) → IsSound list xs place → next ≤ places_end → IsSound list (published_stations life place ms xs) next
+sound_published list life xs place ms next h le = record {
+  same = h.same ∙ sym (published-same life place ms xs);
+  accepted = published_hold life place ms xs h.accepted;
   places = le;
 }
 

@@ -2,3 +2,4 @@ mod Rows
 mod Stations
 mod Accepted
 mod Sends
+mod Reached

@@ -1,13 +1,13 @@
 -- What is held for a subscription was accepted by it.
 use Rattle.std.specs.Prelude.{◌≡◌, ℕ, ◌≤◌, true, List, [], ◌∷◌, map, Option, Ok}
 use Rattle.jm_header.specs.declared.content.Content.{Content}
-use Rattle.jm_syntax.specs.declared.tree.Tree.{Tree}
+use Rattle.jm_tree.specs.declared.tree.Tree.{Tree}
 use Rattle.jm_eval.specs.Evaluation.{Selects}
 use Rattle.jm_eval.specs.Views.{view}
 use Rattle.jm_machine.specs.declared.state.Definition.{Definition}
 use Rattle.jm_machine.specs.declared.state.PlacedRow.{PlacedRow}
 use Rattle.jm_machine.specs.declared.state.Station.{Station}
-use Rattle.jm_machine.specs.Machine.{is_to}
+use Rattle.jm_machine.specs.Machine.{is_to, places_end}
 use Rattle.jm_machine.specs.Selectors.{selector_read}
 use Rattle.jm_sub.specs.Subscriptions.{Subscription}
 
@@ -34,4 +34,4 @@ HoldsAccepted (x ∷ stations) = AllAccepted x.definition x.rows × HoldsAccepte
 pub record IsSound (subscriptions : List Subscription) (stations : List Station) (next_place : ℕ) : Type 0 where
   pub same : subscriptions ≡ map subscription_of stations
   pub accepted : HoldsAccepted stations
-  pub places : next_place ≤ 9223372036854775808
+  pub places : next_place ≤ places_end

@@ -10,15 +10,16 @@ use Rattle.jm_machine.specs.declared.answer.Answer.TheVariants.{Done}
 use Rattle.jm_machine.specs.declared.call.Call.{Call}
 use Rattle.jm_machine.specs.declared.answer.Answer.{Answer}
 use Rattle.jm_machine.specs.declared.state.Station.{Station}
-use Rattle.jm_machine.specs.Machine.{State, offered, reply, step}
-use Rattle.jm_machine.specs.Client.{is_want, may_want}
+use Rattle.jm_machine.specs.Life.{Life}
+use Rattle.jm_machine.specs.Machine.{State, publisher_of, offered, reply, step}
+use Rattle.jm_machine.specs.Wants.{is_want, may_want}
 
--- a step answers the machine's reply and leaves the machine's state; or it wants memory for a call that
--- the machine does not refuse, or refuses for its selector, and leaves the state as before
+-- a step answers the machine's reply and leaves the machine's state; or it wants memory, only where the call
+-- takes memory, and leaves the state as before
 abbrev pub StepFits : State → Who → Call → Result Answer Refusal → State → Type 0
 StepFits old who call result new =
     MatchBool (is_want result)
-    ((may_want (reply old who call) ≡ true) × (new ≡ old))
+    ((may_want old who call ≡ true) × (new ≡ old))
     ((result ≡ reply old who call) × (new ≡ step old who call))
 
 -- the reply to a publication that ended so
@@ -30,7 +31,7 @@ published_reply (Err r) = Err r
 abbrev pub PublishFits : State → SessionId → List Content → Result (Unit {0}) Refusal → State → Type 0
 PublishFits old s messages result new = StepFits old (Session s) (Publish messages) (published_reply result) new
 
--- the stations after messages are published, the first at that place
-abbrev pub published_stations : ℕ → List Content → List Station → List Station
-published_stations place [] stations = stations
-published_stations place (m ∷ messages) stations = published_stations (place + 1) messages (map (offered m place) stations)
+-- the stations after messages are published, the first at that place, the connections being these
+abbrev pub published_stations : Life → ℕ → List Content → List Station → List Station
+published_stations life place [] stations = stations
+published_stations life place (m ∷ messages) stations = published_stations life (place + 1) messages (map (offered (publisher_of life m) m place) stations)

@@ -3,7 +3,7 @@
 #![tactic(auto)]
 
 mod deliver;
-mod find;
+mod provider;
 mod publish;
 mod run;
 mod state;
@@ -12,7 +12,4 @@ pub use jm_machine::{
     Answer, Call, ClientCall, ConnectionState, Consumer, Definition, Delivery, PlacedRow, Reply,
     Request, Row, SessionState, Station, Step, Who, copy_reply,
 };
-pub use state::Core;
-
-#[cfg(test)]
-mod tests;
+pub use provider::{Core, law_core_reached};

@@ -1,7 +1,8 @@
 //! Brings publications to the subscriptions that accept them.
 
 ghost use Rattle.std.specs.Prelude.{◌≡◌, ◌+◌, ◌≤◌, length, map, slice_get, IfOk, OnOk, Some};
-ghost use Rattle.jm_machine.specs.Machine.{offered};
+ghost use Rattle.jm_machine.specs.Life.{Life};
+ghost use Rattle.jm_machine.specs.Machine.{Publisher, offered, places_end};
 ghost use Rattle.jm_core.specs.Accepted.{subscription_of};
 ghost use Rattle.jm_core.specs.Steps.{published_stations};
 
@@ -19,7 +20,7 @@ fn offer(
     place: u64,
 ) -> Result<(), AllocError>
     requires { slice_get subs.now.list at ≡ Some (subscription_of station.old) }
-    ensures { OnOk result (station.new ≡ offered message.now place station.old) }
+    ensures { (publisher : Publisher) → OnOk result (station.new ≡ offered publisher message.now place station.old) }
 {
     if subs.accepts_at(at, message) {
         let row = Row {
@@ -39,7 +40,7 @@ fn offer_all(
     place: u64,
 ) -> Result<(), AllocError>
     requires { subs.now.list ≡ map subscription_of stations.old }
-    ensures { OnOk result (stations.new ≡ map (offered message.now place) stations.old) }
+    ensures { (publisher : Publisher) → OnOk result (stations.new ≡ map (offered publisher message.now place) stations.old) }
 {
     for (at, station) in stations.iter_mut().enumerate() {
         offer(subs, at, station, message, place)?;
@@ -66,9 +67,9 @@ pub(crate) fn published(
     messages: &[Message],
     place: u64,
 ) -> Result<Vec<Station>, AllocError>
-    requires places { place + length messages.now ≤ 9223372036854775808 }
+    requires places { place + length messages.now ≤ places_end }
     requires same { subs.now.list ≡ map subscription_of stations.now }
-    ensures { IfOk result (λ after. after.items ≡ published_stations place messages.now stations.now) }
+    ensures { (life : Life) → IfOk result (λ after. after.items ≡ published_stations life place messages.now stations.now) }
 {
     let mut after = copies(alloc, stations)?;
     let mut at = place;

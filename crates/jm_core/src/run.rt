@@ -1,10 +1,11 @@
 //! Runs lists of client calls.
 
-ghost use Rattle.std.specs.Prelude.{◌≡◌, ◌+◌, IfOk, OnOk, OnErr};
-ghost use Rattle.jm_machine.specs.Client.{Progress, begun, stamp_of, CallFits, RepliesFit};
+ghost use Rattle.std.specs.Prelude.{◌≡◌, ◌+◌, ◌≤◌, ◌<◌, IfOk, OnErr};
+ghost use Rattle.std.specs.HashMap.{spare};
+ghost use Rattle.jm_machine.specs.Client.{Progress, begun, stamp_of, CallOwed, RunOwed};
 ghost use Rattle.jm_core.specs.Runs.{sent_of, progress};
 
-use crate::state::Core;
+use crate::state::CoreState;
 use jm_base::Refusal;
 use jm_dest::{Destination, Moment, SessionId};
 use jm_header::{Draft, Message, Sender, stamp};
@@ -21,7 +22,7 @@ fn sent_by(sends: &Sends, session: &SessionId) -> u64
     sends.get(session).copied().unwrap_or(0)
 }
 
-impl Core {
+impl CoreState {
     /// The message of the session's next send, or why it is not stamped.
     fn stamp_next(
         &self,
@@ -48,7 +49,7 @@ impl Core {
         }
     }
 
-    /// Stamps and publishes a message.
+    /// Stamps and publishes a message. Counting it takes no memory.
     fn send(
         &mut self,
         sends: &mut Sends,
@@ -57,7 +58,9 @@ impl Core {
         destination: Destination,
         now: Moment,
     ) -> Result<Answer, Refusal>
-        ensures { CallFits (progress self.old sends.old) (ClientCall.Send session.now draft destination now) result (progress self.new sends.new) }
+        requires { 0 < spare sends.old }
+        ensures owed { CallOwed (progress self.old sends.old) (ClientCall.Send session.now draft destination now) result (progress self.new sends.new) }
+        ensures spare { spare sends.old ≤ spare sends.new + 1 }
     {
         match self.stamp_next(sends, session, draft, destination, now) {
             Err(refusal) => Err(refusal),
@@ -78,7 +81,9 @@ impl Core {
     }
 
     fn answer(&mut self, sends: &mut Sends, call: ClientCall) -> Result<Answer, Refusal>
-        ensures { CallFits (progress self.old sends.old) call result (progress self.new sends.new) }
+        requires { 0 < spare sends.old }
+        ensures owed { CallOwed (progress self.old sends.old) call result (progress self.new sends.new) }
+        ensures spare { spare sends.old ≤ spare sends.new + 1 }
     {
         match call {
             ClientCall::Ask { who, request } => self.ask(who, &request),
@@ -91,17 +96,15 @@ impl Core {
         }
     }
 
-    /// Makes the calls in turn, and gives the reply to each. The numbers of each session's sends count
-    /// from 1 at the start of the list. `AllocError` where no room was found for the replies; then no
-    /// call was made. Where one call wants memory, its reply is `Memory`, the core is as it was before that
-    /// call, and the run goes on; a send may have used its number then.
-    pub fn run(&mut self, calls: Vec<ClientCall>) -> Result<Vec<Reply>, AllocError>
-        ensures ok { IfOk result (λ replies. (end : Progress) × RepliesFit (begun self.old) calls.items replies.items end × (self.new ≡ end.state)) }
+    /// Makes the calls in turn, and gives the reply to each. `AllocError` where no room was found for the
+    /// replies and the counts of sends; then no call was made.
+    pub(crate) fn run(&mut self, calls: Vec<ClientCall>) -> Result<Vec<Reply>, AllocError>
+        ensures ok { IfOk result (λ replies. (end : Progress) × RunOwed (begun self.old) calls.items replies.items end × (self.new ≡ end.state)) }
         ensures err { OnErr result (self.new ≡ self.old) }
     {
         let alloc = self.alloc();
         let mut replies = Vec::with_capacity(alloc, calls.len())?;
-        let mut sends = HashMap::new(alloc);
+        let mut sends = HashMap::with_capacity(alloc, calls.len())?;
         for call in calls {
             replies.push_reserved(self.answer(&mut sends, call));
         }

@@ -1,17 +1,19 @@
 ghost use Rattle.std.specs.Prelude.{◌≡◌, ◌≢◌, ◌+◌, ◌≤◌, ◌==◌, ◌&&◌, is_some, length, map, vec_len, vec_capacity, MatchResult, IfOk, IfErr, OnOk, OnErr, Some, None, if◌then◌else◌};
 ghost use Rattle.jm_base.specs.declared.refusal.Refusal.TheVariants.{OutOfRange, Memory};
-ghost use Rattle.jm_machine.specs.Life.{with_started as with_started_lem, connection_of as connection_of_lem, mode_of as mode_of_lem, is_started as is_started_lem, is_new_session as is_new_session_lem};
-ghost use Rattle.jm_machine.specs.Machine.{new_core, is_stamped as is_stamped_lem, has_places as has_places_lem, without, joined, put, defined, published as published_lem, consumer_of as consumer_of_lem, is_active, may_begin as may_begin_lem};
+ghost use Rattle.jm_machine.specs.Life as life;
+ghost use Rattle.jm_machine.specs.Machine as machine;
 ghost use Rattle.jm_machine.specs.Selectors.{selector_refusal};
 ghost use Rattle.jm_core.specs.Accepted.{HoldsAccepted, subscription_of};
 ghost use Rattle.jm_core.specs.Steps.{StepFits, PublishFits};
 
-use crate::deliver::deliver_to;
-use crate::find::{connection_of, consumer_of, is_started, mode_of, same_session, session_of};
+use crate::deliver::deliver_from;
 use crate::publish::{copies, published};
 use jm_base::{List, Mode, Refusal, Str};
 use jm_dest::{ConnectionId, ConsumerId, Key, Moment, Name, Number, SessionId};
 use jm_header::Message;
+use jm_machine::find::{
+    connection_of, consumer_of, is_started, mode_of, same_session, session_of, set_started,
+};
 use jm_machine::{
     Answer, Call, ConnectionState, Consumer, Request, SessionState, Station, Step, Who,
 };
@@ -19,11 +21,11 @@ use jm_sub::Subs;
 use std::alloc::{AllocError, Global};
 use std::marker::Model;
 
-/// All that the provider holds. Contracts see it as the machine's state. The subscriptions of `subs`,
-/// each with the tree of its selector, are those of `stations`, in the same order; and each row is
-/// accepted by the subscription that holds it.
+/// What the core holds. Contracts see it as the machine's state. The subscriptions of `subs`, each with
+/// the tree of its selector, are those of `stations`, in the same order; and each row is accepted by the
+/// subscription that holds it.
 #[derive(Drop)]
-pub struct Core {
+pub(crate) struct CoreState {
     alloc: Global,
     opening: Number,
     connections: Vec<ConnectionState>,
@@ -34,7 +36,7 @@ pub struct Core {
     next_place: u64,
 }
 
-impl Model for Core {
+impl Model for CoreState {
     ghost use Rattle.jm_machine.specs.Machine.{State};
     ghost use Rattle.jm_core.specs.Accepted.{IsSound};
 
@@ -51,28 +53,9 @@ impl Model for Core {
     ghost invariant = { λ c. IsSound c.subs.list c.stations.items c.next_place };
 }
 
-fn with_started(connection: ConnectionState, id: ConnectionId, on: bool) -> ConnectionState
-    ensures { result ≡ (if connection.id == id then record connection { is_started = on } else connection) }
-{
-    if connection.id == id {
-        ConnectionState { id, is_started: on }
-    } else {
-        connection
-    }
-}
-
-/// Starts or stops the connection of that number.
-fn set_started(connections: &mut [ConnectionState], id: ConnectionId, on: bool)
-    ensures { connections.new ≡ with_started_lem id on connections.old }
-{
-    for connection in connections.iter_mut() {
-        *connection = with_started(*connection, id, on);
-    }
-}
-
 /// Whether each message was stamped by this session in this opening.
 fn is_stamped(opening: Number, session: &SessionId, messages: &[Message]) -> bool
-    ensures { result ≡ is_stamped_lem opening session.now messages.now }
+    ensures { result ≡ machine.is_stamped opening session.now messages.now }
 {
     messages.iter().all(|message| {
         let sender = message.sender();
@@ -92,21 +75,21 @@ fn copy_consumers(alloc: Global, consumers: &[Consumer]) -> Result<Vec<Consumer>
 
 /// The stations without what is held under the key.
 fn remove_key(stations: &mut Vec<Station>, key: &Key)
-    ensures stations { stations.new.items ≡ without key.now stations.old.items }
+    ensures stations { stations.new.items ≡ machine.without key.now stations.old.items }
     ensures bound { vec_len stations.new ≤ vec_len stations.old }
     ensures capacity { vec_capacity stations.new ≡ vec_capacity stations.old }
 {
     stations.retain(|station| !station.key.is(key));
 }
 
-impl Core {
+impl CoreState {
     /// A core that holds nothing, in that opening of the provider. `OutOfRange` exactly where the
     /// number is 0.
-    pub fn new(alloc: Global, opening: u32) -> Result<Core, Refusal>
-        ensures { MatchResult result (λ core. (core ≡ new_core opening) × (1 ≤ opening)) (λ refusal. (refusal ≡ OutOfRange) × (opening ≡ 0)) }
+    pub(crate) fn new(alloc: Global, opening: u32) -> Result<CoreState, Refusal>
+        ensures { MatchResult result (λ core. (core ≡ machine.new_core opening) × (1 ≤ opening)) (λ refusal. (refusal ≡ OutOfRange) × (opening ≡ 0)) }
     {
         let opening = Number::new(opening)?;
-        Ok(Core {
+        Ok(CoreState {
             alloc,
             opening,
             connections: Vec::new(alloc),
@@ -119,43 +102,41 @@ impl Core {
     }
 }
 
-impl Core {
+impl CoreState {
     pub(crate) fn alloc(&self) -> Global {
         self.alloc
     }
 
     /// The number of this opening of the provider, from 1.
-    pub fn opening(&self) -> Number
+    pub(crate) fn opening(&self) -> Number
         ensures { result ≡ self.now.opening }
     {
         self.opening
     }
 
     /// The connections that were opened, in order.
-    pub fn connections(&self) -> &[ConnectionState]
+    pub(crate) fn connections(&self) -> &[ConnectionState]
         ensures { result.now ≡ self.now.life.connections }
     {
         self.connections.as_slice()
     }
 
     /// The sessions that were opened, in order.
-    pub fn sessions(&self) -> &[SessionState]
+    pub(crate) fn sessions(&self) -> &[SessionState]
         ensures { result.now ≡ self.now.life.sessions }
     {
         self.sessions.as_slice()
     }
 
     /// The consumers that were made, in order.
-    pub fn consumers(&self) -> &[Consumer]
+    pub(crate) fn consumers(&self) -> &[Consumer]
         ensures { result.now ≡ self.now.consumers }
     {
         self.consumers.as_slice()
     }
 
-    /// The subscriptions with their rows, in order of creation. Each row was accepted: its message goes
-    /// to the subscription's topic, and the tree of the subscription's selector is TRUE for it, or there
-    /// is no selector.
-    pub fn stations(&self) -> &[Station]
+    /// The subscriptions with their rows, in order of creation.
+    pub(crate) fn stations(&self) -> &[Station]
         ensures stations { result.now ≡ self.now.stations }
         ensures accepted { HoldsAccepted self.now.stations }
     {
@@ -163,14 +144,14 @@ impl Core {
     }
 
     /// The place of the next publication, from 1.
-    pub fn next_place(&self) -> u64
+    pub(crate) fn next_place(&self) -> u64
         ensures { result ≡ self.now.next_place }
     {
         self.next_place
     }
 
     /// An equal core. `AllocError` where a request for memory was refused.
-    pub fn copy(&self) -> Result<Core, AllocError>
+    pub(crate) fn copy(&self) -> Result<CoreState, AllocError>
         ensures { IfOk result (λ copy. copy ≡ self.now) }
     {
         let alloc = self.alloc;
@@ -179,7 +160,7 @@ impl Core {
         let consumers = copy_consumers(alloc, &self.consumers)?;
         let subs = self.subs.copy()?;
         let stations = copies(alloc, &self.stations)?;
-        Ok(Core {
+        Ok(CoreState {
             alloc,
             opening: self.opening,
             connections,
@@ -191,11 +172,9 @@ impl Core {
         })
     }
 
-    /// Makes one step. A refusal is the first cause that stands, in the order of `Refusal`, and leaves
-    /// the core as it was; so does `Memory`, which comes only where no other cause stands, or in place of
-    /// `InvalidSelector`.
+    /// Makes one step, as `Core::step` says.
     #[tactic(auto, unfolding(jm_machine::specs::Machine::reply, jm_machine::specs::Machine::step))]
-    pub fn step(&mut self, step: &Step) -> Result<Answer, Refusal>
+    pub(crate) fn step(&mut self, step: &Step) -> Result<Answer, Refusal>
         ensures { StepFits self.old step.now.who step.now.call result self.new }
     {
         match &step.call {
@@ -204,7 +183,7 @@ impl Core {
         }
     }
 
-    #[tactic(auto, unfolding(jm_machine::specs::Machine::refusal, jm_machine::specs::Machine::reply, jm_machine::specs::Machine::step, jm_machine::specs::Machine::after, jm_machine::specs::Machine::answer, jm_machine::specs::Machine::rows_for, jm_machine::specs::Life::life_after))]
+    #[tactic(auto, unfolding(jm_machine::specs::Machine::refusal, jm_machine::specs::Machine::reply, jm_machine::specs::Machine::step, jm_machine::specs::Machine::after, jm_machine::specs::Machine::answer, jm_machine::specs::Life::life_after))]
     pub(crate) fn ask(&mut self, who: Who, request: &Request) -> Result<Answer, Refusal>
         ensures { StepFits self.old who (Call.Ask request.now) result self.new }
     {
@@ -229,61 +208,55 @@ impl Core {
     }
 
     fn is_used_connection(&self, id: ConnectionId) -> bool
-        ensures { result ≡ is_some (connection_of_lem self.now.life.connections id) }
+        ensures { result ≡ is_some (life.connection_of self.now.life.connections id) }
     {
         connection_of(&self.connections, id).is_some()
     }
 
     fn is_started(&self, id: ConnectionId) -> bool
-        ensures { result ≡ is_started_lem self.now.life id }
+        ensures { result ≡ life.is_started self.now.life id }
     {
         is_started(&self.connections, id)
     }
 
     pub(crate) fn is_open_session(&self, id: &SessionId) -> bool
-        ensures { result ≡ is_some (mode_of_lem self.now.life id.now) }
+        ensures { result ≡ is_some (life.mode_of self.now.life id.now) }
     {
         mode_of(&self.sessions, id).is_some()
     }
 
     fn is_new_session(&self, id: &SessionId) -> bool
-        ensures { result ≡ is_new_session_lem self.now.life id.now }
+        ensures { result ≡ life.is_new_session self.now.life id.now }
     {
         self.is_used_connection(id.connection) && session_of(&self.sessions, id).is_none()
     }
 
     fn has_consumer(&self, session: &SessionId, id: ConsumerId) -> bool
-        ensures { result ≡ is_some (consumer_of_lem self.now.consumers session.now id) }
+        ensures { result ≡ is_some (machine.consumer_of self.now.consumers session.now id) }
     {
         consumer_of(&self.consumers, session, id).is_some()
     }
 
     fn may_begin(&self, session: &SessionId, id: ConsumerId) -> bool
-        ensures { result ≡ may_begin_lem self.now.life self.now.consumers session.now id }
+        ensures { result ≡ machine.may_begin self.now.life self.now.consumers session.now id }
     {
         self.is_open_session(session) && !self.has_consumer(session, id)
     }
 
-    fn may_receive(&self, session: &SessionId, id: ConsumerId) -> bool
-        ensures { result ≡ (is_some (mode_of_lem self.now.life session.now) && is_active (consumer_of_lem self.now.consumers session.now id)) }
-    {
-        self.is_open_session(session) && self.has_consumer(session, id)
-    }
-
     fn may_publish(&self, session: &SessionId, messages: &[Message]) -> bool
-        ensures { result ≡ (is_some (mode_of_lem self.now.life session.now) && is_stamped_lem self.now.opening session.now messages.now) }
+        ensures { result ≡ (is_some (life.mode_of self.now.life session.now) && machine.is_stamped self.now.opening session.now messages.now) }
     {
         self.is_open_session(session) && is_stamped(self.opening, session, messages)
     }
 
     /// Whether places are left for the messages.
     fn has_places(&self, messages: &[Message]) -> bool
-        ensures { result ≡ has_places_lem self.now.next_place messages.now }
+        ensures { result ≡ machine.has_places self.now.next_place messages.now }
     {
         messages.len() as u64 <= 9_223_372_036_854_775_808 - self.next_place
     }
 
-    #[tactic(auto, unfolding(jm_machine::specs::Machine::refusal, jm_machine::specs::Machine::reply, jm_machine::specs::Machine::step, jm_machine::specs::Machine::after, jm_machine::specs::Machine::answer, jm_machine::specs::Machine::rows_for, jm_machine::specs::Life::life_after))]
+    #[tactic(auto, unfolding(jm_machine::specs::Machine::refusal, jm_machine::specs::Machine::reply, jm_machine::specs::Machine::step, jm_machine::specs::Machine::after, jm_machine::specs::Machine::answer, jm_machine::specs::Life::life_after, jm_machine::specs::Wants::may_want))]
     fn open(&mut self, id: ConnectionId) -> Result<Answer, Refusal>
         ensures { StepFits self.old (Who.Connection id) (Call.Ask Request.Open) result self.new }
     {
@@ -300,7 +273,7 @@ impl Core {
         }
     }
 
-    #[tactic(auto, unfolding(jm_machine::specs::Machine::refusal, jm_machine::specs::Machine::reply, jm_machine::specs::Machine::step, jm_machine::specs::Machine::after, jm_machine::specs::Machine::answer, jm_machine::specs::Machine::rows_for, jm_machine::specs::Life::life_after))]
+    #[tactic(auto, unfolding(jm_machine::specs::Machine::refusal, jm_machine::specs::Machine::reply, jm_machine::specs::Machine::step, jm_machine::specs::Machine::after, jm_machine::specs::Machine::answer, jm_machine::specs::Life::life_after))]
     fn start(&mut self, id: ConnectionId) -> Result<Answer, Refusal>
         ensures { StepFits self.old (Who.Connection id) (Call.Ask Request.Start) result self.new }
     {
@@ -311,7 +284,7 @@ impl Core {
         Ok(Answer::Done)
     }
 
-    #[tactic(auto, unfolding(jm_machine::specs::Machine::refusal, jm_machine::specs::Machine::reply, jm_machine::specs::Machine::step, jm_machine::specs::Machine::after, jm_machine::specs::Machine::answer, jm_machine::specs::Machine::rows_for, jm_machine::specs::Life::life_after))]
+    #[tactic(auto, unfolding(jm_machine::specs::Machine::refusal, jm_machine::specs::Machine::reply, jm_machine::specs::Machine::step, jm_machine::specs::Machine::after, jm_machine::specs::Machine::answer, jm_machine::specs::Life::life_after))]
     fn stop(&mut self, id: ConnectionId) -> Result<Answer, Refusal>
         ensures { StepFits self.old (Who.Connection id) (Call.Ask Request.Stop) result self.new }
     {
@@ -322,7 +295,7 @@ impl Core {
         Ok(Answer::Done)
     }
 
-    #[tactic(auto, unfolding(jm_machine::specs::Machine::refusal, jm_machine::specs::Machine::reply, jm_machine::specs::Machine::step, jm_machine::specs::Machine::after, jm_machine::specs::Machine::answer, jm_machine::specs::Machine::rows_for, jm_machine::specs::Life::life_after))]
+    #[tactic(auto, unfolding(jm_machine::specs::Machine::refusal, jm_machine::specs::Machine::reply, jm_machine::specs::Machine::step, jm_machine::specs::Machine::after, jm_machine::specs::Machine::answer, jm_machine::specs::Life::life_after, jm_machine::specs::Wants::may_want))]
     fn create_session(&mut self, id: &SessionId, mode: Mode) -> Result<Answer, Refusal>
         ensures { StepFits self.old (Who.Session id.now) (Call.Ask (Request.CreateSession mode)) result self.new }
     {
@@ -335,7 +308,7 @@ impl Core {
         }
     }
 
-    #[tactic(auto, unfolding(jm_machine::specs::Machine::refusal, jm_machine::specs::Machine::reply, jm_machine::specs::Machine::step, jm_machine::specs::Machine::after, jm_machine::specs::Machine::answer, jm_machine::specs::Machine::rows_for, jm_machine::specs::Life::life_after))]
+    #[tactic(auto, unfolding(jm_machine::specs::Machine::refusal, jm_machine::specs::Machine::reply, jm_machine::specs::Machine::step, jm_machine::specs::Machine::after, jm_machine::specs::Machine::answer, jm_machine::specs::Life::life_after))]
     fn create_consumer(
         &mut self,
         session: &SessionId,
@@ -362,7 +335,7 @@ impl Core {
         topic: &Name,
         selector: &Option<Str>,
     ) -> Result<(), Refusal>
-        ensures ok { OnOk result (self.new ≡ joined session.now id (Key.Own session.now id) (put (Key.Own session.now id) (defined topic.now selector.now) self.old)) }
+        ensures ok { OnOk result (self.new ≡ machine.joined session.now id (Key.Own session.now id) (machine.put (Key.Own session.now id) (machine.defined topic.now selector.now) self.old)) }
         ensures valid { OnOk result (selector_refusal selector.now ≡ None) }
         ensures refused { IfErr result (λ refusal. refusal ≢ Memory → selector_refusal selector.now ≡ Some refusal) }
         ensures err { OnErr result (self.new ≡ self.old) }
@@ -389,7 +362,7 @@ impl Core {
         Ok(())
     }
 
-    #[tactic(auto, unfolding(jm_machine::specs::Machine::refusal, jm_machine::specs::Machine::reply, jm_machine::specs::Machine::step, jm_machine::specs::Machine::after, jm_machine::specs::Machine::answer, jm_machine::specs::Machine::rows_for, jm_machine::specs::Life::life_after))]
+    #[tactic(auto, unfolding(jm_machine::specs::Machine::refusal, jm_machine::specs::Machine::reply, jm_machine::specs::Machine::step, jm_machine::specs::Machine::after, jm_machine::specs::Machine::answer, jm_machine::specs::Life::life_after))]
     fn receive(
         &mut self,
         session: &SessionId,
@@ -398,20 +371,19 @@ impl Core {
     ) -> Result<Answer, Refusal>
         ensures { StepFits self.old (Who.Session session.now) (Call.Ask (Request.Receive id now)) result self.new }
     {
-        if !self.may_receive(session, id) {
+        if !self.is_open_session(session) {
             return Err(Refusal::IllegalState);
         }
-        if !self.is_started(session.connection) {
-            return Ok(Answer::Nothing);
+        match consumer_of(&self.consumers, session, id) {
+            None => Err(Refusal::IllegalState),
+            Some(consumer) => {
+                if !is_started(&self.connections, session.connection) {
+                    return Ok(Answer::Nothing);
+                }
+                let answer = deliver_from(self.alloc, &mut self.stations, &consumer.key, now);
+                Ok(answer)
+            }
         }
-        Ok(deliver_to(
-            self.alloc,
-            &self.consumers,
-            &mut self.stations,
-            session,
-            id,
-            now,
-        ))
     }
 
     #[tactic(auto, unfolding(jm_machine::specs::Machine::publish_refusal, jm_machine::specs::Machine::reply, jm_machine::specs::Machine::step))]
@@ -428,7 +400,7 @@ impl Core {
     }
 
     /// Publishes messages that the session stamped.
-    #[tactic(auto, unfolding(jm_machine::specs::Machine::publish_refusal, jm_machine::specs::Machine::reply, jm_machine::specs::Machine::step))]
+    #[tactic(auto, unfolding(jm_machine::specs::Machine::publish_refusal, jm_machine::specs::Machine::reply, jm_machine::specs::Machine::step, jm_machine::specs::Wants::may_want))]
     pub(crate) fn publish_from(
         &mut self,
         session: &SessionId,
@@ -450,8 +422,8 @@ impl Core {
 
     /// Brings the messages to the subscriptions that accept them, each at a place of its own.
     fn publish(&mut self, messages: &[Message]) -> Result<(), AllocError>
-        requires { self.old.next_place + length messages.now ≤ 9223372036854775808 }
-        ensures ok { OnOk result (self.new ≡ published_lem self.old messages.now) }
+        requires { self.old.next_place + length messages.now ≤ machine.places_end }
+        ensures ok { OnOk result (self.new ≡ machine.published self.old messages.now) }
         ensures err { OnErr result (self.new ≡ self.old) }
     {
         let stations = published(

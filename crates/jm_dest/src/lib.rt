@@ -8,8 +8,6 @@ mod moment;
 mod name;
 mod number;
 mod session;
-#[cfg(test)]
-mod tests;
 
 pub use destination::Destination;
 pub use key::Key;

@@ -1,13 +1,13 @@
 -- A condition is the condition of its value, and chains of AND and OR of conditions.
 use Rattle.std.proofs.Common.{◌≡◌, ℕ, ℤ, Bool, true, false, ◌||◌, List, [], ◌∷◌, map, fold, Option, refl, ap, sym, ◌∙◌}
 use Rattle.std.specs.List.{list_any}
-use Rattle.jm_syntax.specs.declared.tree.Comparison.{Comparison}
-use Rattle.jm_syntax.specs.declared.tree.Comparison.TheVariants.{Equal, Less, LessOrEqual, Greater, GreaterOrEqual}
-use Rattle.jm_syntax.specs.declared.tree.Tree.{Tree}
-use Rattle.jm_syntax.specs.declared.tree.Tree.TheOpen.{Tree-F}
-use Rattle.jm_syntax.specs.declared.tree.Tree.TheFolds.{fold-roll-Tree}
-use Rattle.jm_syntax.specs.declared.tree.Tree.TheVariants as e
-use Rattle.jm_syntax.specs.declared.tree.Tree.TheVariants.{rolls-Text, rolls-Name, rolls-Compare, rolls-Between, rolls-In, rolls-Like, rolls-IsNull, rolls-Not, rolls-All, rolls-AnyOf}
+use Rattle.jm_tree.specs.declared.tree.Comparison.{Comparison}
+use Rattle.jm_tree.specs.declared.tree.Comparison.TheVariants.{Equal, Less, LessOrEqual, Greater, GreaterOrEqual}
+use Rattle.jm_tree.specs.declared.tree.Tree.{Tree}
+use Rattle.jm_tree.specs.declared.tree.Tree.TheOpen.{Tree-F}
+use Rattle.jm_tree.specs.declared.tree.Tree.TheFolds.{fold-roll-Tree}
+use Rattle.jm_tree.specs.declared.tree.Tree.TheVariants as e
+use Rattle.jm_tree.specs.declared.tree.Tree.TheVariants.{rolls-Text, rolls-Name, rolls-Compare, rolls-Between, rolls-In, rolls-Like, rolls-IsNull, rolls-Not, rolls-All, rolls-AnyOf}
 use Rattle.jm_eval.specs.declared.truth.Truth.{Truth}
 use Rattle.jm_eval.specs.declared.truth.Truth.TheVariants as t
 use Rattle.jm_eval.specs.Values.{Value, Unknown, Boolean, Number, Text, truth_of, condition_of, value_of, not_of, and_of, or_of, comparison, between, texts_equal, is_among, is_in, is_like, is_null, negated_if}

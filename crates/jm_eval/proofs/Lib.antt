@@ -1,6 +1,7 @@
 pub mod Bounds
 pub mod Conditions
-pub mod Digits
 pub mod Ends
 pub mod Runs
 pub mod Pieces
+pub mod Decided
+pub mod Names

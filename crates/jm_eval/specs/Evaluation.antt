@@ -1,7 +1,7 @@
 -- The value of a selector over a view (Jakarta Messaging 3.1, section 3.8.1).
 use Rattle.std.specs.Prelude.{◌≡◌, true, ℕ, List, fold, Option, Some, None}
-use Rattle.jm_syntax.specs.declared.tree.Tree.{Tree, fold-Tree}
-use Rattle.jm_syntax.specs.declared.tree.Tree.TheOpen.{Tree-F}
+use Rattle.jm_tree.specs.declared.tree.Tree.{Tree, fold-Tree}
+use Rattle.jm_tree.specs.declared.tree.Tree.TheOpen.{Tree-F}
 use Rattle.jm_eval.specs.declared.truth.Truth.{Truth}
 use Rattle.jm_eval.specs.declared.truth.Truth.TheVariants as t
 use Rattle.jm_eval.specs.Values.{Value, Boolean, Number, Text, kept, negative, add, multiply, comparison, between, is_in, is_like, is_null, negated_if, not_of, and_of, or_of, condition_of, value_of}

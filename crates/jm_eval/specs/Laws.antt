@@ -1,8 +1,11 @@
 -- What the forms of a condition stand for, in the words of Jakarta Messaging 3.1, section 3.8.1.
-use Rattle.std.specs.Prelude.{◌≡◌, ℕ, true, false, List, [], ◌∷◌, map, Option}
-use Rattle.jm_syntax.specs.declared.tree.Comparison.TheVariants.{Equal, Less, LessOrEqual, Greater, GreaterOrEqual}
-use Rattle.jm_syntax.specs.declared.tree.Tree.{Tree}
-use Rattle.jm_syntax.specs.declared.tree.Tree.TheVariants as e
+use Rattle.std.specs.Prelude.{◌≡◌, ℕ, true, false, List, [], ◌∷◌, length, map, Option, Ok}
+use Rattle.jm_lexer.specs.Lex.{place}
+use Rattle.jm_lexer.specs.Lexes.{Lexes}
+use Rattle.jm_lexer.specs.declared.token.Kind.TheVariants as kinds
+use Rattle.jm_tree.specs.declared.tree.Comparison.TheVariants.{Equal, Less, LessOrEqual, Greater, GreaterOrEqual}
+use Rattle.jm_tree.specs.declared.tree.Tree.{Tree}
+use Rattle.jm_tree.specs.declared.tree.Tree.TheVariants as e
 use Rattle.jm_eval.specs.Values.{Value}
 use Rattle.jm_eval.specs.Evaluation.{value}
 
@@ -22,3 +25,7 @@ pub record AreNegations (view : List ℕ → Value) (name pattern : List ℕ) (l
   pub not_in : value view (e.In true name list) ≡ value view (e.Not (e.In false name list))
   pub not_like : value view (e.Like true name pattern escape) ≡ value view (e.Not (e.Like false name pattern escape))
   pub is_not_null : value view (e.IsNull true name) ≡ value view (e.Not (e.IsNull false name))
+
+-- the words of this text are one identifier, itself
+abbrev pub IsOneIdentifier : List ℕ → Type 0
+IsOneIdentifier name = Lexes name (Ok (place (kinds.Name name) 0 (length name) ∷ []))

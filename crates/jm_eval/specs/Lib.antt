@@ -1,7 +1,7 @@
 pub mod Patterns
 pub mod Values
-pub mod MessageIds
 pub mod Seen
+pub mod Same
 pub mod Views
 pub mod Evaluation
 pub mod Laws

@@ -1,7 +1,7 @@
 -- What contracts see of a value.
 use Rattle.jm_eval.specs.declared.value.Value.{Value as Reference}
 use Rattle.jm_eval.specs.declared.value.Value.TheVariants as v
-use Rattle.jm_eval.specs.MessageIds.{message_id}
+use Rattle.jm_header.specs.MessageIds.{message_id}
 use Rattle.jm_eval.specs.Values.{Value, Unknown, Boolean, Number, Text}
 
 -- a value, without where its text lies in memory

@@ -1,13 +1,14 @@
 -- The values of selectors, and the tables by which they are worked (Jakarta Messaging 3.1, section 3.8.1).
-use Rattle.std.specs.Prelude.{ℕ, ℤ, pos, negsuc, ◌+ℤ◌, ◌-ℤ◌, ◌*ℤ◌, neg_ℤ, int_div, int_lt, int_le, nat_eq, Bool, true, false, not, ◌&&◌, if◌then◌else◌, zero, List, Option, Some, None}
+use Rattle.std.specs.Prelude.{ℕ, ℤ, pos, ◌+ℤ◌, ◌-ℤ◌, ◌*ℤ◌, neg_ℤ, int_div, int_lt, int_le, nat_eq, Bool, true, false, not, ◌&&◌, if◌then◌else◌, zero, List, Option, Some, None}
 use Rattle.std.specs.List.{list_any}
 use Rattle.std.specs.Cmp.Lexicographic.{pointwise}
-use Rattle.jm_syntax.specs.declared.tree.Comparison.{Comparison}
-use Rattle.jm_syntax.specs.declared.tree.Comparison.TheVariants.{Equal, NotEqual, Less, LessOrEqual, Greater, GreaterOrEqual}
-use Rattle.jm_syntax.specs.declared.tree.Additive.{Additive}
-use Rattle.jm_syntax.specs.declared.tree.Additive.TheVariants.{Plus, Minus}
-use Rattle.jm_syntax.specs.declared.tree.Multiplicative.{Multiplicative}
-use Rattle.jm_syntax.specs.declared.tree.Multiplicative.TheVariants.{Times, Divide}
+use Rattle.jm_tree.specs.Operators.{least}
+use Rattle.jm_tree.specs.declared.tree.Comparison.{Comparison}
+use Rattle.jm_tree.specs.declared.tree.Comparison.TheVariants.{Equal, NotEqual, Less, LessOrEqual, Greater, GreaterOrEqual}
+use Rattle.jm_tree.specs.declared.tree.Additive.{Additive}
+use Rattle.jm_tree.specs.declared.tree.Additive.TheVariants.{Plus, Minus}
+use Rattle.jm_tree.specs.declared.tree.Multiplicative.{Multiplicative}
+use Rattle.jm_tree.specs.declared.tree.Multiplicative.TheVariants.{Times, Divide}
 use Rattle.jm_eval.specs.declared.truth.Truth.{Truth}
 use Rattle.jm_eval.specs.declared.truth.Truth.TheVariants as t
 use Rattle.jm_eval.specs.Patterns.{items, matches}
@@ -66,9 +67,13 @@ negated_if negated truth = if negated then not_of truth else truth
 
 -- ---- arithmetic on whole numbers without bounds
 
+-- 2^63-1, the greatest number
+abbrev pub greatest : ℤ
+greatest = pos 9223372036854775807
+
 -- a whole number of 64 bits, -2^63 to 2^63-1; there is none outside
 abbrev pub bounded : ℤ → Option ℤ
-bounded z = if int_le (negsuc 9223372036854775807) z && int_le z (pos 9223372036854775807) then Some z else None
+bounded z = if int_le least z && int_le z greatest then Some z else None
 
 -- the quotient, which truncates towards zero; there is none by zero
 abbrev pub quotient : ℤ → ℤ → Option ℤ

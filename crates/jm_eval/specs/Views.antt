@@ -8,7 +8,7 @@ use Rattle.jm_property.specs.declared.property.Property.TheVariants as propertie
 use Rattle.jm_property.specs.Properties.{value_of}
 use Rattle.jm_eval.specs.declared.view.Field.{Field}
 use Rattle.jm_eval.specs.declared.view.Field.TheVariants as fields
-use Rattle.jm_eval.specs.MessageIds.{message_id}
+use Rattle.jm_header.specs.MessageIds.{message_id}
 use Rattle.jm_eval.specs.Values.{Value, Unknown, Boolean, Number, Text, texts_equal}
 
 -- the header field of that name, if selectors see it

@@ -14,7 +14,7 @@ use crate::value::{
 use crate::view::named;
 use jm_base::Str;
 use jm_header::Message;
-use jm_syntax::{Additive, Comparison, Multiplicative, Tree};
+use jm_tree::{Additive, Comparison, Multiplicative, Tree};
 
 /// The value of a tree over a message (Jakarta Messaging 3.1, section 3.8.1). Takes no memory.
 #[cycle(evaluation)]
@@ -120,7 +120,7 @@ fn product<'a>(
     total
 }
 
-/// A chain of AND.
+/// A chain of AND, up to the first member that is FALSE.
 #[cycle(evaluation)]
 fn all(members: &[Tree], message: &Message) -> Truth
     ensures { result ≡ fold spec.and_next True (map (spec.value (view message.now)) members.now) }
@@ -128,11 +128,14 @@ fn all(members: &[Tree], message: &Message) -> Truth
     let mut truth = Truth::True;
     for member in members {
         truth = and_of(truth, condition_of(eval(member, message)));
+        if let Truth::False = truth {
+            return Truth::False;
+        }
     }
     truth
 }
 
-/// A chain of OR.
+/// A chain of OR, up to the first member that is TRUE.
 #[cycle(evaluation)]
 fn any_of(members: &[Tree], message: &Message) -> Truth
     ensures { result ≡ fold spec.or_next False (map (spec.value (view message.now)) members.now) }
@@ -140,6 +143,9 @@ fn any_of(members: &[Tree], message: &Message) -> Truth
     let mut truth = Truth::False;
     for member in members {
         truth = or_of(truth, condition_of(eval(member, message)));
+        if let Truth::True = truth {
+            return Truth::True;
+        }
     }
     truth
 }

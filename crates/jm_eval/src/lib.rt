@@ -5,17 +5,13 @@
 mod arithmetic;
 mod evaluation;
 mod laws;
-mod message_id;
 mod pattern;
-#[cfg(test)]
-mod tests;
 mod truth;
 mod value;
 mod view;
 
 pub use evaluation::{condition, eval, selects};
-pub use laws::{law_between, law_in, law_negations};
-pub use message_id::{MessageIdText, message_id_text};
+pub use laws::{law_between, law_in, law_names, law_negations};
 pub use pattern::{Item, law_fits, like};
 pub use truth::Truth;
 pub use value::Value;

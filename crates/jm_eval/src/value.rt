@@ -1,18 +1,18 @@
-ghost use Rattle.std.specs.Prelude.{◌≡◌};
+ghost use Rattle.std.specs.Prelude.{◌≡◌, ◌↔◌, IsTrue};
+ghost use Rattle.jm_eval.specs.Same as same;
 ghost use Rattle.jm_eval.specs.Values as spec;
 ghost use Rattle.jm_eval.specs.Seen.{seen};
 
 use crate::arithmetic::{difference_of, negative_of, product_of, quotient_of, sum_of};
-use crate::message_id::message_id_text;
 use crate::pattern::is_match;
 use crate::truth::{Truth, and_of, or_of, truth_of};
 use jm_base::Str;
 use jm_header::Message;
-use jm_syntax::{Additive, Comparison, Multiplicative};
+use jm_tree::{Additive, Comparison, Multiplicative};
 
-/// The value of a selector or of a part of it. `==` is that of the variants: a `Text` and a
-/// `MessageId` are never equal.
-#[derive(Clone, Copy, Debug, PartialEq)]
+/// The value of a selector or of a part of it. `==` is that of what contracts see: a `MessageId` equals
+/// the `Text` of its text.
+#[derive(Clone, Copy, Debug)]
 pub enum Value<'a> {
     /// None of the others: of an identifier that is NULL, and of a condition that is neither TRUE
     /// nor FALSE.
@@ -25,6 +25,45 @@ pub enum Value<'a> {
     Text(&'a str),
     /// The text of the JMSMessageID of this message, which is not written until it is asked for.
     MessageId(&'a Message),
+}
+
+/// Two values by what contracts see of them.
+fn is_same(left: Value<'_>, right: Value<'_>) -> bool
+    ensures { result ≡ same.value_eq (seen left.entry) (seen right.entry) }
+{
+    match (left, right) {
+        (Value::Unknown, Value::Unknown) => true,
+        (Value::Bool(left), Value::Bool(right)) => left == right,
+        (Value::Number(left), Value::Number(right)) => left == right,
+        (Value::Text(left), Value::Text(right)) => left == right,
+        (Value::Text(left), Value::MessageId(right)) => left == right.message_id().as_str(),
+        (Value::MessageId(left), Value::Text(right)) => left.message_id().as_str() == right,
+        (Value::MessageId(left), Value::MessageId(right)) => {
+            left.message_id().as_str() == right.message_id().as_str()
+        }
+        _ => false,
+    }
+}
+
+impl<'a> Value<'a> {
+    /// Whether both values are the same in all that contracts see. Takes no memory.
+    pub fn is(self, other: Value<'_>) -> bool
+        ensures { IsTrue result ↔ (seen self.entry ≡ seen other.entry) }
+    {
+        is_same(self, other)
+    }
+}
+
+impl<'a> PartialEq for Value<'a> {
+    ghost use Rattle.jm_eval.specs.Same.{seen_eq, seen_laws};
+
+    ghost eq = { seen_eq };
+
+    ghost laws = { seen_laws };
+
+    fn eq(&self, other: &Value<'a>) -> bool {
+        is_same(*self, *other)
+    }
 }
 
 /// A number, or UNKNOWN where there is none.
@@ -156,17 +195,13 @@ pub(crate) fn comparison(op: Comparison, left: Value<'_>, right: Value<'_>) -> T
         (Value::Bool(left), Value::Bool(right)) => truth_of(equality_compares(op, left == right)),
         (Value::Text(left), Value::Text(right)) => texts_compare(op, left, right),
         (Value::Text(left), Value::MessageId(right)) => {
-            texts_compare(op, left, message_id_text(right).as_str())
+            texts_compare(op, left, right.message_id().as_str())
         }
         (Value::MessageId(left), Value::Text(right)) => {
-            texts_compare(op, message_id_text(left).as_str(), right)
+            texts_compare(op, left.message_id().as_str(), right)
         }
         (Value::MessageId(left), Value::MessageId(right)) => {
-            texts_compare(
-                op,
-                message_id_text(left).as_str(),
-                message_id_text(right).as_str(),
-            )
+            texts_compare(op, left.message_id().as_str(), right.message_id().as_str())
         }
         _ => Truth::False,
     }
@@ -204,7 +239,7 @@ pub(crate) fn is_in(value: Value<'_>, list: &[Str]) -> Truth
     match value {
         Value::Unknown => Truth::Unknown,
         Value::Text(text) => truth_of(is_among(text, list)),
-        Value::MessageId(message) => truth_of(is_among(message_id_text(message).as_str(), list)),
+        Value::MessageId(message) => truth_of(is_among(message.message_id().as_str(), list)),
         _ => Truth::False,
     }
 }
@@ -217,7 +252,7 @@ pub(crate) fn is_like(value: Value<'_>, pattern: &str, escape: Option<char>) -> 
         Value::Unknown => Truth::Unknown,
         Value::Text(text) => truth_of(is_match(text, pattern, escape)),
         Value::MessageId(message) => truth_of(is_match(
-            message_id_text(message).as_str(),
+            message.message_id().as_str(),
             pattern,
             escape,
         )),

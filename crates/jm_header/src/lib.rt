@@ -6,12 +6,12 @@ mod body;
 mod content;
 mod draft;
 mod message;
+mod message_id;
 mod stamping;
-#[cfg(test)]
-mod tests;
 
 pub use body::Body;
 pub use content::{Content, DeliveryMode, Sender, Settings};
 pub use draft::Draft;
 pub use message::Message;
+pub use message_id::MessageIdText;
 pub use stamping::stamp;

@@ -33,8 +33,8 @@ impl Model for Message {
 }
 
 impl Message {
-    /// The message of those fields.
-    pub(crate) fn new(alloc: Global, content: Content) -> Message
+    /// The message of those fields, which must be those of a stamped message. Takes no memory.
+    pub fn new(alloc: Global, content: Content) -> Message
         requires { IsValid content }
         ensures { result ≡ content }
     {

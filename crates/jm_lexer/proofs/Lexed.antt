@@ -9,7 +9,7 @@ use Rattle.jm_lexer.specs.Faults.{Gives}
 use Rattle.jm_lexer.specs.Faults.{fault_at}
 use Rattle.jm_lexer.specs.Words.{is_blank}
 use Rattle.jm_lexer.specs.Lex.{front, lex_from, place, tokens}
-use Rattle.jm_lexer.specs.Lexes.{Longest, followed, LexesFrom, end, blank, token, wrong, Lexes}
+use Rattle.jm_lexer.specs.Lexes.{Longest, followed, LexesFrom, end, blank, token, wrong, Lexes, Answers}
 use Rattle.jm_lexer.proofs.Contents.{drop_at}
 use Rattle.jm_lexer.proofs.Lexing.{one_end, one_skip, one_fail, one_take}
 use Rattle.jm_lexer.proofs.Best.{best, outcome, front_best, best_longest, longest_best, word_some}
@@ -171,6 +171,9 @@ pub lexed_only : (text : List ℕ) (found : Reply) → Lexes text found → foun
 unfolding tokens
 lexed_only text found l = sym (only_from 0 text found l text (length text) [] refl (omega arith) (omega arith) ∙ joined_none found)
 
-pub gives_lexed : (text : List ℕ) (result : Reply) → Gives result (tokens text) → IfOk result (λ toks. Lexes text (Ok toks))
+pub lexed_tokens : (text : List ℕ) (found : Reply) → Lexes text found → tokens text ≡ found
+lexed_tokens text found l = sym (lexed_only text found l)
+
+pub gives_lexed : (text : List ℕ) (result : Reply) → Gives result (tokens text) → Answers text result
 gives_lexed text (Ok toks) h = subst (Lexes text) h (tokens_lexed text)
-gives_lexed text (Err e) h = tt
+gives_lexed text (Err e) h = λ no_want. subst (Lexes text) (h no_want) (tokens_lexed text)

@@ -1,5 +1,5 @@
 -- The tokens of a text, apart from any order of reading: whitespace and words in turn, each the longest at its place.
-use Rattle.std.specs.Prelude.{◌≡◌, ℕ, ◌+◌, ◌≤◌, ◌==◌, Bool, true, not, ◌||◌, if◌then◌else◌, List, [], ◌∷◌, ◌++◌, length, take, drop, Some, is_some, Result, Ok, Err}
+use Rattle.std.specs.Prelude.{◌≡◌, ◌≢◌, ℕ, ◌+◌, ◌≤◌, ◌==◌, Bool, true, not, ◌||◌, if◌then◌else◌, List, [], ◌∷◌, ◌++◌, length, take, drop, Some, is_some, Result, Ok, Err}
 use Rattle.std.specs.List.{list_all}
 use Rattle.jm_base.specs.declared.refusal.Cause.{Cause}
 use Rattle.jm_base.specs.declared.refusal.Cause.TheVariants as causes
@@ -58,3 +58,8 @@ pub data LexesFrom : ℕ → List ℕ → Result (List Token) SyntaxFault → Ty
 -- the text has these tokens, or this first lexical fault
 abbrev pub Lexes : List ℕ → Result (List Token) SyntaxFault → Type 0
 Lexes text found = LexesFrom 0 text found
+
+-- what a reader of words answers: the tokens, or the first lexical fault, unless memory runs out
+abbrev pub Answers : List ℕ → Result (List Token) SyntaxFault → Type 0
+Answers text (Ok toks) = Lexes text (Ok toks)
+Answers text (Err e) = e.cause ≢ causes.Memory → Lexes text (Err e)

@@ -1,10 +1,13 @@
 -- Characters, keywords and numbers.
-use Rattle.std.specs.Prelude.{ℕ, ◌+◌, ◌-◌, ◌*◌, ◌==◌, nat_lt, nat_le, Bool, false, ◌&&◌, ◌||◌, if◌then◌else◌, List, [], ◌∷◌, length, take, slice_index, Option, Some, None, Result, Ok, Err, codes}
-use Rattle.std.specs.Char.{is_ascii_digit, is_ascii_alphabetic, digit_value}
+use Rattle.std.specs.Prelude.{ℕ, ◌+◌, ◌-◌, ◌*◌, ◌==◌, nat_lt, nat_le, Bool, false, ◌&&◌, ◌||◌, if◌then◌else◌, List, [], ◌∷◌, length, take, slice_index, Option, Some, None, Result, Ok, Err}
+use Rattle.std.specs.Char.{is_ascii_digit, digit_value}
 use Rattle.std.specs.List.{prefix_len, list_all, list_any}
-use Rattle.std.specs.Str.{str_eq_ignore_ascii_case}
+use Rattle.std.specs.Option.{option_map}
 use Rattle.jm_base.specs.declared.refusal.Cause.{Cause}
 use Rattle.jm_base.specs.declared.refusal.Cause.TheVariants as causes
+use Rattle.jm_identifier.specs.Words as words
+use Rattle.jm_identifier.specs.declared.word.Keyword.{Keyword}
+use Rattle.jm_identifier.specs.declared.word.Keyword.TheVariants as keywords
 use Rattle.jm_lexer.specs.declared.token.Mark.{Mark}
 use Rattle.jm_lexer.specs.declared.token.Mark.TheVariants as m
 use Rattle.jm_lexer.specs.declared.token.Kind.{Kind}
@@ -19,13 +22,13 @@ if_some (Some a) other f = f a
 abbrev pub limit : ℕ
 limit = 9223372036854775808
 
--- an ASCII letter, `_` or `$`
+-- a letter
 abbrev pub is_letter : ℕ → Bool
-is_letter b = is_ascii_alphabetic b || b == 95 || b == 36
+is_letter b = words.is_letter b
 
 -- what an identifier goes on with: a letter or a digit
 abbrev pub is_word : ℕ → Bool
-is_word b = is_letter b || is_ascii_digit b
+is_word b = words.is_letter_or_digit b
 
 -- what a number word goes on with: a letter, a digit or a `.`
 abbrev pub is_number : ℕ → Bool
@@ -35,21 +38,23 @@ is_number b = is_word b || b == 46
 abbrev pub is_blank : ℕ → Bool
 is_blank b = b == 32 || b == 9 || b == 12 || b == 10 || b == 13
 
+-- a keyword as a token
+abbrev pub mark_of : Keyword → Mark
+mark_of keywords.Null = m.Null
+mark_of keywords.True = m.True
+mark_of keywords.False = m.False
+mark_of keywords.Not = m.Not
+mark_of keywords.And = m.And
+mark_of keywords.Or = m.Or
+mark_of keywords.Between = m.Between
+mark_of keywords.Like = m.Like
+mark_of keywords.In = m.In
+mark_of keywords.Is = m.Is
+mark_of keywords.Escape = m.Escape
+
 -- the keyword that a word is, in any ASCII case
 unfoldable pub keyword_of : List ℕ → Option Mark
-keyword_of w =
-    if str_eq_ignore_ascii_case w (codes "null") then Some m.Null
-    else (if str_eq_ignore_ascii_case w (codes "true") then Some m.True
-    else (if str_eq_ignore_ascii_case w (codes "false") then Some m.False
-    else (if str_eq_ignore_ascii_case w (codes "not") then Some m.Not
-    else (if str_eq_ignore_ascii_case w (codes "and") then Some m.And
-    else (if str_eq_ignore_ascii_case w (codes "or") then Some m.Or
-    else (if str_eq_ignore_ascii_case w (codes "between") then Some m.Between
-    else (if str_eq_ignore_ascii_case w (codes "like") then Some m.Like
-    else (if str_eq_ignore_ascii_case w (codes "in") then Some m.In
-    else (if str_eq_ignore_ascii_case w (codes "is") then Some m.Is
-    else (if str_eq_ignore_ascii_case w (codes "escape") then Some m.Escape
-    else None))))))))))
+keyword_of w = option_map mark_of (words.keyword_of w)
 
 -- a word is its keyword, or an identifier
 abbrev pub word_kind : List ℕ → Kind

@@ -2,17 +2,17 @@ ghost use Rattle.std.specs.Prelude.{◌≡◌, ◌≢◌, ◌+◌, ◌<◌, ◌�
 ghost use Rattle.std.specs.Str.{IsUtf8};
 ghost use Rattle.jm_lexer.specs.Lex as spec;
 ghost use Rattle.jm_lexer.specs.Faults.{Gives};
-ghost use Rattle.jm_lexer.specs.Lexes.{Lexes};
+ghost use Rattle.jm_lexer.specs.Lexes.{Answers, Lexes};
 ghost use Rattle.jm_lexer.specs.declared.fault.SyntaxFault.{SyntaxFault};
 ghost use Rattle.jm_lexer.specs.declared.token.Token.{Token};
 
 use crate::fault::SyntaxFault;
 use crate::token::{Kind, Token};
 use crate::words::{
-    begins_number, is_blank, is_letter, keyword_of, number_len, number_of, one_sign, two_sign,
-    word_len,
+    begins_number, is_blank, keyword_of, number_len, number_of, one_sign, two_sign, word_len,
 };
 use jm_base::{Cause, List, Str};
+use jm_identifier::is_letter;
 use std::alloc::{AllocError, Global};
 
 /// The text of these bytes.
@@ -171,13 +171,12 @@ fn tokens_of(alloc: Global, text: &str) -> Result<List<Token>, SyntaxFault>
 /// by one of `e E f F d D`, else Number; so is a value above 2^63 (ours). Memory where a request for
 /// memory was refused.
 pub fn lex(alloc: Global, text: &str) -> Result<List<Token>, SyntaxFault>
-    // Which tokens, or which fault.
-    ensures exact { Gives result (spec.tokens text.now) }
-    // The text is whitespace and the words of these tokens in turn, each the longest at its place.
-    ensures lexed { IfOk result (λ toks. Lexes text.now (Ok toks)) }
-    // A text has such tokens, or a first longest word that is none,
+    // The text is whitespace and the words of these tokens in turn, each the longest at its place; a
+    // fault stands at the first longest word that is none.
+    ensures lexed { Answers text.now result }
+    // A text has such tokens or such a fault,
     ensures some { Lexes text.now (spec.tokens text.now) }
-    // and never two of these: a lexical fault is answered exactly where there are no such tokens.
+    // and never two of these.
     ensures only { (found : Result (List Token) SyntaxFault) → Lexes text.now found → found ≡ spec.tokens text.now }
 {
     tokens_of(alloc, text)

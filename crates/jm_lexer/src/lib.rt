@@ -3,8 +3,6 @@
 
 mod fault;
 mod lexer;
-#[cfg(test)]
-mod tests;
 mod token;
 mod words;
 

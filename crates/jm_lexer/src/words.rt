@@ -5,29 +5,16 @@ ghost use Rattle.jm_lexer.specs.Words as spec;
 
 use crate::token::Mark;
 use jm_base::Cause;
+use jm_identifier::{Keyword, is_letter_or_digit};
 
 /// The greatest value of a number, 2^63.
 const LIMIT: u64 = 1 << 63;
-
-/// An ASCII letter, `_` or `$`.
-pub(crate) fn is_letter(b: u8) -> bool
-    ensures { result ≡ spec.is_letter b }
-{
-    b.is_ascii_alphabetic() || b == b'_' || b == b'$'
-}
-
-/// A letter or a digit.
-pub(crate) fn is_word(b: u8) -> bool
-    ensures { result ≡ spec.is_word b }
-{
-    is_letter(b) || b.is_ascii_digit()
-}
 
 /// A letter, a digit or a `.`.
 pub(crate) fn is_number(b: u8) -> bool
     ensures { result ≡ spec.is_number b }
 {
-    is_word(b) || b == b'.'
+    is_letter_or_digit(b) || b == b'.'
 }
 
 /// Space, tab, form feed, line feed and carriage return.
@@ -54,7 +41,7 @@ pub(crate) fn word_len(z: &[u8]) -> usize
     ensures within { result ≤ length z.now }
 {
     let mut end = 0;
-    while end < z.len() && is_word(z[end]) {
+    while end < z.len() && is_letter_or_digit(z[end]) {
         end += 1;
     }
     end
@@ -72,35 +59,32 @@ pub(crate) fn number_len(z: &[u8]) -> usize
     end
 }
 
+fn mark_of(keyword: Keyword) -> Mark
+    ensures { result ≡ spec.mark_of keyword }
+{
+    match keyword {
+        Keyword::Null => Mark::Null,
+        Keyword::True => Mark::True,
+        Keyword::False => Mark::False,
+        Keyword::Not => Mark::Not,
+        Keyword::And => Mark::And,
+        Keyword::Or => Mark::Or,
+        Keyword::Between => Mark::Between,
+        Keyword::Like => Mark::Like,
+        Keyword::In => Mark::In,
+        Keyword::Is => Mark::Is,
+        Keyword::Escape => Mark::Escape,
+    }
+}
+
 /// The keyword that a word is, in any ASCII case.
 #[tactic(auto, unfolding(crate::specs::Words::keyword_of))]
 pub(crate) fn keyword_of(word: &[u8]) -> Option<Mark>
     ensures { result ≡ spec.keyword_of word.now }
 {
-    if word.eq_ignore_ascii_case(b"null") {
-        Some(Mark::Null)
-    } else if word.eq_ignore_ascii_case(b"true") {
-        Some(Mark::True)
-    } else if word.eq_ignore_ascii_case(b"false") {
-        Some(Mark::False)
-    } else if word.eq_ignore_ascii_case(b"not") {
-        Some(Mark::Not)
-    } else if word.eq_ignore_ascii_case(b"and") {
-        Some(Mark::And)
-    } else if word.eq_ignore_ascii_case(b"or") {
-        Some(Mark::Or)
-    } else if word.eq_ignore_ascii_case(b"between") {
-        Some(Mark::Between)
-    } else if word.eq_ignore_ascii_case(b"like") {
-        Some(Mark::Like)
-    } else if word.eq_ignore_ascii_case(b"in") {
-        Some(Mark::In)
-    } else if word.eq_ignore_ascii_case(b"is") {
-        Some(Mark::Is)
-    } else if word.eq_ignore_ascii_case(b"escape") {
-        Some(Mark::Escape)
-    } else {
-        None
+    match jm_identifier::keyword_of(word) {
+        None => None,
+        Some(keyword) => Some(mark_of(keyword)),
     }
 }
 

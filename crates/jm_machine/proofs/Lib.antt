@@ -1,3 +1,5 @@
 pub mod Same
 pub mod Selectors
 pub mod SelectorExamples
+pub mod Reaches
+pub mod Order

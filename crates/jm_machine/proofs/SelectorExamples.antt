@@ -2,22 +2,22 @@
 use Rattle.std.proofs.Common.{◌≡◌, ◌∙◌, ℕ, zero, suc, ◌+◌, ℤ, pos, Bool, true, false, cond, List, [], ◌∷◌, ◌++◌, Option, Some, None, Result, Ok, Err, refl, ap, sym}
 use Rattle.std.specs.Prelude.{codes, if◌then◌else◌}
 use Rattle.jm_base.specs.declared.refusal.Cause.TheVariants.{Expected}
-use Rattle.jm_syntax.specs.declared.tree.Comparison.TheVariants.{Greater}
-use Rattle.jm_syntax.specs.declared.tree.Comparison.{Comparison}
+use Rattle.jm_tree.specs.declared.tree.Comparison.TheVariants.{Greater}
+use Rattle.jm_tree.specs.declared.tree.Comparison.{Comparison}
 use Rattle.jm_lexer.specs.declared.fault.SyntaxFault.{SyntaxFault}
-use Rattle.jm_syntax.specs.declared.tree.Tree.{Tree, out-Tree, out-roll-Tree}
-use Rattle.jm_syntax.specs.declared.tree.Tree.TheOpen.{Tree-F}
-use Rattle.jm_syntax.specs.declared.tree.Tree.TheVariants as e
-use Rattle.jm_syntax.specs.declared.tree.Tree.TheVariants.{rolls-Name, rolls-Num, rolls-Compare}
+use Rattle.jm_tree.specs.declared.tree.Tree.{Tree, out-Tree, out-roll-Tree}
+use Rattle.jm_tree.specs.declared.tree.Tree.TheOpen.{Tree-F}
+use Rattle.jm_tree.specs.declared.tree.Tree.TheVariants as e
+use Rattle.jm_tree.specs.declared.tree.Tree.TheVariants.{rolls-Name, rolls-Num, rolls-Compare}
 use Rattle.jm_lexer.specs.Faults.{fault_at}
-use Rattle.jm_syntax.specs.Input.{start, kind, next as next_input, left, sees, after as after_mark, expect, operator_at, after_operator, text, noted, is_end}
+use Rattle.jm_tree.specs.Input.{start, kind, next as next_input, left, sees, after as after_mark, expect, operator_at, after_operator, text, noted, is_end}
 use Rattle.jm_lexer.specs.Words.{keyword_of, stem, number_of}
 use Rattle.jm_lexer.specs.Lex.{content, word_front, number_front, front, lex_from, tokens}
-use Rattle.jm_syntax.specs.Sorts.{sort_of}
-use Rattle.jm_syntax.specs.Grammar.{settle, chain_from, chain, named, primary, signed, minus, plus, unary, product, sum, compared, test, condition as condition_rule, both, either, below}
-use Rattle.jm_syntax.specs.Answer.{settled, finished, whole, answer as grammar_answer}
-use Rattle.jm_syntax.specs.Parse.{parsed}
-use Rattle.jm_syntax.specs.declared.tree.Tree.TheFolds.{fold-roll-Tree}
+use Rattle.jm_tree.specs.Sorts.{sort_of}
+use Rattle.jm_tree.specs.FaultOrder.{settle, chain_from, chain, named, primary, signed, minus, plus, unary, product, sum, compared, tested, condition as condition_rule, both, either, below}
+use Rattle.jm_tree.specs.Answer.{settled, finished, whole, answer as grammar_answer}
+use Rattle.jm_tree.specs.Parse.{parsed}
+use Rattle.jm_tree.specs.declared.tree.Tree.TheFolds.{fold-roll-Tree}
 use Rattle.jm_base.specs.declared.mode.Mode.TheVariants.{Auto}
 use Rattle.jm_base.specs.declared.refusal.Refusal.{Refusal}
 use Rattle.jm_base.specs.declared.refusal.Refusal.TheVariants.{IllegalState, InvalidSelector}
@@ -42,9 +42,9 @@ use Rattle.jm_machine.specs.declared.state.PlacedRow.{PlacedRow}
 use Rattle.jm_machine.specs.Life.{life_after, own_life}
 use Rattle.jm_machine.specs.Rows.{fresh, is_next, left_of}
 use Rattle.jm_machine.specs.Selectors.{read_refusal, selector_refusal, standing, holds, selects, read_selects}
-use Rattle.jm_machine.specs.Machine.{new_core, defined, accepts, published, refusal, publish_refusal, after as after_call, answer, rows_for, replied, moved, reply, step}
+use Rattle.jm_machine.specs.Machine.{Publisher, new_core, defined, accepts, published, refusal, publish_refusal, after as after_call, answer, replied, moved, reply, step}
 use Rattle.jm_machine.specs.Client.{Progress, one_more, reply_to, progress_to, replies_to}
-use Rattle.jm_machine.specs.Entries.{entries_of, life_after_entry, committed, state_after_entry}
+use Rattle.jm_machine.specs.Entries.{entries_of, life_after_entry, committed}
 use Rattle.jm_machine.specs.Lone.{lone_of, lone_did, is_answered, feed}
 use Rattle.jm_machine.specs.Isolation.{alone}
 use Rattle.jm_machine.specs.Examples.{new_run, receiver, publisher, topic, text as text_of, send, receive, ok, none, got}
@@ -67,11 +67,11 @@ node_compare : (op : Comparison) (left right : Tree) → out-Tree (e.Compare op 
 node_compare op left right = ap out-Tree (sym (rolls-Compare op left right)) ∙ out-roll-Tree (Tree-F.Compare op left right)
 
 pub positive_read : parsed positive ≡ Ok (Some above_zero)
-unfolding start kind next_input left sees after_mark expect operator_at after_operator text noted is_end keyword_of stem number_of content word_front number_front front lex_from tokens sort_of settle chain_from chain named primary signed minus plus unary product sum compared test condition_rule both either below settled finished whole grammar_answer parsed
+unfolding start kind next_input left sees after_mark expect operator_at after_operator text noted is_end keyword_of stem number_of content word_front number_front front lex_from tokens sort_of settle chain_from chain named primary signed minus plus unary product sum compared tested condition_rule both either below settled finished whole grammar_answer parsed
 positive_read = rw (node_name (codes "x"), node_num (pos 0), node_compare Greater (e.Name (codes "x")) (e.Num (pos 0))) refl
 
 pub cut_short : parsed (codes "x = ") ≡ Err (fault_at 4 Expected)
-unfolding start kind next_input left sees after_mark expect operator_at after_operator text noted is_end keyword_of stem number_of content word_front number_front front lex_from tokens sort_of settle chain_from chain named primary signed minus plus unary product sum compared test condition_rule both either below settled finished whole grammar_answer parsed
+unfolding start kind next_input left sees after_mark expect operator_at after_operator text noted is_end keyword_of stem number_of content word_front number_front front lex_from tokens sort_of settle chain_from chain named primary signed minus plus unary product sum compared tested condition_rule both either below settled finished whole grammar_answer parsed
 cut_short = refl
 
 pub blank : parsed (codes " ") ≡ Ok None
@@ -136,21 +136,25 @@ positive_defined = ap (λ (r : Result (Option Tree) SyntaxFault). record { topic
 abbrev sent : Settings → ℕ → Content
 sent draft n = message_of draft (Topic topic) (record { opening = 1; session = publisher }) n 1000
 
-positive_accepts : (draft : Settings) (n : ℕ) → accepts (Own receiver 1) positive_definition (sent draft n) ≡ holds (condition_of (value_of (comparison Greater (view (sent draft n) (codes "x")) (Number (pos 0)))))
+-- who publishes it
+abbrev by_publisher : Publisher
+by_publisher = record { connection = 2; client = None }
+
+positive_accepts : (draft : Settings) (n : ℕ) → accepts (Own receiver 1) positive_definition by_publisher (sent draft n) ≡ holds (condition_of (value_of (comparison Greater (view (sent draft n) (codes "x")) (Number (pos 0)))))
 unfolding accepts selects
 positive_accepts draft n =
     ap (λ (r : Result (Option Tree) SyntaxFault). read_selects r (sent draft n)) positive_read
     ∙ ap (λ (v : Value). holds (condition_of v)) (positive_value (view (sent draft n)))
 
-accepts_one : accepts (Own receiver 1) positive_definition (sent (with_x (pos 1) 97) 1) ≡ true
+accepts_one : accepts (Own receiver 1) positive_definition by_publisher (sent (with_x (pos 1) 97) 1) ≡ true
 unfolding view
 accepts_one = positive_accepts (with_x (pos 1) 97) 1
 
-rejects_zero : accepts (Own receiver 1) positive_definition (sent (with_x (pos 0) 98) 2) ≡ false
+rejects_zero : accepts (Own receiver 1) positive_definition by_publisher (sent (with_x (pos 0) 98) 2) ≡ false
 unfolding view
 rejects_zero = positive_accepts (with_x (pos 0) 98) 2
 
-rejects_none : accepts (Own receiver 1) positive_definition (sent (text_of 99) 3) ≡ false
+rejects_none : accepts (Own receiver 1) positive_definition by_publisher (sent (text_of 99) 3) ≡ false
 unfolding view
 rejects_none = positive_accepts (text_of 99) 3
 
@@ -236,7 +240,7 @@ unfolding published publish_refusal step progress_to
 sends_none = choose _ (text_of 99) one 2 ∙ ap (after_send (text_of 99) one 2) rejects_none
 
 receives : replies_to (holding positive_definition one 3) (receive 1 1000 ∷ receive 1 1000 ∷ []) ≡ got (with_x (pos 1) 97) 1 1000 1 ∷ none ∷ []
-unfolding is_next left_of refusal after_call answer rows_for reply step reply_to progress_to
+unfolding is_next left_of refusal after_call answer reply step reply_to progress_to
 receives = refl
 
 -- what is received, and the replies from each send on
@@ -268,7 +272,7 @@ refused_replies = opened ++ Err (InvalidSelector 4 Expected) ∷ ok ∷ Err Ille
 
 -- what the consumer's subscription answers alone
 pub refused_alone : alone (Own receiver 1) (new_core 1) (entries_of 1 refused_calls refused_replies) ≡ (5, Err (InvalidSelector 4 Expected)) ∷ (6, ok) ∷ (7, Err IllegalState) ∷ []
-unfolding life_after own_life selector_refusal accepts published refusal publish_refusal after_call answer rows_for reply step reply_to progress_to life_after_entry committed state_after_entry lone_of lone_did is_answered feed
+unfolding life_after own_life selector_refusal accepts published refusal publish_refusal after_call answer reply step reply_to progress_to life_after_entry committed lone_of lone_did is_answered feed
 refused_alone = rw cut_short refl
 
 pub refused_run : replies_to new_run refused_calls ≡ refused_replies

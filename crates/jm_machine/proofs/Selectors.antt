@@ -3,7 +3,7 @@ use Rattle.std.proofs.Common.{◌≡◌, ◌∙◌, ℕ, Bool, true, false, List
 use Rattle.std.specs.Prelude.{◌↔◌, IsTrue}
 use Rattle.jm_header.specs.declared.content.Content.{Content}
 use Rattle.jm_lexer.specs.declared.fault.SyntaxFault.{SyntaxFault}
-use Rattle.jm_syntax.specs.declared.tree.Tree.{Tree}
+use Rattle.jm_tree.specs.declared.tree.Tree.{Tree}
 use Rattle.jm_eval.specs.Values.{Value, Unknown, Boolean, Number, Text, condition_of}
 use Rattle.jm_eval.specs.Views.{view}
 use Rattle.jm_eval.specs.Evaluation.{value, Selects}

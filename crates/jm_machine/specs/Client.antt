@@ -1,7 +1,7 @@
 -- What clients ask of a run, and the replies that fit it.
 use Rattle.std.specs.Prelude.{◌≡◌, ◌⊎◌, ℕ, ◌+◌, Bool, true, false, List, [], ◌∷◌, is_some, Result, Ok, Err, MatchBool, if◌then◌else◌}
 use Rattle.jm_base.specs.declared.refusal.Refusal.{Refusal}
-use Rattle.jm_base.specs.declared.refusal.Refusal.TheVariants.{IllegalState, InvalidSelector, Memory}
+use Rattle.jm_base.specs.declared.refusal.Refusal.TheVariants.{IllegalState}
 use Rattle.jm_dest.specs.declared.session.SessionId.{SessionId}
 use Rattle.jm_dest.specs.declared.destination.Destination.{Destination}
 use Rattle.jm_dest.specs.Names.{session_eq}
@@ -16,6 +16,7 @@ use Rattle.jm_machine.specs.declared.answer.Answer.{Answer}
 use Rattle.jm_machine.specs.declared.answer.Answer.TheVariants.{Sent}
 use Rattle.jm_machine.specs.Life.{mode_of}
 use Rattle.jm_machine.specs.Machine.{State, publish_refusal, replied, reply, step}
+use Rattle.jm_machine.specs.Wants.{is_want, may_want}
 
 -- how far a run has come: the state, and how many sends of each session were stamped so far
 pub record Progress : Type 0 where
@@ -57,18 +58,6 @@ unfoldable pub progress_to : Progress → ClientCall → Progress
 progress_to p (Ask who request) = record p { state = step p.state who (AskStep request) }
 progress_to p (Send s draft destination now) = send_progress p s (stamp_of p s draft destination now)
 
--- a refusal that may come in place of any reply: a want of memory
-abbrev pub is_want : Result Answer Refusal → Bool
-is_want (Err Memory) = true
-is_want _ = false
-
--- a want of memory may come in place of that reply of the machine: the call is not refused, or it is
--- refused for what its check needs memory to see, which is the text of a selector
-abbrev pub may_want : Result Answer Refusal → Bool
-may_want (Ok a) = true
-may_want (Err (InvalidSelector at cause)) = true
-may_want (Err _) = false
-
 -- a reply fits a call: it is the machine's, and the run goes on; or it is a want of memory, the state is
 -- as before, and of a send the number may be used
 abbrev pub CallFits : Progress → ClientCall → Result Answer Refusal → Progress → Type 0
@@ -84,7 +73,37 @@ RepliesFit p [] (r ∷ replies) end = ⊥
 RepliesFit p (call ∷ calls) [] end = ⊥
 RepliesFit p (call ∷ calls) (r ∷ replies) end = (next : Progress) × CallFits p call r next × RepliesFit next calls replies end
 
+-- a send takes memory where its message is stamped, and its publication takes it
+abbrev pub send_may_want : State → SessionId → Result Content Refusal → Bool
+send_may_want state s (Ok m) = may_want state (Session s) (Publish (m ∷ []))
+send_may_want state s (Err r) = false
+
+-- a client's call takes memory, in the run that has come so far
+unfoldable pub call_may_want : Progress → ClientCall → Bool
+call_may_want p (Ask who request) = may_want p.state who (AskStep request)
+call_may_want p (Send s draft destination now) = send_may_want p.state s (stamp_of p s draft destination now)
+
+-- what a run owes to a call: the machine's reply; or a want of memory, only where the call takes memory, after
+-- which the state is as before, and of a send the number is used
+abbrev pub CallOwed : Progress → ClientCall → Result Answer Refusal → Progress → Type 0
+CallOwed p call r next =
+    MatchBool (is_want r)
+    ((call_may_want p call ≡ true) × (next ≡ record (progress_to p call) { state = p.state }))
+    ((r ≡ reply_to p call) × (next ≡ progress_to p call))
+
+-- what a run owes to a list of calls: each reply in turn, and to lead there
+abbrev pub RunOwed : Progress → List ClientCall → List (Result Answer Refusal) → Progress → Type 0
+RunOwed p [] [] end = end ≡ p
+RunOwed p [] (r ∷ replies) end = ⊥
+RunOwed p (call ∷ calls) [] end = ⊥
+RunOwed p (call ∷ calls) (r ∷ replies) end = (next : Progress) × CallOwed p call r next × RunOwed next calls replies end
+
 -- the machine's replies to a list of calls, where no memory is wanted
 abbrev pub replies_to : Progress → List ClientCall → List (Result Answer Refusal)
 replies_to p [] = []
 replies_to p (call ∷ calls) = reply_to p call ∷ replies_to (progress_to p call) calls
+
+-- the run after a list of calls, where no memory is wanted
+abbrev pub progress_after : Progress → List ClientCall → Progress
+progress_after p [] = p
+progress_after p (call ∷ calls) = progress_after (progress_to p call) calls

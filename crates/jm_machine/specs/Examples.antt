@@ -4,7 +4,8 @@ use Rattle.jm_base.specs.declared.mode.Mode.TheVariants.{Auto}
 use Rattle.jm_base.specs.declared.refusal.Refusal.{Refusal}
 use Rattle.jm_base.specs.declared.refusal.Refusal.TheVariants.{IllegalState, OutOfRange}
 use Rattle.jm_dest.specs.declared.session.SessionId.{SessionId}
-use Rattle.jm_dest.specs.declared.destination.Destination.TheVariants.{Topic}
+use Rattle.jm_dest.specs.declared.destination.Destination.{Destination}
+use Rattle.jm_dest.specs.declared.destination.Destination.TheVariants.{Queue, Topic}
 use Rattle.jm_dest.specs.declared.key.Key.TheVariants.{Own}
 use Rattle.jm_header.specs.declared.body.Body.TheVariants.{Text}
 use Rattle.jm_header.specs.declared.content.Settings.{Settings}
@@ -18,11 +19,11 @@ use Rattle.jm_machine.specs.declared.answer.Answer.TheVariants.{Done, Sent, Deli
 use Rattle.jm_machine.specs.Life.{life_after, own_life}
 use Rattle.jm_machine.specs.Rows.{protected, is_next, left_of}
 use Rattle.jm_machine.specs.Selectors.{selector_refusal, selects}
-use Rattle.jm_machine.specs.Machine.{new_core, defined, accepts, published, refusal, publish_refusal, after, answer, rows_for, reply, step}
-use Rattle.jm_machine.specs.Client.{Progress, begun, reply_to, progress_to, replies_to}
-use Rattle.jm_machine.specs.Entries.{entries_of, life_after_entry, committed, state_after_entry}
+use Rattle.jm_machine.specs.Machine.{new_core, defined, accepts, published, refusal, publish_refusal, after, answer, reply, step}
+use Rattle.jm_machine.specs.Client.{Progress, begun, reply_to, progress_to, replies_to, progress_after}
+use Rattle.jm_machine.specs.Entries.{entries_of, life_after_entry, committed}
 use Rattle.jm_machine.specs.Lone.{lone_of, lone_did, is_answered, feed}
-use Rattle.jm_machine.specs.Isolation.{alone}
+use Rattle.jm_machine.specs.Isolation.{answered, alone}
 
 -- a run of a new core in opening 1
 abbrev pub new_run : Progress
@@ -60,12 +61,16 @@ ok = Ok Done
 abbrev pub none : Result Answer Refusal
 none = Ok Nothing
 
--- the reply to a receive that gets the message of that draft, number and moment, with that count
-abbrev pub got : Settings → ℕ → ℕ → ℕ → Result Answer Refusal
-got draft n now count = Ok (Delivered (record {
-  message = protected (message_of draft (Topic topic) (record { opening = 1; session = publisher }) n now);
+-- the reply to a receive that gets the message of that draft, destination, number and moment, with that count
+abbrev pub got_of : Destination → Settings → ℕ → ℕ → ℕ → Result Answer Refusal
+got_of destination draft n now count = Ok (Delivered (record {
+  message = protected (message_of draft destination (record { opening = 1; session = publisher }) n now);
   count = count;
 }))
+
+-- the same of the topic t
+abbrev pub got : Settings → ℕ → ℕ → ℕ → Result Answer Refusal
+got = got_of (Topic topic)
 
 -- both connections and sessions, and consumer 1 of the topic
 abbrev pub opened : List ClientCall
@@ -95,19 +100,19 @@ first_message_replies = six ++ Ok (Sent 1) ∷ got (text 97) 1 1000 1 ∷ none �
 
 -- they are the machine's replies
 pub first_message : replies_to new_run first_message_calls ≡ first_message_replies
-unfolding life_after is_next left_of selector_refusal selects defined accepts published refusal publish_refusal after answer rows_for reply step reply_to progress_to
+unfolding life_after is_next left_of selector_refusal selects defined accepts published refusal publish_refusal after answer reply step reply_to progress_to
 first_message = refl
 
 -- what the consumer's subscription answers alone: calls 5, 8 and 9
 pub first_message_alone : alone (Own receiver 1) (new_core 1) (entries_of 1 first_message_calls first_message_replies)
     ≡ (4, ok) ∷ (7, got (text 97) 1 1000 1) ∷ (8, none) ∷ []
-unfolding life_after own_life is_next left_of selector_refusal selects defined accepts published refusal publish_refusal after answer rows_for reply step reply_to progress_to life_after_entry committed state_after_entry lone_of lone_did is_answered feed
+unfolding life_after own_life is_next left_of selector_refusal selects defined accepts published refusal publish_refusal after answer reply step reply_to progress_to life_after_entry committed lone_of lone_did is_answered feed
 first_message_alone = refl
 
 -- a stopped connection delivers nothing
 pub stopped_connection : replies_to new_run (opened ++ send 1000 (text 97) ∷ receive 1 1000 ∷ Ask (Connection 1) Start ∷ receive 1 1000 ∷ send 1000 (text 98) ∷ Ask (Connection 1) Stop ∷ receive 1 1000 ∷ Ask (Connection 1) Start ∷ receive 1 1000 ∷ [])
     ≡ five ++ Ok (Sent 1) ∷ none ∷ ok ∷ got (text 97) 1 1000 1 ∷ Ok (Sent 2) ∷ ok ∷ none ∷ ok ∷ got (text 98) 2 1000 1 ∷ []
-unfolding life_after is_next left_of selector_refusal selects defined accepts published refusal publish_refusal after answer rows_for reply step reply_to progress_to
+unfolding life_after is_next left_of selector_refusal selects defined accepts published refusal publish_refusal after answer reply step reply_to progress_to
 stopped_connection = refl
 
 -- a draft of another priority
@@ -119,7 +124,7 @@ pub priority_order : replies_to new_run (started ++ send 1000 (of_priority 4 97)
     ∷ receive 1 1000 ∷ receive 1 1000 ∷ receive 1 1000 ∷ receive 1 1000 ∷ [])
     ≡ six ++ Ok (Sent 1) ∷ Ok (Sent 2) ∷ Ok (Sent 3) ∷ Ok (Sent 4)
     ∷ got (of_priority 9 98) 2 1000 1 ∷ got (of_priority 4 97) 1 1000 1 ∷ got (of_priority 4 99) 3 1000 1 ∷ got (of_priority 0 100) 4 1000 1 ∷ []
-unfolding life_after is_next left_of selector_refusal selects defined accepts published refusal publish_refusal after answer rows_for reply step reply_to progress_to
+unfolding life_after is_next left_of selector_refusal selects defined accepts published refusal publish_refusal after answer reply step reply_to progress_to
 priority_order = refl
 
 -- a draft with a time to live
@@ -129,25 +134,83 @@ living time letter = record (text letter) { time_to_live = time }
 -- a message is given before its expiration; from it on it is dropped, for good
 pub expiry : replies_to new_run (started ++ send 1000 (living 500 97) ∷ receive 1 1499 ∷ send 1000 (living 500 97) ∷ receive 1 1500 ∷ receive 1 1400 ∷ [])
     ≡ six ++ Ok (Sent 1) ∷ got (living 500 97) 1 1000 1 ∷ Ok (Sent 2) ∷ none ∷ none ∷ []
-unfolding life_after is_next left_of selector_refusal selects defined accepts published refusal publish_refusal after answer rows_for reply step reply_to progress_to
+unfolding life_after is_next left_of selector_refusal selects defined accepts published refusal publish_refusal after answer reply step reply_to progress_to
 expiry = refl
 
 -- with no time to live it is given at any moment; past the greatest moment there is no expiration, and
 -- the number of the send stays free
 pub greatest_moment : replies_to new_run (started ++ send 1000 (text 97) ∷ receive 1 9223372036854775807 ∷ send 9223372036854775807 (living 1 97) ∷ send 1000 (text 98) ∷ [])
     ≡ six ++ Ok (Sent 1) ∷ got (text 97) 1 1000 1 ∷ Err OutOfRange ∷ Ok (Sent 2) ∷ []
-unfolding life_after is_next left_of selector_refusal selects defined accepts published refusal publish_refusal after answer rows_for reply step reply_to progress_to
+unfolding life_after is_next left_of selector_refusal selects defined accepts published refusal publish_refusal after answer reply step reply_to progress_to
 greatest_moment = refl
 
 -- a receive drops expired messages of its own subscription alone, at its own moment alone
 pub each_sweeps_its_own : replies_to new_run (started ++ Ask (Session receiver) (CreateConsumer 2 topic None) ∷ send 1000 (living 500 97) ∷ receive 2 1500 ∷ receive 1 1400 ∷ [])
     ≡ six ++ ok ∷ Ok (Sent 1) ∷ none ∷ got (living 500 97) 1 1000 1 ∷ []
-unfolding life_after is_next left_of selector_refusal selects defined accepts published refusal publish_refusal after answer rows_for reply step reply_to progress_to
+unfolding life_after is_next left_of selector_refusal selects defined accepts published refusal publish_refusal after answer reply step reply_to progress_to
 each_sweeps_its_own = refl
 
 -- a session and a connection are used once, and a session sends only while it is open
 pub used_numbers : replies_to new_run (started ++ Ask (Connection 1) Open ∷ Ask (Session receiver) (CreateSession Auto) ∷ Ask (Session receiver) (CreateConsumer 1 topic None)
     ∷ receive 2 1000 ∷ Ask (Connection 3) Start ∷ Ask (Connection 1) (Receive 1 1000) ∷ Send (record { connection = 3; number = 1 }) (text 97) (Topic topic) 1000 ∷ [])
     ≡ six ++ Err IllegalState ∷ Err IllegalState ∷ Err IllegalState ∷ Err IllegalState ∷ Err IllegalState ∷ Err IllegalState ∷ Err IllegalState ∷ []
-unfolding life_after is_next left_of selector_refusal selects defined accepts published refusal publish_refusal after answer rows_for reply step reply_to progress_to
+unfolding life_after is_next left_of selector_refusal selects defined accepts published refusal publish_refusal after answer reply step reply_to progress_to
 used_numbers = refl
+
+-- the topic u
+abbrev pub other_topic : List ℕ
+other_topic = 117 ∷ []
+
+-- the publisher sends a draft to that topic
+abbrev pub send_other : ℕ → Settings → ClientCall
+send_other now draft = Send publisher draft (Topic other_topic) now
+
+-- each topic's consumers get its messages alone
+pub second_topic : replies_to new_run (started ++ Ask (Session receiver) (CreateConsumer 2 other_topic None) ∷ send_other 1000 (text 97) ∷ send 1000 (text 98)
+    ∷ receive 1 1000 ∷ receive 1 1000 ∷ receive 2 1000 ∷ receive 2 1000 ∷ [])
+    ≡ six ++ ok ∷ Ok (Sent 1) ∷ Ok (Sent 2) ∷ got (text 98) 2 1000 1 ∷ none ∷ got_of (Topic other_topic) (text 97) 1 1000 1 ∷ none ∷ []
+unfolding life_after is_next left_of selector_refusal selects defined accepts published refusal publish_refusal after answer reply step reply_to progress_to
+second_topic = refl
+
+-- a message to a queue of the topic's name comes to no topic's consumer, and takes a number and a place
+abbrev pub queue_message_calls : List ClientCall
+queue_message_calls = started ++ Send publisher (text 97) (Queue topic) 1000 ∷ receive 1 1000 ∷ send 1000 (text 98) ∷ receive 1 1000 ∷ []
+
+-- the replies to these calls
+pub queue_message : replies_to new_run queue_message_calls ≡ six ++ Ok (Sent 1) ∷ none ∷ Ok (Sent 2) ∷ got (text 98) 2 1000 1 ∷ []
+unfolding life_after is_next left_of selector_refusal selects defined accepts published refusal publish_refusal after answer reply step reply_to progress_to
+queue_message = refl
+
+-- the place of the next publication
+pub queue_message_place : (progress_after new_run queue_message_calls).state.next_place ≡ 3
+unfolding life_after is_next left_of selector_refusal selects defined accepts published refusal publish_refusal after answer reply step reply_to progress_to
+queue_message_place = refl
+
+-- a run on the end of another, which left the message a in the subscription
+abbrev pub second_run : Progress
+second_run = begun (progress_after new_run (started ++ send 1000 (text 97) ∷ [])).state
+
+-- its calls
+abbrev pub second_run_calls : List ClientCall
+second_run_calls = send 1000 (text 98) ∷ receive 1 1000 ∷ receive 1 1000 ∷ receive 1 1000 ∷ []
+
+-- the replies to them: the numbers of sends count from 1 again
+abbrev pub second_run_replies : List (Result Answer Refusal)
+second_run_replies = Ok (Sent 1) ∷ got (text 97) 1 1000 1 ∷ got (text 98) 1 1000 1 ∷ none ∷ []
+
+-- they are the machine's replies
+pub second_list : replies_to second_run second_run_calls ≡ second_run_replies
+unfolding life_after is_next left_of selector_refusal selects defined accepts published refusal publish_refusal after answer reply step reply_to progress_to
+second_list = refl
+
+-- the consumer's calls in the record of the second run: calls 2, 3 and 4
+pub second_list_answered : answered (Own receiver 1) second_run.state (entries_of 1 second_run_calls second_run_replies)
+    ≡ (1, got (text 97) 1 1000 1) ∷ (2, got (text 98) 1 1000 1) ∷ (3, none) ∷ []
+unfolding life_after own_life is_next left_of selector_refusal selects defined accepts published refusal publish_refusal after answer reply step reply_to progress_to life_after_entry committed lone_of lone_did is_answered feed
+second_list_answered = refl
+
+-- what its subscription answers alone, from what the second run began with
+pub second_list_alone : alone (Own receiver 1) second_run.state (entries_of 1 second_run_calls second_run_replies)
+    ≡ (1, got (text 97) 1 1000 1) ∷ (2, got (text 98) 1 1000 1) ∷ (3, none) ∷ []
+unfolding life_after own_life is_next left_of selector_refusal selects defined accepts published refusal publish_refusal after answer reply step reply_to progress_to life_after_entry committed lone_of lone_did is_answered feed
+second_list_alone = refl

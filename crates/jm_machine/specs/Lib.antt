@@ -3,6 +3,7 @@ pub mod Life
 pub mod Rows
 pub mod Selectors
 pub mod Machine
+pub mod Wants
 pub mod Client
 pub mod Entries
 pub mod Lone

@@ -35,6 +35,10 @@ abbrev pub is_started_connection : Option ConnectionState → Bool
 is_started_connection None = false
 is_started_connection (Some x) = x.is_started
 
+-- the client identifier of the connection of that number: none, since no call gives one
+abbrev pub client_of : Life → ℕ → Option (List ℕ)
+client_of life c = None
+
 -- the mode of a session that is open
 abbrev pub open_mode : Option SessionState → Option Mode
 open_mode None = None

@@ -20,8 +20,8 @@ use Rattle.jm_machine.specs.declared.state.Definition.{Definition}
 use Rattle.jm_machine.specs.Owns.{is_own, is_own_connection}
 use Rattle.jm_machine.specs.Life.{Life, mode_of, is_started, life_after, own_life}
 use Rattle.jm_machine.specs.Rows.{fresh, left_of, deliver}
-use Rattle.jm_machine.specs.Machine.{State, station_of, definition_of, rows_of, accepts, new_consumer, defined, refusal, answer, replied}
-use Rattle.jm_machine.specs.Entries.{committed}
+use Rattle.jm_machine.specs.Machine.{State, station_of, definition_of, rows_of, Publisher, publisher_of, accepts, consumer_of, new_consumer, defined, Holding, refusal, reply_by}
+use Rattle.jm_machine.specs.Entries.{life_after_entry, committed}
 
 -- what belongs to an unshared topic subscription: its key, its own sessions, and its consumers' numbers
 pub record Scope : Type 0 where
@@ -36,16 +36,57 @@ own_sessions (Own s c) = s ∷ []
 own_sessions (SharedOwn client name) = []
 own_sessions (Durable client name) = []
 
--- the consumers' numbers that belong to a key
-abbrev pub numbers_of : Key → SessionId → ℕ → Bool
-numbers_of (OfQueue name) s c = false
-numbers_of (Own t d) s c = session_eq s t && (c == d)
-numbers_of (SharedOwn client name) s c = false
-numbers_of (Durable client name) s c = false
+-- the number that a creating request gives to its consumer
+abbrev pub number_made : Request → Option ℕ
+number_made (CreateConsumer c topic selector) = Some c
+number_made _ = None
 
--- what belongs to the key
-abbrev pub scope_of : Key → Scope
-scope_of key = record { key = key; sessions = own_sessions key; numbers = numbers_of key }
+-- a number that may be absent is there, and is that one
+abbrev pub is_number : ℕ → Option ℕ → Bool
+is_number c None = false
+is_number c (Some d) = d == c
+
+-- the entry is a creating call of the session that names the number
+abbrev pub creates : SessionId → ℕ → Entry → Bool
+creates s c (Asked (Session t) request told) = session_eq t s && is_number c (number_made request)
+creates s c _ = false
+
+-- a session's creating request names the key by its own words
+abbrev pub names_key : Key → SessionId → Request → Bool
+names_key key s (CreateConsumer c topic selector) = key_eq (Own s c) key
+names_key key s _ = false
+
+-- the entry is a creating call that names the key
+abbrev pub entry_names : Key → Entry → Bool
+entry_names key (Asked (Session s) request told) = names_key key s request
+entry_names key _ = false
+
+-- of the creating calls that name the number the first names the key; of none nothing is said
+abbrev pub first_named : Key → List Entry → SessionId → ℕ → Bool
+first_named key [] s c = false
+first_named key (e ∷ entries) s c = if creates s c e then entry_names key e else first_named key entries s c
+
+-- the consumer of the opening, where there is one, else what is said of the entries, names the key
+abbrev pub named_by : Key → Option Consumer → Bool → Bool
+named_by key None later = later
+named_by key (Some x) later = key_eq x.key key
+
+-- the number was made for the key: by its consumer in the opening, else by the first creating call among
+-- the entries that names it
+abbrev pub is_made_for : Key → State → List Entry → SessionId → ℕ → Bool
+is_made_for key opening entries s c = named_by key (consumer_of opening.consumers s c) (first_named key entries s c)
+
+-- the consumers' numbers that belong to a key: those that were made for it; of a consumer's own key that
+-- consumer's alone
+abbrev pub numbers_of : Key → State → List Entry → SessionId → ℕ → Bool
+numbers_of (OfQueue name) opening entries s c = false
+numbers_of (Own t d) opening entries s c = session_eq s t && (c == d) && is_made_for (Own t d) opening entries s c
+numbers_of (SharedOwn client name) opening entries s c = false
+numbers_of (Durable client name) opening entries s c = false
+
+-- what belongs to the key, in an opening and a list of entries
+abbrev pub scope_of : Key → State → List Entry → Scope
+scope_of key opening entries = record { key = key; sessions = own_sessions key; numbers = numbers_of key opening entries }
 
 -- what one subscription holds: its own connections and sessions, its consumers, its definition and rows
 pub record Lone : Type 0 where
@@ -92,9 +133,10 @@ lone_did key lone (Session s) _ = lone
 abbrev pub belongs : Scope → SessionId → ℕ → Bool
 belongs scope s c = is_own scope.sessions s && scope.numbers s c
 
--- whether a request that names a consumer names one of the key's; of any other request nothing
+-- whether a request that creates a consumer names the key by its own words, and whether one that names a
+-- consumer names one of the key's; of any other request nothing
 abbrev pub about : Scope → SessionId → Request → Option Bool
-about scope s (CreateConsumer c topic selector) = Some (belongs scope s c)
+about scope s (CreateConsumer c topic selector) = Some (is_own scope.sessions s && names_key scope.key s (CreateConsumer c topic selector))
 about scope s (Receive c now) = Some (belongs scope s c)
 about scope s _ = None
 
@@ -113,35 +155,48 @@ unfoldable pub is_answered : Scope → Who → Request → Bool
 is_answered scope (Connection c) request = false
 is_answered scope (Session s) request = is_true (about scope s request)
 
+-- what it holds of its key, as the checks of a request see it
+abbrev pub lone_holding : Lone → Holding
+lone_holding lone = record { definition = lone.definition; rows = lone.rows; consumers = lone.consumers }
+
+-- why it refuses a request; none where it does not
+abbrev pub lone_refusal : Lone → Who → Request → Option Refusal
+lone_refusal lone who request = refusal lone.life lone.consumers (lone_holding lone) who request
+
 -- its reply to a request
 abbrev pub lone_reply : Lone → Who → Request → Result Answer Refusal
-lone_reply lone who request = replied (refusal lone.life lone.consumers who request) (answer lone.life lone.rows who request)
+lone_reply lone who request = reply_by lone.life lone.consumers (lone_holding lone) who request
 
 -- it takes up a request: of its connections' it is told the accepted ones alone, and of its sessions'
 -- those that name another consumer are not its own
 abbrev pub takes_up : Scope → Lone → Who → Request → Bool
 takes_up scope lone (Connection c) request = true
-takes_up scope lone (Session s) request = true_or_none (about scope s request) && is_none (refusal lone.life lone.consumers (Session s) request)
+takes_up scope lone (Session s) request = true_or_none (about scope s request) && is_none (lone_refusal lone (Session s) request)
 
 -- what it holds after an item
 abbrev pub lone_after : Scope → Lone → Item → Lone
 lone_after scope lone (Called who request) = if takes_up scope lone who request then lone_did scope.key lone who request else lone
 lone_after scope lone (Came m) = record lone { rows = lone.rows ++ fresh m ∷ [] }
 
--- what it answers to an item
-abbrev pub lone_told : Scope → Lone → Item → List (Result Answer Refusal)
-lone_told scope lone (Called who request) = if is_answered scope who request then lone_reply lone who request ∷ [] else []
-lone_told scope lone (Came m) = []
-
--- all that it answers to a list of items
-abbrev pub lone_replies : Scope → Lone → List Item → List (Result Answer Refusal)
-lone_replies scope lone [] = []
-lone_replies scope lone (i ∷ items) = lone_told scope lone i ++ lone_replies scope (lone_after scope lone i) items
-
 -- what it holds after a list of items
 abbrev pub lone_end : Scope → Lone → List Item → Lone
 lone_end scope lone [] = lone
 lone_end scope lone (i ∷ items) = lone_end scope (lone_after scope lone i) items
+
+-- what it answers to an item, where that is a call that it answers
+abbrev pub lone_told : Scope → Lone → Item → Option (Result Answer Refusal)
+lone_told scope lone (Called who request) = if is_answered scope who request then Some (lone_reply lone who request) else None
+lone_told scope lone (Came m) = None
+
+-- a reply beside its place, where there is one
+abbrev pub placed : ℕ → Option (Result Answer Refusal) → List (ℕ × Result Answer Refusal)
+placed place None = []
+placed place (Some r) = (place, r) ∷ []
+
+-- all that it answers to a list of items, each reply beside the place of its item
+abbrev pub lone_replies : Scope → Lone → List (ℕ × Item) → List (ℕ × Result Answer Refusal)
+lone_replies scope lone [] = []
+lone_replies scope lone (x ∷ items) = placed x.0 (lone_told scope lone x.1) ++ lone_replies scope (lone_after scope lone x.1) items
 
 -- the calls of its own sessions, and those of their connections that were accepted
 abbrev pub is_own_call : Scope → Who → Result Answer Refusal → Bool
@@ -154,39 +209,42 @@ own_items scope (Asked who request told) = if is_own_call scope who told then Ca
 own_items scope (Sent m) = []
 
 -- the subscription accepts a publication, where there is one
-abbrev pub lone_accepts : Key → Option Definition → Content → Bool
-lone_accepts key None m = false
-lone_accepts key (Some d) m = accepts key d m
+abbrev pub lone_accepts : Key → Option Definition → Publisher → Content → Bool
+lone_accepts key None publisher m = false
+lone_accepts key (Some d) publisher m = accepts key d publisher m
 
 -- publications as items
 abbrev pub came : List Content → List Item
 came messages = map (λ m. Came m) messages
 
--- what an entry feeds to it: its own call, and the committed publications that it accepts
-abbrev pub fed : Scope → Lone → Entry → List Item
-fed scope lone e = own_items scope e ++ came (filter (lone_accepts scope.key lone.definition) (committed e))
+-- the messages that the subscription accepts, the connections being these
+abbrev pub accepted : Key → Option Definition → Life → List Content → List Content
+accepted key d life messages = filter (λ m. lone_accepts key d (publisher_of life m) m) messages
 
--- what a list of entries feeds to it
-unfoldable pub feed : Scope → Lone → List Entry → List Item
-feed scope lone [] = []
-feed scope lone (e ∷ entries) = fed scope lone e ++ feed scope (lone_end scope lone (fed scope lone e)) entries
+-- what an entry feeds to it, with the connections and sessions of all and the entries before, newest
+-- first: its own call, and the committed publications that it accepts
+abbrev pub fed : Scope → Life → List Entry → Lone → Entry → List Item
+fed scope life before lone e = own_items scope e ++ came (accepted scope.key lone.definition life (committed life before e))
 
--- the reply to a call of its, as the entry has it
-abbrev pub told : Scope → Entry → List (Result Answer Refusal)
-told scope (Asked who request r) = if is_answered scope who request then r ∷ [] else []
-told scope (Sent m) = []
+-- items beside the place of their entry
+abbrev pub at_place : ℕ → List Item → List (ℕ × Item)
+at_place place items = map (λ i. (place, i)) items
 
--- the replies to its calls, as the entries have them
-abbrev pub replies_in : Scope → List Entry → List (Result Answer Refusal)
-replies_in scope [] = []
-replies_in scope (e ∷ entries) = told scope e ++ replies_in scope entries
+-- what a list of entries feeds to it, the first entry being at that place: what is accepted goes by the
+-- definition that the subscription then has
+unfoldable pub feed : Scope → ℕ → Life → List Entry → Lone → List Entry → List (ℕ × Item)
+feed scope place life before lone [] = []
+feed scope place life before lone (e ∷ entries) =
+    let items = fed scope life before lone e in
+    at_place place items ++ feed scope (place + 1) (life_after_entry life e) (e ∷ before) (lone_end scope lone items) entries
 
--- whether the entry is a call that it answers
-abbrev pub is_answered_entry : Scope → Entry → Bool
-is_answered_entry scope (Asked who request r) = is_answered scope who request
-is_answered_entry scope (Sent m) = false
+-- the reply that an entry has, where it is a call that the subscription answers
+abbrev pub told : Scope → Entry → Option (Result Answer Refusal)
+told scope (Asked who request r) = if is_answered scope who request then Some r else None
+told scope (Sent m) = None
 
--- the places of the calls that it answers, the first entry being at that place
-abbrev pub places_from : ℕ → Scope → List Entry → List ℕ
-places_from place scope [] = []
-places_from place scope (e ∷ entries) = if is_answered_entry scope e then place ∷ places_from (place + 1) scope entries else places_from (place + 1) scope entries
+-- the replies to its calls, as the entries have them, each beside its place, the first entry being at
+-- that place
+abbrev pub replies_in : Scope → ℕ → List Entry → List (ℕ × Result Answer Refusal)
+replies_in scope place [] = []
+replies_in scope place (e ∷ entries) = placed place (told scope e) ++ replies_in scope (place + 1) entries

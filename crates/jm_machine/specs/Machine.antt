@@ -7,7 +7,7 @@ use Rattle.jm_dest.specs.declared.session.SessionId.{SessionId}
 use Rattle.jm_dest.specs.declared.destination.Destination.{Destination}
 use Rattle.jm_dest.specs.declared.destination.Destination.TheVariants.{Queue, Topic}
 use Rattle.jm_dest.specs.declared.key.Key.{Key}
-use Rattle.jm_dest.specs.declared.key.Key.TheVariants.{Own, Queue as OfQueue}
+use Rattle.jm_dest.specs.declared.key.Key.TheVariants.{Own}
 use Rattle.jm_dest.specs.Names.{text_eq, session_eq}
 use Rattle.jm_dest.specs.Keys.{key_eq}
 use Rattle.jm_header.specs.declared.content.Content.{Content}
@@ -24,9 +24,9 @@ use Rattle.jm_machine.specs.declared.state.PlacedRow.{PlacedRow}
 use Rattle.jm_machine.specs.declared.state.Station.{Station}
 use Rattle.jm_machine.specs.declared.state.Definition.{Definition}
 use Rattle.jm_machine.specs.declared.state.Consumer.{Consumer}
-use Rattle.jm_machine.specs.Life.{Life, connection_of, is_open_connection, mode_of, is_started, is_new_session, life_after}
+use Rattle.jm_machine.specs.Life.{Life, connection_of, client_of, is_open_connection, mode_of, is_started, is_new_session, life_after}
 use Rattle.jm_machine.specs.Selectors.{selector_read, selector_refusal, standing, read_selects}
-use Rattle.jm_machine.specs.Rows.{protected, fresh, live, next, raised, left_of, bare, deliver_placed}
+use Rattle.jm_machine.specs.Rows.{protected, fresh, live, next, raised, left_of, bare, deliver_placed, InOrder}
 
 -- all that the provider holds
 pub record State : Type 0 where
@@ -71,6 +71,11 @@ at_key key f (x ∷ stations) = if key_eq x.key key then f x ∷ stations else x
 abbrev pub without : Key → List Station → List Station
 without key stations = filter (λ x. not (key_eq x.key key)) stations
 
+-- the rows of each station stand by place, below the next place
+abbrev pub AllInOrder : ℕ → List Station → Type 0
+AllInOrder next_place [] = Unit {0}
+AllInOrder next_place (x ∷ stations) = InOrder next_place x.rows × AllInOrder next_place stations
+
 -- Publications
 
 -- the destination is the topic
@@ -78,21 +83,33 @@ abbrev pub is_to : List ℕ → Destination → Bool
 is_to topic (Queue name) = false
 is_to topic (Topic name) = text_eq topic name
 
--- a subscription accepts a publication: the topics are equal, and the selector is absent or TRUE for the
--- message (Jakarta Messaging 3.1, sections 4.2 and 3.8.1)
-unfoldable pub accepts : Key → Definition → Content → Bool
-accepts key definition m = is_to definition.topic m.destination && read_selects (selector_read definition.selector) m
+-- who publishes: the connection of the session that sent the message, and that connection's client
+pub record Publisher : Type 0 where
+  pub connection : ℕ
+  pub client : Option (List ℕ)
 
--- a message comes to a subscription, at a place
-abbrev pub offered : Content → ℕ → Station → Station
-offered m place x =
-    if accepts x.key x.definition m
+-- who publishes the message
+abbrev pub publisher_of : Life → Content → Publisher
+publisher_of life m = record { connection = m.sender.session.connection; client = client_of life m.sender.session.connection }
+
+-- a subscription of the key accepts a publication: the topics are equal, and the selector is absent or
+-- TRUE for the message (Jakarta Messaging 3.1, sections 4.2 and 3.8.1), whoever publishes
+unfoldable pub accepts : Key → Definition → Publisher → Content → Bool
+accepts key definition publisher m = is_to definition.topic m.destination && read_selects (selector_read definition.selector) m
+
+-- a publisher's message comes to a subscription that accepts it, at a place
+abbrev pub offered : Publisher → Content → ℕ → Station → Station
+offered publisher m place x =
+    if accepts x.key x.definition publisher m
     then with_rows (λ rows. rows ++ record { place = place; row = fresh m } ∷ []) x
     else x
 
 -- a message is published: it comes to each subscription that accepts it, and takes one place
 abbrev pub with_message : State → Content → State
-with_message state m = record state { stations = map (offered m state.next_place) state.stations; next_place = state.next_place + 1 }
+with_message state m = record state {
+  stations = map (offered (publisher_of state.life m) m state.next_place) state.stations;
+  next_place = state.next_place + 1;
+}
 
 -- messages are published, in order
 unfoldable pub published : State → List Content → State
@@ -114,10 +131,10 @@ abbrev pub is_active : Option Consumer → Bool
 is_active None = false
 is_active (Some x) = true
 
--- the key that a consumer receives from
-abbrev pub key_at : Option Consumer → Key
-key_at None = OfQueue []
-key_at (Some x) = x.key
+-- the key that a consumer receives from, where it was made
+abbrev pub key_at : Option Consumer → Option Key
+key_at None = None
+key_at (Some x) = Some x.key
 
 -- a new consumer
 abbrev pub new_consumer : SessionId → ℕ → Key → Consumer
@@ -135,6 +152,43 @@ put key d state = record state { stations = without key state.stations ++ record
 abbrev pub joined : SessionId → ℕ → Key → State → State
 joined s c key state = record state { consumers = state.consumers ++ new_consumer s c key ∷ [] }
 
+-- What is held of a key
+
+-- what is held of a key: the definition and the rows of its subscription, and its consumers
+pub record Holding : Type 0 where
+  -- none where there is no subscription
+  pub definition : Option Definition
+  pub rows : List Row
+  pub consumers : List Consumer
+
+-- what is held of no key
+abbrev pub nothing_held : Holding
+nothing_held = record { definition = None; rows = []; consumers = [] }
+
+-- what a state holds of a key
+abbrev pub holding_of : Key → State → Holding
+holding_of key state = record {
+  definition = definition_of (station_of key state.stations);
+  rows = rows_of (station_of key state.stations);
+  consumers = filter (λ x. key_eq x.key key) state.consumers;
+}
+
+-- what a state holds of a key that may be absent
+abbrev pub holding_at : Option Key → State → Holding
+holding_at None state = nothing_held
+holding_at (Some key) state = holding_of key state
+
+-- the key that a request names, by its own words or by the number of its consumer; none where it names
+-- none
+abbrev pub key_named : Life → List Consumer → Who → Request → Option Key
+key_named life consumers (Session s) (CreateConsumer c topic selector) = Some (Own s c)
+key_named life consumers (Session s) (Receive c now) = key_at (consumer_of consumers s c)
+key_named life consumers _ _ = None
+
+-- what is held of the key that a request names
+abbrev pub held : State → Who → Request → Holding
+held state who request = holding_at (key_named state.life state.consumers who request) state
+
 -- The checks of a call, in the order of the causes
 
 -- a cause, where the check fails
@@ -151,23 +205,28 @@ first_cause (Some r) later = Some r
 abbrev pub may_begin : Life → List Consumer → SessionId → ℕ → Bool
 may_begin life consumers s c = is_some (mode_of life s) && not (is_some (consumer_of consumers s c))
 
--- why a request is refused; none where it is not
-unfoldable pub refusal : Life → List Consumer → Who → Request → Option Refusal
-refusal life consumers (Connection c) Open = unless (not (is_some (connection_of life.connections c))) IllegalState
-refusal life consumers (Connection c) Start = unless (is_open_connection (connection_of life.connections c)) IllegalState
-refusal life consumers (Connection c) Stop = unless (is_open_connection (connection_of life.connections c)) IllegalState
-refusal life consumers (Session s) (CreateSession mode) = unless (is_new_session life s) IllegalState
-refusal life consumers (Session s) (CreateConsumer c topic selector) = first_cause (unless (may_begin life consumers s c) IllegalState) (selector_refusal selector)
-refusal life consumers (Session s) (Receive c now) = unless (is_some (mode_of life s) && is_active (consumer_of consumers s c)) IllegalState
-refusal life consumers _ _ = Some IllegalState
+-- why a request is refused, by the connections and sessions, the consumers, and what is held of the key
+-- that it names; none where it is not
+unfoldable pub refusal : Life → List Consumer → Holding → Who → Request → Option Refusal
+refusal life consumers holding (Connection c) Open = unless (not (is_some (connection_of life.connections c))) IllegalState
+refusal life consumers holding (Connection c) Start = unless (is_open_connection (connection_of life.connections c)) IllegalState
+refusal life consumers holding (Connection c) Stop = unless (is_open_connection (connection_of life.connections c)) IllegalState
+refusal life consumers holding (Session s) (CreateSession mode) = unless (is_new_session life s) IllegalState
+refusal life consumers holding (Session s) (CreateConsumer c topic selector) = first_cause (unless (may_begin life consumers s c) IllegalState) (selector_refusal selector)
+refusal life consumers holding (Session s) (Receive c now) = unless (is_some (mode_of life s) && is_active (consumer_of consumers s c)) IllegalState
+refusal life consumers holding _ _ = Some IllegalState
 
 -- each message was stamped by this session in this opening
 abbrev pub is_stamped : ℕ → SessionId → List Content → Bool
 is_stamped opening s messages = list_all (λ m. (m.sender.opening == opening) && session_eq m.sender.session s) messages
 
+-- the first number that is no place: places run from 1 to 2^63-1 (ours)
+abbrev pub places_end : ℕ
+places_end = 9223372036854775808
+
 -- places are left for so many messages
 abbrev pub has_places : ℕ → List Content → Bool
-has_places place messages = nat_le (place + length messages) 9223372036854775808
+has_places place messages = nat_le (place + length messages) places_end
 
 -- why a publication is refused; none where it is not
 unfoldable pub publish_refusal : State → Who → List Content → Option Refusal
@@ -179,9 +238,10 @@ publish_refusal state (Session s) messages =
 
 -- What a call does that is not refused
 
--- a consumer receives: rows that have lapsed go, and the next one is delivered
-abbrev pub receive : (Row → List Row) → ℕ → Key → State → State
-receive f now key state = record state { stations = at_key key (with_rows (deliver_placed now f)) state.stations }
+-- a consumer of a key receives: rows that have lapsed go, and the next one is delivered
+abbrev pub receive : (Row → List Row) → ℕ → Option Key → State → State
+receive f now None state = state
+receive f now (Some key) state = record state { stations = at_key key (with_rows (deliver_placed now f)) state.stations }
 
 -- the state after a request that is not refused
 unfoldable pub after : State → Who → Request → State
@@ -203,15 +263,10 @@ delivery (Some r) = Delivered (record { message = protected r.message; count = r
 abbrev pub delivered : Bool → ℕ → List Row → Answer
 delivered started now rows = if started then delivery (next now (live now rows)) else Nothing
 
--- the answer to a request that is not refused, its key holding these rows
-unfoldable pub answer : Life → List Row → Who → Request → Answer
-answer life rows (Session s) (Receive c now) = delivered (is_started life s.connection) now rows
-answer life rows _ _ = Done
-
--- the rows that a request is about
-unfoldable pub rows_for : State → Who → Request → List Row
-rows_for state (Session s) (Receive c now) = rows_of (station_of (key_at (consumer_of state.consumers s c)) state.stations)
-rows_for state _ _ = []
+-- the answer to a request that is not refused, by the same
+unfoldable pub answer : Life → List Consumer → Holding → Who → Request → Answer
+answer life consumers holding (Session s) (Receive c now) = delivered (is_started life s.connection) now holding.rows
+answer life consumers holding _ _ = Done
 
 -- an answer, or a refusal
 abbrev pub replied : Option Refusal → Answer → Result Answer Refusal
@@ -223,12 +278,16 @@ abbrev pub moved : Option Refusal → State → State → State
 moved None new old = new
 moved (Some r) new old = old
 
+-- the reply to a request, by the same
+abbrev pub reply_by : Life → List Consumer → Holding → Who → Request → Result Answer Refusal
+reply_by life consumers holding who request = replied (refusal life consumers holding who request) (answer life consumers holding who request)
+
 -- the reply to a call
 unfoldable pub reply : State → Who → Call → Result Answer Refusal
-reply state who (Ask request) = replied (refusal state.life state.consumers who request) (answer state.life (rows_for state who request) who request)
+reply state who (Ask request) = reply_by state.life state.consumers (held state who request) who request
 reply state who (Publish messages) = replied (publish_refusal state who messages) Done
 
 -- the state after a call
 unfoldable pub step : State → Who → Call → State
-step state who (Ask request) = moved (refusal state.life state.consumers who request) (after state who request) state
+step state who (Ask request) = moved (refusal state.life state.consumers (held state who request) who request) (after state who request) state
 step state who (Publish messages) = moved (publish_refusal state who messages) (published state messages) state

@@ -1,6 +1,7 @@
 -- A row is a message that is held, with the count of its deliveries. Rows stand in the order of their
 -- places.
-use Rattle.std.specs.Prelude.{ℕ, ◌+◌, Bool, true, false, ◌&&◌, not, ◌==◌, nat_le, nat_lt, List, [], ◌∷◌, ◌++◌, filter, map, find, Option, Some, None, if◌then◌else◌}
+use Rattle.std.specs.Prelude.{ℕ, ◌+◌, ◌<◌, Bool, true, false, ◌&&◌, ◌||◌, not, ◌==◌, nat_le, nat_lt, List, [], ◌∷◌, ◌++◌, filter, map, find, Option, Some, None, if◌then◌else◌}
+use Rattle.std.specs.List.{list_all}
 use Rattle.jm_base.specs.declared.mode.Mode.{Mode}
 use Rattle.jm_base.specs.declared.mode.Mode.TheVariants.{Auto}
 use Rattle.jm_header.specs.declared.content.Content.{Content}
@@ -32,26 +33,26 @@ is_ready now r = not (has_lapsed now r)
 abbrev pub live : ℕ → List Row → List Row
 live now rows = filter (λ r. not (has_lapsed now r)) rows
 
--- the highest priority among the rows that may be delivered, and 0 where there is none
-abbrev pub top_priority : ℕ → List Row → ℕ
-top_priority now [] = 0
-top_priority now (r ∷ rows) =
-    if is_ready now r && nat_lt (top_priority now rows) r.message.priority
-    then r.message.priority
-    else top_priority now rows
+-- none of the rows that may be delivered has a priority above that one
+abbrev pub none_above : ℕ → List Row → ℕ → Bool
+none_above now rows priority = list_all (λ x. not (is_ready now x) || nat_le x.message.priority priority) rows
 
--- a row may be delivered, and none of higher priority may
+-- a row may be delivered, and none that may has a higher priority
 unfoldable pub is_next : ℕ → List Row → Row → Bool
-is_next now rows r = is_ready now r && (r.message.priority == top_priority now rows)
+is_next now rows r = is_ready now r && none_above now rows r.message.priority
 
--- the next row: of those of highest priority the one of least place (Jakarta Messaging 3.1, section
+-- the next row: of those the first, which is the one of least place (Jakarta Messaging 3.1, section
 -- 3.4.10, asks that higher priorities go first as far as possible; that they always do is ours)
 abbrev pub next : ℕ → List Row → Option Row
 next now rows = find (is_next now rows) rows
 
--- a count of deliveries, one more; from 2,147,483,647 on it stays (ours)
+-- the greatest count of deliveries
+abbrev pub greatest_count : ℕ
+greatest_count = 2147483647
+
+-- a count of deliveries, one more; from the greatest on it stays (ours)
 abbrev pub raised : ℕ → ℕ
-raised n = if nat_lt n 2147483647 then n + 1 else n
+raised n = if nat_lt n greatest_count then n + 1 else n
 
 -- the mode settles a message in the step that delivers it
 abbrev pub settles_at_once : Option Mode → Bool
@@ -87,3 +88,13 @@ live_placed now rows = filter (λ x. not (has_lapsed now x.row)) rows
 -- rows at their places that have lapsed go, and the next one is delivered
 abbrev pub deliver_placed : ℕ → (Row → List Row) → List PlacedRow → List PlacedRow
 deliver_placed now f rows = change_placed (is_next now (live now (bare rows))) f (live_placed now rows)
+
+-- the rows stand at places above that one
+abbrev pub AllAbove : ℕ → List PlacedRow → Type 0
+AllAbove place [] = Unit {0}
+AllAbove place (x ∷ rows) = (place < x.place) × AllAbove place rows
+
+-- the rows stand by place, each below all that follow it, and all below the next place
+abbrev pub InOrder : ℕ → List PlacedRow → Type 0
+InOrder next_place [] = Unit {0}
+InOrder next_place (x ∷ rows) = (x.place < next_place) × AllAbove x.place rows × InOrder next_place rows

@@ -5,8 +5,8 @@ use Rattle.jm_base.specs.declared.refusal.Refusal.{Refusal}
 use Rattle.jm_base.specs.declared.refusal.Refusal.TheVariants.{InvalidSelector}
 use Rattle.jm_header.specs.declared.content.Content.{Content}
 use Rattle.jm_lexer.specs.declared.fault.SyntaxFault.{SyntaxFault}
-use Rattle.jm_syntax.specs.declared.tree.Tree.{Tree}
-use Rattle.jm_syntax.specs.Parse.{parsed}
+use Rattle.jm_tree.specs.declared.tree.Tree.{Tree}
+use Rattle.jm_tree.specs.Parse.{parsed}
 use Rattle.jm_eval.specs.declared.truth.Truth.{Truth}
 use Rattle.jm_eval.specs.declared.truth.Truth.TheVariants.{True, False, Unknown}
 use Rattle.jm_eval.specs.Views.{view}

@@ -5,13 +5,14 @@
 
 mod answer;
 mod call;
+mod delivery;
 mod entry;
+pub mod find;
 mod selector;
 mod state;
-#[cfg(test)]
-mod tests;
 
 pub use answer::{Answer, Delivery, Reply, copy_reply, same_reply};
 pub use call::{Call, ClientCall, Request, Step, Who};
 pub use entry::Entry;
+pub use selector::copy_selector;
 pub use state::{ConnectionState, Consumer, Definition, PlacedRow, Row, SessionState, Station};

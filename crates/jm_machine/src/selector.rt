@@ -4,7 +4,7 @@ use jm_base::Str;
 use std::alloc::AllocError;
 
 /// An equal text, or none. `AllocError` where a request for memory was refused.
-pub(crate) fn copy_selector(selector: &Option<Str>) -> Result<Option<Str>, AllocError>
+pub fn copy_selector(selector: &Option<Str>) -> Result<Option<Str>, AllocError>
     ensures { IfOk result (λ copy. copy ≡ selector.now) }
 {
     match selector {

@@ -1,8 +1,9 @@
 ghost use Rattle.std.specs.Prelude.{◌≡◌, IfOk};
+ghost use Rattle.jm_machine.specs.Machine as machine;
 
 use crate::selector::copy_selector;
 use jm_base::{List, Mode, Str};
-use jm_dest::{ConnectionId, ConsumerId, Key, Name, SessionId};
+use jm_dest::{ConnectionId, ConsumerId, Destination, Key, Name, SessionId};
 use jm_header::Message;
 use std::alloc::{AllocError, Global};
 
@@ -81,6 +82,16 @@ impl Definition {
             topic: self.topic.copy()?,
             selector: copy_selector(&self.selector)?,
         })
+    }
+
+    /// Whether the message goes to the subscription's topic.
+    pub fn is_to(&self, message: &Message) -> bool
+        ensures { result ≡ machine.is_to self.now.topic message.now.destination }
+    {
+        match message.destination() {
+            Destination::Queue(_) => false,
+            Destination::Topic(name) => self.topic == *name,
+        }
     }
 }
 

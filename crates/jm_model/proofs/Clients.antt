@@ -2,7 +2,8 @@
 use Rattle.std.proofs.Common.{◌≡◌, ◌⊎◌, ℕ, ◌+◌, Bool, true, false, cond, List, [], ◌∷◌, ◌++◌, refl, ap, sym, subst, ◌∙◌, Option, Some, None}
 use Rattle.std.specs.Prelude.{is_some, Result, Ok, Err, MatchBool}
 use Rattle.jm_base.specs.declared.refusal.Refusal.{Refusal}
-use Rattle.jm_base.specs.declared.refusal.Refusal.TheVariants.{IllegalState, OutOfRange}
+use Rattle.jm_base.specs.declared.refusal.Refusal.TheVariants.{IllegalState, OutOfRange, Memory, Store}
+use Rattle.jm_dest.specs.declared.key.Key.{Key}
 use Rattle.jm_dest.specs.declared.session.SessionId.{SessionId}
 use Rattle.jm_dest.specs.declared.destination.Destination.{Destination}
 use Rattle.jm_header.specs.declared.content.Content.{Content}
@@ -20,11 +21,14 @@ use Rattle.jm_machine.specs.declared.answer.Answer.{Answer}
 use Rattle.jm_machine.specs.declared.answer.Answer.TheVariants.{Done, Sent as SentAs, Delivered, Nothing}
 use Rattle.jm_machine.specs.declared.entry.Entry.{Entry}
 use Rattle.jm_machine.specs.declared.entry.Entry.TheVariants.{Asked, Sent}
+use Rattle.jm_machine.specs.declared.state.Row.{Row}
 use Rattle.jm_machine.specs.Life.{mode_of, is_started}
 use Rattle.jm_machine.specs.Rows.{left_of}
-use Rattle.jm_machine.specs.Machine.{State, consumer_of, key_at, with_message, published, receive, refusal, publish_refusal, after, replied, moved, reply, step}
-use Rattle.jm_machine.specs.Client.{Progress, begun, stamp_of, send_reply, send_progress, reply_to, progress_to, is_want, CallFits, RepliesFit}
-use Rattle.jm_machine.specs.Entries.{sent_entry, entry_of, entries_of, state_after_entry, EntriesFit}
+use Rattle.jm_machine.specs.Machine.{State, consumer_of, key_at, with_message, published, receive, held, refusal, publish_refusal, after, answer, replied, moved, reply, step}
+use Rattle.jm_machine.specs.Wants.{is_want}
+use Rattle.jm_machine.specs.Client.{Progress, begun, stamp_of, send_reply, send_progress, reply_to, progress_to, CallFits, RepliesFit}
+use Rattle.jm_machine.specs.Entries.{sent_entry, is_not_made, entry_of, entries_of}
+use Rattle.jm_model.proofs.EntrySteps.{state_after_entry, EntriesFit}
 
 -- the state after a list of entries
 abbrev state_at_end : State → List Entry → State
@@ -49,17 +53,22 @@ opening_moved : (o : Option Refusal) (x y : State) → x.opening ≡ y.opening �
 opening_moved None x y p = p
 opening_moved (Some r) x y p = refl
 
+opening_receive : (f : Row → List Row) (now : ℕ) (k : Option Key) (state : State) → (receive f now k state).opening ≡ state.opening
+opening_receive f now None state = refl
+opening_receive f now (Some k) state = refl
+
 opening_after : (state : State) (who : Who) (request : Request) → (after state who request).opening ≡ state.opening
 unfolding after
 opening_after state (Connection c) request = refl
 opening_after state (Session s) (CreateConsumer c topic selector) = refl
 opening_after state (Session s) (Receive c now) =
-    opening_if (is_started state.life s.connection) (receive (left_of (mode_of state.life s)) now (key_at (consumer_of state.consumers s c)) state) state state.opening refl refl
+    opening_if (is_started state.life s.connection) (receive (left_of (mode_of state.life s)) now (key_at (consumer_of state.consumers s c)) state) state state.opening
+    (opening_receive (left_of (mode_of state.life s)) now (key_at (consumer_of state.consumers s c)) state) refl
 opening_after state (Session s) _ = refl
 
 opening_step : (state : State) (who : Who) (call : Call) → (step state who call).opening ≡ state.opening
 unfolding step
-opening_step state who (AskStep request) = opening_moved (refusal state.life state.consumers who request) (after state who request) state (opening_after state who request)
+opening_step state who (AskStep request) = opening_moved (refusal state.life state.consumers (held state who request) who request) (after state who request) state (opening_after state who request)
 opening_step state who (Publish messages) = opening_moved (publish_refusal state who messages) (published state messages) state (published_opening state messages)
 
 opening_at_end : (state : State) (entries : List Entry) → (state_at_end state entries).opening ≡ state.opening
@@ -79,10 +88,21 @@ By b p call r next =
     ((next.state ≡ p.state) × ((next.sent ≡ p.sent) ⊎ (next.sent ≡ (progress_to p call).sent)))
     ((r ≡ reply_to p call) × (next ≡ progress_to p call))
 
-asked_led : (p next : Progress) (who : Who) (request : Request) (r : Result Answer Refusal) (b : Bool) → By b p (Ask who request) r next → Led p.state (cond b [] (Asked who request r ∷ [])) next.state
+-- a request that is refused leaves the state as it was
+refused_moved : (o : Option Refusal) (a : Answer) (x y : State) (e : Refusal) → Err e ≡ replied o a → moved o x y ≡ y
+refused_moved None a x y e h = cc
+refused_moved (Some r) a x y e h = refl
+
+refused_ask : (state : State) (who : Who) (request : Request) (e : Refusal) → Err e ≡ reply state who (AskStep request) → step state who (AskStep request) ≡ state
+unfolding reply step
+refused_ask state who request e h =
+    refused_moved (refusal state.life state.consumers (held state who request) who request) (answer state.life state.consumers (held state who request) who request) (after state who request) state e h
+
+asked_led : (p next : Progress) (who : Who) (request : Request) (r : Result Answer Refusal) → CallFits p (Ask who request) r next → Led p.state (cond (is_not_made r) [] (Asked who request r ∷ [])) next.state
 unfolding reply_to progress_to state_after_entry
-asked_led p next who request r true f = (tt, f.0)
-asked_led p next who request r false f = ((f.0, tt), ap (λ (x : Progress). x.state) f.1)
+asked_led p next who request (Err Memory) f = (tt, f.0)
+asked_led p next who request (Err Store) f = (tt, ap (λ (x : Progress). x.state) f.1 ∙ refused_ask p.state who request Store f.0)
+asked_led p next who request r f = ((f.0, tt), ap (λ (x : Progress). x.state) f.1)
 
 -- a send that is answered by a number was published, and its number was the next one
 published_none : (o : Option Refusal) (n k : ℕ) → Ok (SentAs n) ≡ replied o (SentAs k) → o ≡ None
@@ -172,7 +192,7 @@ refused_led p next s draft destination now r false f = (tt, ap (λ (x : Progress
 -- one call
 call_led : (p next : Progress) (call : ClientCall) (r : Result Answer Refusal) → CallFits p call r next → Led p.state (entry_of p.state.opening call r) next.state
 unfolding reply_to
-call_led p next (Ask who request) r f = asked_led p next who request r (is_want r) f
+call_led p next (Ask who request) r f = asked_led p next who request r f
 call_led p next (Send s draft destination now) (Ok (SentAs n)) f = sent_led p next s draft destination now n f
 call_led p next (Send s draft destination now) (Ok Done) f = absurd (no_done (p.sent s + 1) (send_answer p.state s Done (p.sent s + 1) (stamp_of p s draft destination now) f.0))
   where

@@ -1,19 +1,39 @@
 -- The consumers of all keys, seen at one key.
-use Rattle.std.proofs.Common.{◌≡◌, ℕ, Bool, true, false, cond, List, [], ◌∷◌, ◌++◌, refl, subst, ◌∙◌, arith, Option, Some, None}
+use Rattle.std.proofs.Common.{◌≡◌, ℕ, Bool, true, false, cond, List, [], ◌∷◌, ◌++◌, refl, ap, subst, ◌∙◌, arith, Option, Some, None}
 use Rattle.std.specs.Prelude.{filter}
 use Rattle.std.proofs.lemmas.Bool.Decides.{nat_tests}
 use Rattle.jm_dest.specs.declared.session.SessionId.{SessionId}
-use Rattle.jm_dest.specs.declared.key.Key.TheVariants.{Own, Queue as OfQueue}
+use Rattle.jm_dest.specs.declared.key.Key.{Key}
+use Rattle.jm_dest.specs.declared.key.Key.TheVariants.{Own}
 use Rattle.jm_dest.specs.Keys.{key_eq}
+use Rattle.jm_machine.specs.declared.call.Who.TheVariants.{Session}
+use Rattle.jm_machine.specs.declared.call.Request.{Request}
+use Rattle.jm_machine.specs.declared.call.Request.TheVariants.{CreateConsumer}
+use Rattle.jm_machine.specs.declared.entry.Entry.{Entry}
+use Rattle.jm_machine.specs.declared.entry.Entry.TheVariants.{Asked}
 use Rattle.jm_machine.specs.declared.state.Consumer.{Consumer}
+use Rattle.jm_machine.specs.Owns.{is_own}
 use Rattle.jm_machine.specs.Machine.{has_number, consumer_of, is_active, key_at}
 use Rattle.jm_machine.specs.Lone.{Scope, belongs}
 use Rattle.jm_model.proofs.Same.{session_same, key_same}
 
--- the numbers that belong to the key are those whose consumers' subscriptions have it
+-- the session of a consumer whose subscription has the key is an own one
 pub record Fitting (S : Scope) : Type 0 where
-  pub own : (s : SessionId) (c : ℕ) → key_eq (Own s c) S.key ≡ belongs S s c
-  pub no_queue : key_eq (OfQueue []) S.key ≡ false
+  pub own : (s : SessionId) (c : ℕ) → key_eq (Own s c) S.key ≡ true → is_own S.sessions s ≡ true
+
+-- the number that a creating request names belongs to the key that it names
+abbrev pub FairRequest : Scope → SessionId → Request → Type 0
+FairRequest S s (CreateConsumer c topic selector) = key_eq (Own s c) S.key ≡ belongs S s c
+FairRequest S s _ = Unit {0}
+
+-- and so of each entry
+abbrev pub FairEntry : Scope → Entry → Type 0
+FairEntry S (Asked (Session s) request told) = FairRequest S s request
+FairEntry S _ = Unit {0}
+
+abbrev pub FairAll : Scope → List Entry → Type 0
+FairAll S [] = Unit {0}
+FairAll S (e ∷ entries) = FairEntry S e × FairAll S entries
 
 -- the key's consumers are those whose numbers belong to it
 abbrev pub Placed : Scope → List Consumer → Type 0
@@ -43,20 +63,25 @@ consumer_key S s c (x ∷ xs) p = go (has_number s c x) refl (consumer_key S s c
     go true e r = p.0 ∙ named S s c x e
     go false e r = r
 
-key_known : (S : Scope) (x : Option Consumer) → KeyIs S true x → is_active x ≡ true → key_at x ≡ S.key
+key_known : (S : Scope) (x : Option Consumer) → KeyIs S true x → is_active x ≡ true → key_at x ≡ Some S.key
 key_known S None k a = cc
-key_known S (Some x) k a = key_same x.key S.key k
+key_known S (Some x) k a = ap (λ (k : Key). Some k) (key_same x.key S.key k)
 
-key_other : (S : Scope) (x : Option Consumer) → Fitting S → KeyIs S false x → key_eq (key_at x) S.key ≡ false
-key_other S None f k = f.no_queue
-key_other S (Some x) f k = k
+-- a key that may be absent is not the scope's
+abbrev pub IsOther : Scope → Option Key → Type 0
+IsOther S None = Unit {0}
+IsOther S (Some k) = key_eq k S.key ≡ false
+
+key_other : (S : Scope) (x : Option Consumer) → KeyIs S false x → IsOther S (key_at x)
+key_other S None k = tt
+key_other S (Some x) k = k
 
 -- the key that a consumer receives from, where its number belongs to the key, and where it does not
-pub key_mine : (S : Scope) (s : SessionId) (c : ℕ) (xs : List Consumer) → Placed S xs → belongs S s c ≡ true → is_active (consumer_of xs s c) ≡ true → key_at (consumer_of xs s c) ≡ S.key
+pub key_mine : (S : Scope) (s : SessionId) (c : ℕ) (xs : List Consumer) → Placed S xs → belongs S s c ≡ true → is_active (consumer_of xs s c) ≡ true → key_at (consumer_of xs s c) ≡ Some S.key
 key_mine S s c xs p n a = key_known S (consumer_of xs s c) (subst (λ v. KeyIs S v (consumer_of xs s c)) n (consumer_key S s c xs p)) a
 
-pub key_not_mine : (S : Scope) (s : SessionId) (c : ℕ) (xs : List Consumer) → Fitting S → Placed S xs → belongs S s c ≡ false → key_eq (key_at (consumer_of xs s c)) S.key ≡ false
-key_not_mine S s c xs f p n = key_other S (consumer_of xs s c) f (subst (λ v. KeyIs S v (consumer_of xs s c)) n (consumer_key S s c xs p))
+pub key_not_mine : (S : Scope) (s : SessionId) (c : ℕ) (xs : List Consumer) → Placed S xs → belongs S s c ≡ false → IsOther S (key_at (consumer_of xs s c))
+key_not_mine S s c xs p n = key_other S (consumer_of xs s c) (subst (λ v. KeyIs S v (consumer_of xs s c)) n (consumer_key S s c xs p))
 
 pub placed_push : (S : Scope) (y : Consumer) → key_eq y.key S.key ≡ belongs S y.session y.id → (xs : List Consumer) → Placed S xs → Placed S (xs ++ y ∷ [])
 placed_push S y h [] p = (h, tt)

@@ -13,3 +13,5 @@ pub mod Rows
 pub mod Owners
 pub mod Fed
 pub mod Placing
+pub mod EntrySteps
+pub mod Keyed

@@ -1,27 +1,28 @@
 -- The law of isolation, at the keys of unshared topic subscriptions.
-use Rattle.std.proofs.Common.{◌≡◌, ℕ, true, List, refl, ap, arith}
-use Rattle.std.specs.List.{zip}
+use Rattle.std.proofs.Common.{◌≡◌, ℕ, true, List, [], refl, arith}
 use Rattle.std.proofs.lemmas.Bool.Decides.{nat_tests}
 use Rattle.jm_dest.specs.declared.session.SessionId.{SessionId}
 use Rattle.jm_dest.specs.declared.key.Key.{Key}
 use Rattle.jm_dest.specs.declared.key.Key.TheVariants.{Own, SharedOwn, Durable, Queue as OfQueue}
 use Rattle.jm_machine.specs.declared.entry.Entry.{Entry}
 use Rattle.jm_machine.specs.Machine.{State}
-use Rattle.jm_machine.specs.Entries.{entries_of, EntriesFit}
-use Rattle.jm_machine.specs.Lone.{scope_of, places_from}
+use Rattle.jm_machine.specs.Entries.{entries_of}
+use Rattle.jm_machine.specs.Lone.{scope_of}
 use Rattle.jm_machine.specs.Isolation.{Reached, is_unshared, answered, alone, Isolation}
 use Rattle.jm_model.proofs.Consumers.{Fitting}
-use Rattle.jm_model.proofs.Run.{reached_placed, run_alone}
+use Rattle.jm_model.proofs.EntrySteps.{EntriesFit}
+use Rattle.jm_model.proofs.Run.{run_alone}
+use Rattle.jm_model.proofs.Keyed.{placed_own, fair_own}
 use Rattle.jm_model.proofs.Clients.{all_fit}
 
 -- a consumer's own key
-fitting : (s : SessionId) (c : ℕ) → Fitting (scope_of (Own s c))
-fitting s c = record { own = λ t d. grind (arith, nat_tests); no_queue = refl }
+fitting : (s : SessionId) (c : ℕ) (opening : State) (entries : List Entry) → Fitting (scope_of (Own s c) opening entries)
+fitting s c opening entries = record { own = λ t d h. grind (arith, nat_tests) }
 
-by_key : (opening : State) (entries : List Entry) (key : Key) → is_unshared key opening ≡ true → Reached opening → EntriesFit opening entries → answered key entries ≡ alone key opening entries
+by_key : (opening : State) (entries : List Entry) (key : Key) → is_unshared key opening ≡ true → Reached opening → EntriesFit opening entries → answered key opening entries ≡ alone key opening entries
 by_key opening entries (OfQueue name) u r f = cc
 by_key opening entries (Own s c) u r f =
-    ap (zip (places_from 0 (scope_of (Own s c)) entries)) (run_alone (scope_of (Own s c)) (fitting s c) entries opening (reached_placed (scope_of (Own s c)) (fitting s c) opening r) f)
+    run_alone (scope_of (Own s c) opening entries) (fitting s c opening entries) entries 0 [] opening (fair_own s c opening entries r) (placed_own s c opening entries r) f
 by_key opening entries (SharedOwn client name) u r f = cc
 by_key opening entries (Durable client name) u r f = cc
 

@@ -1,3 +1,3 @@
+pub mod Answers
 pub mod Faults
 pub mod Owners
-pub mod Places

@@ -1,4 +1,6 @@
-ghost use Rattle.jm_machine.specs.Isolation.{Isolation};
+ghost use Rattle.jm_machine.specs.Isolation.{Isolation, IsolationFrom, RunsFit, RunsReach};
+
+use jm_core::{Core, law_core_reached};
 
 /// The law of isolation, proved; the function itself does nothing.
 ///
@@ -10,3 +12,30 @@ ghost use Rattle.jm_machine.specs.Isolation.{Isolation};
 pub fn law_isolation()
     ensures { Isolation }
 {}
+
+/// The law that runs lead on, proved; the function itself does nothing.
+///
+/// Replies that fit a list of calls lead from a state that the provider reaches to one that it reaches. So
+/// the law of isolation holds of a list that is run on the end of another.
+pub fn law_reached()
+    ensures { RunsReach }
+{}
+
+/// The law that runs fit, proved; the function itself does nothing.
+///
+/// What `Core::run` owes to a list of calls are replies that fit it. So the laws of isolation and of runs
+/// that lead on hold of it.
+pub fn law_runs_fit()
+    ensures { RunsFit }
+{}
+
+/// The law of isolation on a core that a caller holds, proved; the function itself does nothing.
+///
+/// The state of every core is reached. So for whatever list of calls is run on it next, and for every
+/// key that is unshared in it, the law holds without a further premise: also of a second list.
+pub fn law_core_isolation(core: &Core)
+    ensures { IsolationFrom core.now }
+{
+    law_isolation();
+    law_core_reached(core);
+}

@@ -10,9 +10,6 @@ mod replies;
 mod subscription;
 
 pub use fault::LoneFault;
-pub use law::law_isolation;
+pub use law::{law_core_isolation, law_isolation, law_reached, law_runs_fit};
 pub use recorded::entries;
 pub use replies::lone_replies;
-
-#[cfg(test)]
-mod tests;

@@ -1,6 +1,6 @@
 //! One subscription alone: what it holds, and what it answers to what it is fed.
 
-ghost use Rattle.std.specs.Prelude.{◌≡◌, ◌&&◌, ◌==◌, ◌++◌, [], ◌∷◌, is_some, is_none, filter, IfOk, OnOk, Some, option_to_list, option_copied, option_and_then, if◌then◌else◌};
+ghost use Rattle.std.specs.Prelude.{◌≡◌, ◌&&◌, ◌==◌, ◌++◌, [], ◌∷◌, is_some, is_none, filter, IfOk, OnOk, Some, option_copied, option_and_then, if◌then◌else◌};
 ghost use Rattle.jm_dest.specs.Names.{session_eq};
 ghost use Rattle.jm_machine.specs.Owns as owns;
 ghost use Rattle.jm_machine.specs.Life as life;
@@ -11,6 +11,7 @@ ghost use Rattle.jm_machine.specs.Machine as machine;
 ghost use Rattle.jm_machine.specs.Lone as spec;
 ghost use Rattle.jm_machine.specs.Lone.Item.{Called};
 ghost use Rattle.jm_model.specs.Owners.{scope};
+ghost use Rattle.jm_model.specs.Answers.{Answers};
 
 use crate::delivery::deliver;
 use crate::subscription::{Subscription, read};
@@ -18,6 +19,10 @@ use jm_base::{Mode, Refusal, Str};
 use jm_core::Core;
 use jm_dest::{ConnectionId, ConsumerId, Key, Moment, Name, SessionId};
 use jm_header::Message;
+use jm_machine::find::{
+    connection_of, consumer_of, is_started, mode_of, same_session, session_of, set_started,
+    station_of,
+};
 use jm_machine::{
     Answer, ConnectionState, Consumer, Entry, PlacedRow, Reply, Request, Row, SessionState,
     Station, Who,
@@ -30,6 +35,9 @@ use std::marker::Model;
 pub(crate) struct Owner {
     pub session: SessionId,
     pub consumer: ConsumerId,
+    /// Whether its number was made: a consumer of the opening has it, or a creating call among the entries
+    /// names it.
+    pub is_made: bool,
 }
 
 /// What the subscription holds. Contracts see it as the lone subscription of the definitions.
@@ -55,12 +63,6 @@ impl Model for Lone {
     } };
 }
 
-fn same_session(a: &SessionId, b: &SessionId) -> bool
-    ensures { result ≡ session_eq a.now b.now }
-{
-    a.connection == b.connection && a.number == b.number
-}
-
 impl Owner {
     /// Whether the session is the owner's.
     fn is_own(&self, session: &SessionId) -> bool
@@ -76,11 +78,18 @@ impl Owner {
         self.session.connection == id
     }
 
-    /// Whether the session's number is the owner's.
+    /// Whether the session's number names the owner.
+    fn names(&self, session: &SessionId, id: ConsumerId) -> bool
+        ensures { result ≡ (owns.is_own (scope self.now).sessions session.now && key_eq (Key.Own session.now id) (scope self.now).key) }
+    {
+        same_session(session, &self.session) && id == self.consumer
+    }
+
+    /// Whether the session's number belongs to the owner.
     fn is(&self, session: &SessionId, id: ConsumerId) -> bool
         ensures { result ≡ spec.belongs (scope self.now) session.now id }
     {
-        same_session(session, &self.session) && id == self.consumer
+        self.is_made && same_session(session, &self.session) && id == self.consumer
     }
 
     fn key(&self) -> Key
@@ -90,28 +99,9 @@ impl Owner {
     }
 }
 
-fn with_started(connection: ConnectionState, id: ConnectionId, on: bool) -> ConnectionState
-    ensures { result ≡ life.started_if id on connection }
-{
-    if connection.id == id {
-        ConnectionState { id, is_started: on }
-    } else {
-        connection
-    }
-}
-
-/// Starts or stops the connection of that number.
-fn set_started(connections: &mut [ConnectionState], id: ConnectionId, on: bool)
-    ensures { connections.new ≡ life.with_started id on connections.old }
-{
-    for connection in connections.iter_mut() {
-        *connection = with_started(*connection, id, on);
-    }
-}
-
 /// Whether a publication comes to the subscription, where there is one.
 fn accepts(subscription: &Option<Subscription>, owner: &Owner, message: &Message) -> bool
-    ensures { result ≡ spec.lone_accepts (scope owner.now).key subscription.now message.now }
+    ensures { (publisher : machine.Publisher) → result ≡ spec.lone_accepts (scope owner.now).key subscription.now publisher message.now }
 {
     match subscription {
         None => false,
@@ -175,13 +165,6 @@ fn bare(alloc: Global, rows: &[PlacedRow]) -> Result<Vec<Row>, AllocError>
     Ok(bare)
 }
 
-/// What is held under the key.
-fn station_of<'a>(stations: &'a [Station], key: &Key) -> Option<&'a Station>
-    ensures { option_copied result ≡ machine.station_of key.now stations.now }
-{
-    stations.iter().find(|station| station.key.is(key))
-}
-
 fn subscription_of(
     alloc: Global,
     station: Option<&Station>,
@@ -226,54 +209,29 @@ impl Lone {
 }
 
 impl Lone {
-    fn connection(&self, id: ConnectionId) -> Option<ConnectionState>
-        ensures { result ≡ life.connection_of self.now.life.connections id }
-    {
-        self.connections.iter().copied().find(|x| x.id == id)
-    }
-
     fn is_started(&self, id: ConnectionId) -> bool
         ensures { result ≡ life.is_started self.now.life id }
     {
-        match self.connection(id) {
-            Some(connection) => connection.is_started,
-            None => false,
-        }
-    }
-
-    fn session(&self, id: &SessionId) -> Option<SessionState>
-        ensures { result ≡ life.session_of self.now.life.sessions id.now }
-    {
-        self.sessions
-            .iter()
-            .copied()
-            .find(|x| same_session(&x.id, id))
+        is_started(&self.connections, id)
     }
 
     fn is_open_session(&self, id: &SessionId) -> bool
         ensures { result ≡ is_some (life.mode_of self.now.life id.now) }
     {
-        self.session(id).is_some()
+        mode_of(&self.sessions, id).is_some()
     }
 
     fn is_new_session(&self, id: &SessionId) -> bool
         ensures { result ≡ life.is_new_session self.now.life id.now }
     {
-        self.connection(id.connection).is_some() && self.session(id).is_none()
-    }
-
-    fn consumer(&self, session: &SessionId, id: ConsumerId) -> Option<&Consumer>
-        ensures { option_copied result ≡ machine.consumer_of self.now.consumers session.now id }
-    {
-        self.consumers
-            .iter()
-            .find(|x| same_session(&x.session, session) && x.id == id)
+        connection_of(&self.connections, id.connection).is_some()
+            && session_of(&self.sessions, id).is_none()
     }
 
     fn has_consumer(&self, session: &SessionId, id: ConsumerId) -> bool
         ensures { result ≡ is_some (machine.consumer_of self.now.consumers session.now id) }
     {
-        self.consumer(session, id).is_some()
+        consumer_of(&self.consumers, session, id).is_some()
     }
 
     /// Takes up a connection's request that was accepted.
@@ -347,7 +305,7 @@ impl Lone {
         ensures { IfOk result (λ reply.
             let request = Request.CreateConsumer owner.now.consumer topic.now selector.now in
             (reply ≡ spec.lone_reply self.old (Who.Session owner.now.session) request)
-            × (self.new ≡ (if is_none (machine.refusal self.old.life self.old.consumers (Who.Session owner.now.session) request)
+            × (self.new ≡ (if is_none (spec.lone_refusal self.old (Who.Session owner.now.session) request)
             then spec.lone_did (scope owner.now).key self.old (Who.Session owner.now.session) request else self.old))) }
     {
         if !self.may_begin(&owner.session, owner.consumer) {
@@ -370,7 +328,7 @@ impl Lone {
     fn receive(&mut self, owner: &Owner, now: Moment) -> Reply
         ensures reply { result ≡ spec.lone_reply self.old (Who.Session owner.now.session) (Request.Receive owner.now.consumer now) }
         ensures after { let request = Request.Receive owner.now.consumer now in
-            self.new ≡ (if is_none (machine.refusal self.old.life self.old.consumers (Who.Session owner.now.session) request)
+            self.new ≡ (if is_none (spec.lone_refusal self.old (Who.Session owner.now.session) request)
             then spec.lone_did (scope owner.now).key self.old (Who.Session owner.now.session) request else self.old) }
     {
         if !self.may_receive(&owner.session, owner.consumer) {
@@ -383,7 +341,7 @@ impl Lone {
     }
 
     /// What is answered to a session's request, and taken up of it.
-    #[tactic(auto, using(crate::proofs::Owners::owner_same), unfolding(jm_machine::specs::Machine::refusal, jm_machine::specs::Machine::answer, jm_machine::specs::Lone::lone_did, jm_machine::specs::Lone::is_answered, jm_machine::specs::Life::life_after))]
+    #[tactic(auto, using(crate::proofs::Owners::owner_same, crate::proofs::Owners::owner_named), unfolding(jm_machine::specs::Machine::refusal, jm_machine::specs::Machine::answer, jm_machine::specs::Lone::lone_did, jm_machine::specs::Lone::is_answered, jm_machine::specs::Life::life_after))]
     fn ask(
         &mut self,
         alloc: Global,
@@ -393,7 +351,7 @@ impl Lone {
     ) -> Result<Option<Reply>, AllocError>
         ensures { IfOk result (λ reply.
             let item = Called (Who.Session session.now) request.now in
-            (option_to_list reply ≡ spec.lone_told (scope owner.now) self.old item) × (self.new ≡ spec.lone_after (scope owner.now) self.old item)) }
+            (reply ≡ spec.lone_told (scope owner.now) self.old item) × (self.new ≡ spec.lone_after (scope owner.now) self.old item)) }
     {
         match request {
             Request::CreateSession { mode } => {
@@ -404,7 +362,7 @@ impl Lone {
                 consumer,
                 topic,
                 selector,
-            } if owner.is(session, *consumer) => {
+            } if owner.names(session, *consumer) => {
                 Ok(Some(self.create_consumer(alloc, owner, topic, selector)?))
             }
             Request::Receive { consumer, now } if owner.is(session, *consumer) => {
@@ -416,7 +374,7 @@ impl Lone {
 
     /// A publication comes, where it is accepted.
     fn publish(&mut self, owner: &Owner, message: &Message) -> Result<(), AllocError>
-        ensures { OnOk result (self.new ≡ (if spec.lone_accepts (scope owner.now).key self.old.definition message.now
+        ensures { (publisher : machine.Publisher) → OnOk result (self.new ≡ (if spec.lone_accepts (scope owner.now).key self.old.definition publisher message.now
             then record self.old { rows = self.old.rows ++ fresh message.now ∷ [] } else self.old)) }
     {
         if accepts(&self.subscription, owner, message) {
@@ -456,9 +414,7 @@ impl Lone {
         request: &Request,
         reply: &Reply,
     ) -> Result<Option<Reply>, AllocError>
-        ensures { IfOk result (λ answer.
-            let items = spec.fed (scope owner.now) self.old (Entry.Asked who request.now reply.now) in
-            (option_to_list answer ≡ spec.lone_replies (scope owner.now) self.old items) × (self.new ≡ spec.lone_end (scope owner.now) self.old items)) }
+        ensures { IfOk result (λ answer. Answers (scope owner.now) self.old (Entry.Asked who request.now reply.now) answer self.new) }
     {
         match who {
             Who::Connection(id) => {
@@ -482,9 +438,7 @@ impl Lone {
         owner: &Owner,
         entry: &Entry,
     ) -> Result<Option<Reply>, AllocError>
-        ensures { IfOk result (λ reply.
-            let items = spec.fed (scope owner.now) self.old entry.now in
-            (option_to_list reply ≡ spec.lone_replies (scope owner.now) self.old items) × (self.new ≡ spec.lone_end (scope owner.now) self.old items)) }
+        ensures { IfOk result (λ reply. Answers (scope owner.now) self.old entry.now reply self.new) }
     {
         match entry {
             Entry::Asked {

@@ -1,5 +1,4 @@
 ghost use Rattle.std.specs.Prelude.{◌≡◌, ◌++◌, IfOk, OnOk, option_to_list, is_ok};
-ghost use Rattle.jm_machine.specs.Client.{is_want as is_want_lem};
 ghost use Rattle.jm_machine.specs.Entries as spec;
 ghost use Rattle.jm_header.specs.Headers.{stamped};
 
@@ -9,12 +8,12 @@ use jm_header::{Draft, Sender, stamp};
 use jm_machine::{Answer, ClientCall, Entry, Reply, copy_reply};
 use std::alloc::{AllocError, Global};
 
-/// Whether the reply is a want of memory.
-fn is_want(reply: &Reply) -> bool
-    ensures { result ≡ is_want_lem reply.now }
+/// Whether a call with that reply counts as not made.
+fn is_not_made(reply: &Reply) -> bool
+    ensures { result ≡ spec.is_not_made reply.now }
 {
     match reply {
-        Err(Refusal::Memory) => true,
+        Err(Refusal::Memory) | Err(Refusal::Store) => true,
         _ => false,
     }
 }
@@ -42,7 +41,7 @@ fn entry_of(opening: Number, call: &ClientCall, reply: &Reply) -> Result<Option<
 {
     match call {
         ClientCall::Ask { who, request } => {
-            if is_want(reply) {
+            if is_not_made(reply) {
                 return Ok(None);
             }
             Ok(Some(Entry::Asked {
@@ -85,7 +84,7 @@ fn add_entry(
 }
 
 /// The record of a run in that opening: each call that carries no messages with its reply, and each
-/// message that was sent, stamped, in order. A call whose reply is a want of memory leaves nothing, nor
+/// message that was sent, stamped, in order. A call whose reply is `Memory` or `Store` leaves nothing, nor
 /// does a send that was refused; calls without replies, and replies without calls, count for nothing.
 ///
 /// `AllocError` where a request for memory was refused.

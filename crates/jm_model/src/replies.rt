@@ -1,20 +1,21 @@
 //! The replies of one subscription alone.
 
-ghost use Rattle.std.specs.Prelude.{◌≡◌, ◌++◌, ◌||◌, not, true, IfOk, OnOk, MatchResult};
-ghost use Rattle.jm_machine.specs.Isolation.{alone, is_unshared as is_unshared_lem};
-ghost use Rattle.jm_machine.specs.Machine.{has_number as has_number_lem};
+ghost use Rattle.std.specs.Prelude.{◌≡◌, ◌++◌, ◌||◌, [], not, true, IfOk, OnOk, MatchResult};
+ghost use Rattle.jm_machine.specs.Isolation as isolation;
+ghost use Rattle.jm_machine.specs.Life.{Life};
+ghost use Rattle.jm_machine.specs.Machine as machine;
 ghost use Rattle.jm_model.specs.Faults.{Stands};
-ghost use Rattle.std.specs.List.{list_all, zip};
+ghost use Rattle.std.specs.List.{list_all, list_any};
 ghost use Rattle.jm_dest.specs.Keys.{key_eq};
 ghost use Rattle.jm_machine.specs.Lone as spec;
 ghost use Rattle.jm_model.specs.Owners.{scope};
-ghost use Rattle.jm_model.specs.Places.{placed};
 
 use crate::fault::LoneFault;
 use crate::lone::{Lone, Owner};
 use jm_core::Core;
 use jm_dest::{ConsumerId, Key, SessionId};
-use jm_machine::{Consumer, Entry, Reply};
+use jm_machine::find::same_session;
+use jm_machine::{Consumer, Entry, Reply, Request, Who};
 use std::alloc::{AllocError, Global};
 
 /// Adds the reply with its place, where there is one.
@@ -23,7 +24,7 @@ fn add_reply(
     place: usize,
     reply: Option<Reply>,
 ) -> Result<(), AllocError>
-    ensures { OnOk result (replies.new.items ≡ replies.old.items ++ placed place reply) }
+    ensures { OnOk result (replies.new.items ≡ replies.old.items ++ spec.placed place reply) }
 {
     if let Some(reply) = reply {
         replies.push((place, reply))?;
@@ -38,8 +39,8 @@ fn answers(
     owner: &Owner,
     entries: &[Entry],
 ) -> Result<Vec<(usize, Reply)>, AllocError>
-    ensures { IfOk result (λ replies. let scope = scope owner.now in
-        replies.items ≡ zip (spec.places_from 0 scope entries.now) (spec.lone_replies scope lone (spec.feed scope lone entries.now))) }
+    ensures { (life : Life) → IfOk result (λ replies. let scope = scope owner.now in
+        replies.items ≡ spec.lone_replies scope lone (spec.feed scope 0 life [] lone entries.now)) }
 {
     let mut lone = lone;
     let mut replies = Vec::new(alloc);
@@ -51,30 +52,66 @@ fn answers(
 }
 
 fn has_number(x: &Consumer, session: &SessionId, id: ConsumerId) -> bool
-    ensures { result ≡ has_number_lem session.now id x.now }
+    ensures { result ≡ machine.has_number session.now id x.now }
 {
-    x.session.connection == session.connection && x.session.number == session.number && x.id == id
+    same_session(&x.session, session) && x.id == id
 }
 
 /// Whether the number, where the consumer has it, is that of its own subscription.
 fn is_of_key(x: &Consumer, session: &SessionId, id: ConsumerId, key: &Key) -> bool
-    ensures { result ≡ (not (has_number_lem session.now id x.now) || key_eq x.now.key key.now) }
+    ensures { result ≡ (not (machine.has_number session.now id x.now) || key_eq x.now.key key.now) }
 {
     !has_number(x, session, id) || x.key.is(key)
 }
 
 /// Whether the number names no other consumer than that of its own subscription.
 fn names_nothing_else(consumers: &[Consumer], session: &SessionId, id: ConsumerId) -> bool
-    ensures { result ≡ list_all (λ x. not (has_number_lem session.now id x) || key_eq x.key (Key.Own session.now id)) consumers.now }
+    ensures { result ≡ list_all (λ x. not (machine.has_number session.now id x) || key_eq x.key (Key.Own session.now id)) consumers.now }
 {
     let key = Key::Own(*session, id);
     consumers.iter().all(|x| is_of_key(x, session, id, &key))
 }
 
+/// Whether the entry is a creating call of the session that names the number.
+fn creates(entry: &Entry, session: &SessionId, id: ConsumerId) -> bool
+    ensures { result ≡ spec.creates session.now id entry.now }
+{
+    match entry {
+        Entry::Asked {
+            who: Who::Session(sender),
+            request: Request::CreateConsumer { consumer, .. },
+            ..
+        } => same_session(sender, session) && *consumer == id,
+        _ => false,
+    }
+}
+
+/// Whether one of the consumers has the number.
+fn is_held(consumers: &[Consumer], session: &SessionId, id: ConsumerId) -> bool
+    ensures { result ≡ list_any (machine.has_number session.now id) consumers.now }
+{
+    consumers.iter().any(|x| has_number(x, session, id))
+}
+
+/// Whether a creating call among the entries names the number.
+fn is_created(entries: &[Entry], session: &SessionId, id: ConsumerId) -> bool
+    ensures { result ≡ list_any (spec.creates session.now id) entries.now }
+{
+    entries.iter().any(|entry| creates(entry, session, id))
+}
+
+/// Whether the number was made: a consumer of the opening has it, or a creating call among the entries
+/// names it.
+fn is_made(consumers: &[Consumer], entries: &[Entry], session: &SessionId, id: ConsumerId) -> bool
+    ensures { result ≡ (list_any (machine.has_number session.now id) consumers.now || list_any (spec.creates session.now id) entries.now) }
+{
+    is_held(consumers, session, id) || is_created(entries, session, id)
+}
+
 /// Whether the key is that of an unshared topic subscription, and its number names nothing else in the
 /// opening.
 fn is_unshared(key: &Key, opening: &Core) -> bool
-    ensures { result ≡ is_unshared_lem key.now opening.now }
+    ensures { result ≡ isolation.is_unshared key.now opening.now }
 {
     match key {
         Key::Own(session, consumer) => {
@@ -98,17 +135,19 @@ pub fn lone_replies(
     key: &Key,
 ) -> Result<Vec<(usize, Reply)>, LoneFault>
     ensures { MatchResult result
-        (λ replies. (replies.items ≡ alone key.now opening.now entries.now) × (is_unshared_lem key.now opening.now ≡ true))
-        (λ fault. Stands fault (is_unshared_lem key.now opening.now)) }
+        (λ replies. (replies.items ≡ isolation.alone key.now opening.now entries.now) × (isolation.is_unshared key.now opening.now ≡ true))
+        (λ fault. Stands fault (isolation.is_unshared key.now opening.now)) }
 {
     if !is_unshared(key, opening) {
         return Err(LoneFault::NotUnshared);
     }
     match key {
         Key::Own(session, consumer) => {
+            let is_made = is_made(opening.consumers(), entries, session, *consumer);
             let owner = Owner {
                 session: *session,
                 consumer: *consumer,
+                is_made,
             };
             let lone = Lone::of(alloc, opening, &owner)?;
             Ok(answers(alloc, lone, &owner, entries)?)

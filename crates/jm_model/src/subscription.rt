@@ -2,11 +2,12 @@
 
 ghost use Rattle.std.specs.Prelude.{◌≡◌, IfOk, Ok};
 ghost use Rattle.jm_dest.specs.declared.key.Key.{Key};
-ghost use Rattle.jm_machine.specs.Machine.{accepts as accepts_lem, defined, is_to as is_to_lem};
+ghost use Rattle.jm_machine.specs.Machine as machine;
+ghost use Rattle.jm_machine.specs.Machine.{Publisher, defined};
 ghost use Rattle.jm_machine.specs.Selectors as spec;
 
 use jm_base::{Cause, Str};
-use jm_dest::{Destination, Name};
+use jm_dest::Name;
 use jm_eval::selects;
 use jm_header::Message;
 use jm_machine::Definition;
@@ -95,16 +96,6 @@ impl Subscription {
         })
     }
 
-    /// Whether the message goes to the subscription's topic.
-    fn is_to(&self, message: &Message) -> bool
-        ensures { result ≡ is_to_lem self.now.topic message.now.destination }
-    {
-        match message.destination() {
-            Destination::Queue(_) => false,
-            Destination::Topic(name) => self.definition.topic == *name,
-        }
-    }
-
     /// Whether the selector selects the message.
     #[tactic(auto, using(jm_machine::proofs::Selectors::selects_same))]
     fn selects(&self, message: &Message) -> bool
@@ -116,11 +107,11 @@ impl Subscription {
         }
     }
 
-    /// Whether a publication comes to the subscription, under any key.
+    /// Whether a publication comes to the subscription, under any key and from any publisher.
     #[tactic(auto, unfolding(jm_machine::specs::Machine::accepts))]
     pub(crate) fn accepts(&self, message: &Message) -> bool
-        ensures { (key : Key) → result ≡ accepts_lem key self.now message.now }
+        ensures { (key : Key) (publisher : Publisher) → result ≡ machine.accepts key self.now publisher message.now }
     {
-        self.is_to(message) && self.selects(message)
+        self.definition.is_to(message) && self.selects(message)
     }
 }

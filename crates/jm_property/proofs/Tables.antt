@@ -65,6 +65,15 @@ module _ {A : Type 0} where
   slice_get-table_of (entry ∷ rest) zero = refl
   slice_get-table_of (entry ∷ rest) (suc place) = slice_get-table_of rest place
 
+  -- an entry of a map, with the bytes of its name
+  abbrev pub shown : String A × Property → List ℕ × Property
+  shown entry = (string_bytes entry.0, entry.1)
+
+  pub entry_at-table_of : (entries : List (String A × Property)) (place : ℕ) → option_map shown (slice_get entries place) ≡ slice_get (table_of entries) place
+  entry_at-table_of [] place = refl
+  entry_at-table_of (entry ∷ rest) zero = refl
+  entry_at-table_of (entry ∷ rest) (suc place) = entry_at-table_of rest place
+
   pub table_of-insert_entry : (eq : String A → String A → Bool) → ((a b : String A) → eq a b ≡ bytes_eq (string_bytes a) (string_bytes b)) → (entries : List (String A × Property)) (key : String A) (value : Property) → table_of (insert_entry eq entries key value) ≡ with_property (table_of entries) (string_bytes key) value
   table_of-insert_entry eq agrees [] key value = refl
   table_of-insert_entry eq agrees (entry ∷ rest) key value =

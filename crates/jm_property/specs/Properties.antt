@@ -29,6 +29,12 @@ abbrev pub is_allowed : List ℕ → Property → Bool
 is_allowed name value =
     is_identifier name && (not (starts_with nat_eq name (codes "JMS")) || is_group_property name value)
 
+-- a client may set some value under this name: an identifier, and of those that begin with `JMS` only the
+-- two of a message group
+abbrev pub is_settable : List ℕ → Bool
+is_settable name =
+    is_identifier name && (not (starts_with nat_eq name (codes "JMS")) || bytes_eq name (codes "JMSXGroupID") || bytes_eq name (codes "JMSXGroupSeq"))
+
 -- the value under the name, where there is one
 abbrev pub value_of : Table → List ℕ → Option Property
 value_of [] name = None

@@ -5,9 +5,7 @@
 mod identifier;
 mod properties;
 mod property;
-#[cfg(test)]
-mod tests;
 
 pub use identifier::is_identifier;
-pub use properties::Properties;
+pub use properties::{Properties, is_settable};
 pub use property::Property;

@@ -41,6 +41,16 @@ fn is_group_property(name: &str, value: &Property) -> bool
     }
 }
 
+/// Whether a client may set a property of that name to a value of some type: an identifier, and of those
+/// that begin with `JMS` only `JMSXGroupID` and `JMSXGroupSeq` (Jakarta Messaging 3.1, sections 3.5.1 and
+/// 3.5.9). Takes no memory.
+pub fn is_settable(name: &str) -> bool
+    ensures { result ≡ spec.is_settable name.now }
+{
+    is_identifier(name)
+        && (!name.as_bytes().starts_with(b"JMS") || name == "JMSXGroupID" || name == "JMSXGroupSeq")
+}
+
 fn is_allowed(name: &str, value: &Property) -> bool
     ensures { result ≡ spec.is_allowed name.now value.now }
 {
@@ -86,6 +96,16 @@ impl Properties {
         match self.entries.get_index(place) {
             None => None,
             Some((name, _)) => Some(name.as_str()),
+        }
+    }
+
+    /// The name and the value at that index, from 0, in the order of first setting. Takes no memory.
+    pub fn entry_at(&self, index: usize) -> Option<(&str, &Property)>
+        ensures { option_map (λ entry. (entry.0.now, entry.1.now)) result ≡ slice_get self.now index }
+    {
+        match self.entries.get_index(index) {
+            None => None,
+            Some((name, value)) => Some((name.as_str(), value)),
         }
     }
 

@@ -1,7 +1,7 @@
 -- What reads one after the other take from a source.
 use Rattle.std.proofs.Common.{◌≡◌, ◌≤◌, ◌<◌, ◌+◌, ◌∙◌, ℕ, sym, ap, subst, List, [], ◌++◌, append_assoc, append-nil, length, length-append, length-take-le, take, Option, Some, None, IfSome}
 use Rattle.std.specs.Io.KnownBytes.{Consumes, IsAtEnd}
-use Rattle.jm_runner.specs.Source.{GaveTooMuch}
+use Rattle.jm_runner.specs.Source.{GaveTooMuch, scenario_max}
 
 -- a read after other reads
 pub read_more : (a b c : Option (List ℕ)) (first next : List ℕ) → Consumes a b first → Consumes b c next → Consumes a c (first ++ next)
@@ -25,9 +25,9 @@ read_end a b c bytes chunk n p q end none room =
 
 -- a read that makes the bytes too many
 pub read_too_much : (a b c : Option (List ℕ)) (bytes chunk : List ℕ) (n : ℕ) → Consumes a b bytes
-    → Consumes b c (take n chunk) → n ≤ length chunk → 16777216 < length bytes + n → GaveTooMuch a c
+    → Consumes b c (take n chunk) → n ≤ length chunk → scenario_max < length bytes + n → GaveTooMuch a c
 read_too_much a b c bytes chunk n p q within many = (
   bytes ++ take n chunk,
   read_more a b c bytes (take n chunk) p q,
-  subst (λ k. 16777216 < k) (sym (length-append bytes (take n chunk) ∙ ap (λ k. length bytes + k) (length-take-le n chunk within))) many,
+  subst (λ k. scenario_max < k) (sym (length-append bytes (take n chunk) ∙ ap (λ k. length bytes + k) (length-take-le n chunk within))) many,
 )

@@ -1,5 +1,5 @@
 -- What one kind of fault says of another.
-use Rattle.std.proofs.Common.{ℕ, List, Option, Some, None, IfSome}
+use Rattle.std.proofs.Common.{ℕ, List, Option}
 use Rattle.jm_runner.specs.Play.{RefusesScenario}
 use Rattle.jm_runner.specs.Source.{IsFaultOfReading}
 use Rattle.jm_runner.specs.declared.fault.Fault.{Fault}
@@ -10,12 +10,7 @@ use Rattle.jm_runner.specs.declared.source.Source.{Source}
 pub reading_refuses : {R : Type 0} (remaining : R → Option (List ℕ)) (old new : Source R) (fault : Fault)
     → IsFaultOfReading remaining old new fault → RefusesScenario remaining old new fault
 reading_refuses remaining old new File h = h
-reading_refuses remaining old new Memory h = tt
+reading_refuses remaining old new Memory h = h
 reading_refuses remaining old new (Scenario other) h = absurd h
 reading_refuses remaining old new (Key other) h = absurd h
 reading_refuses remaining old new (Selector cause at) h = absurd h
-
--- what follows from a fact of the value in an option
-pub IfSome-then : {A : Type 0} (P Q : A → Type 0) (found : Option A) → ((x : A) → P x → Q x) → IfSome found P → IfSome found Q
-IfSome-then P Q None follows h = tt
-IfSome-then P Q (Some x) follows h = follows x h

@@ -1,6 +1,5 @@
 -- What `lone` prints: the replies of one subscription alone, with the numbers of their calls (ours).
-use Rattle.std.specs.Prelude.{◌≡◌, ◌==◌, ◌++◌, ℕ, suc, not, Bool, true, false, List, [], ◌∷◌, length, Option, Some, None, Result, IfSome, unwrap_or, slice_get, if◌then◌else◌}
-use Rattle.std.specs.Io.KnownBytes.{Appends}
+use Rattle.std.specs.Prelude.{◌≡◌, ◌==◌, ◌++◌, ℕ, suc, not, Bool, true, false, List, [], ◌∷◌, length, Option, Some, None, Result, unwrap_or, slice_get, if◌then◌else◌}
 use Rattle.jm_base.specs.declared.refusal.Refusal.{Refusal}
 use Rattle.jm_dest.specs.declared.key.Key.{Key}
 use Rattle.jm_machine.specs.Entries.{entry_of, entries_of}
@@ -8,11 +7,9 @@ use Rattle.jm_machine.specs.Isolation.{alone, is_unshared}
 use Rattle.jm_machine.specs.Machine.{new_core}
 use Rattle.jm_machine.specs.declared.answer.Answer.{Answer}
 use Rattle.jm_machine.specs.declared.call.ClientCall.{ClientCall}
-use Rattle.jm_scenario.specs.Calls.{calls_of_text}
 use Rattle.jm_scenario.specs.Key.{key_of_text}
 use Rattle.jm_scenario.specs.Lines.{line}
-use Rattle.jm_runner.specs.Play.{IsRun, RefusesScenario, status_of}
-use Rattle.jm_runner.specs.Source.{source_remaining}
+use Rattle.jm_runner.specs.Play.{GivesCalls, IsRun, RefusesScenario, status_of}
 use Rattle.jm_runner.specs.declared.fault.KeyFault.{KeyFault}
 use Rattle.jm_runner.specs.declared.fault.KeyFault.TheVariants as cause
 use Rattle.jm_runner.specs.declared.fault.Fault.{Fault}
@@ -47,24 +44,16 @@ lines_at numbers (placed ∷ replies) = line_at numbers placed ++ lines_at numbe
 abbrev pub lines_alone : Key → List ClientCall → List (Result Answer Refusal) → List ℕ
 lines_alone key calls replies = lines_at (numbers_from 1 1 calls replies) (alone key (new_core 1) (entries_of 1 calls replies))
 
--- the bytes spell calls, and the replies fit them
-abbrev pub Ran : List ℕ → List ClientCall → List (Result Answer Refusal) → Type 0
-Ran bytes calls replies = (calls_of_text bytes ≡ Some calls) × IsRun calls replies
-
 -- the text spells the key of an unshared subscription
 abbrev pub IsKey : List ℕ → Key → Type 0
 IsKey text key = (key_of_text text ≡ Some key) × (is_unshared key (new_core 1) ≡ true)
 
--- the lines are those of the key's subscription alone, over a run of the calls that the bytes spell, and
--- the status is that of the run
-abbrev pub TellsLone : List ℕ → List ℕ → List ℕ → ℕ → Type 0
-TellsLone bytes text written status =
+-- what is printed is the lines of the key's subscription alone, over a run of the calls that a source gives, and the exit status is that of the run
+abbrev pub TellsLone : {R : Type 0} → (R → Option (List ℕ)) → List ℕ → Source R → Source R → List ℕ → ℕ → Type 0
+TellsLone remaining spelled old new text status =
     (calls : List ClientCall) × (replies : List (Result Answer Refusal)) × (key : Key)
-    × Ran bytes calls replies × IsKey text key × (written ≡ lines_alone key calls replies) × (status ≡ status_of replies)
-
--- such lines are written
-abbrev pub WritesLone : List ℕ → List ℕ → ℕ → Option (List ℕ) → Option (List ℕ) → Type 0
-WritesLone bytes text status old new = (written : List ℕ) × TellsLone bytes text written status × Appends old new written
+    × GivesCalls remaining old new calls × IsRun calls replies × IsKey spelled key
+    × (text ≡ lines_alone key calls replies) × (status ≡ status_of replies)
 
 -- why a text gives no key: it spells none, or memory is refused
 abbrev pub RefusesText : List ℕ → Fault → Type 0
@@ -83,14 +72,7 @@ abbrev pub HasKeyFault : List ℕ → KeyFault → Type 0
 HasKeyFault text cause.Syntax = key_of_text text ≡ None
 HasKeyFault text cause.NotUnshared = (key : Key) × (key_of_text text ≡ Some key) × (is_unshared key (new_core 1) ≡ false)
 
--- the bytes spell calls
-abbrev pub SpellsCalls : List ℕ → Type 0
-SpellsCalls bytes = (calls : List ClientCall) × (calls_of_text bytes ≡ Some calls)
-
--- why nothing is told of a subscription: what the source gives no calls for, and then the fault of the key
+-- why nothing is told of a subscription: why the source gives no calls, or why memory is refused; and where it gives some, the fault of the key
 abbrev pub RefusesLone : {R : Type 0} → (R → Option (List ℕ)) → List ℕ → Source R → Source R → Fault → Type 0
-RefusesLone remaining text old new (fault.Key cause) = HasKeyFault text cause × IfSome (source_remaining remaining old) SpellsCalls
-RefusesLone remaining text old new fault.File = RefusesScenario remaining old new fault.File
-RefusesLone remaining text old new fault.Memory = Unit {0}
-RefusesLone remaining text old new (fault.Scenario refused) = RefusesScenario remaining old new (fault.Scenario refused)
-RefusesLone remaining text old new (fault.Selector cause at) = ⊥
+RefusesLone remaining spelled old new (fault.Key cause) = HasKeyFault spelled cause × (calls : List ClientCall) × GivesCalls remaining old new calls
+RefusesLone remaining spelled old new other = RefusesScenario remaining old new other

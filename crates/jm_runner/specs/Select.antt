@@ -14,11 +14,10 @@ use Rattle.jm_header.specs.declared.content.Settings.{Settings}
 use Rattle.jm_machine.specs.declared.call.ClientCall.{ClientCall}
 use Rattle.jm_machine.specs.declared.call.ClientCall.TheVariants.{Ask, Send}
 use Rattle.jm_lexer.specs.declared.fault.SyntaxFault.{SyntaxFault}
-use Rattle.jm_syntax.specs.Parse.{parsed}
-use Rattle.jm_syntax.specs.declared.tree.Tree.{Tree}
-use Rattle.jm_scenario.specs.Calls.{calls_of_text}
+use Rattle.jm_tree.specs.Parse.{parsed}
+use Rattle.jm_tree.specs.declared.tree.Tree.{Tree}
 use Rattle.jm_base.specs.Shown.{refusal_name}
-use Rattle.jm_runner.specs.Play.{RefusesScenario}
+use Rattle.jm_runner.specs.Play.{GivesCalls, RefusesScenario}
 use Rattle.jm_runner.specs.declared.fault.Fault.{Fault}
 use Rattle.jm_runner.specs.declared.fault.Fault.TheVariants as faults
 use Rattle.jm_runner.specs.declared.source.Source.{Source}
@@ -79,17 +78,17 @@ lines_from selector newest number (call ∷ calls) =
 abbrev pub lines : Option Tree → List ClientCall → List ℕ
 lines selector calls = lines_from selector (λ session. 0) 1 calls
 
--- the text is read as a selector, the bytes as calls, and those are the lines of the sends
-abbrev pub Picks : List ℕ → List ℕ → List ℕ → Type 0
-Picks text bytes written =
-    (selector : Option Tree) × (calls : List ClientCall)
-    × (parsed text ≡ Ok selector) × (calls_of_text bytes ≡ Some calls) × (written ≡ lines selector calls)
+-- the text is read as a selector, and what is printed is the lines of the sends among the calls that a source gives, with exit status 0
+abbrev pub Picks : {R : Type 0} → (R → Option (List ℕ)) → List ℕ → Source R → Source R → List ℕ → ℕ → Type 0
+Picks remaining selector old new text status =
+    (tree : Option Tree) × (calls : List ClientCall)
+    × (parsed selector ≡ Ok tree) × GivesCalls remaining old new calls × (text ≡ lines tree calls) × (status ≡ 0)
 
--- why a selector is refused: the fault that the text has, or memory is refused
+-- why a selector is refused: the fault that its text has, or memory is refused
 abbrev pub RefusesSelector : SyntaxFault → Fault → Type 0
 RefusesSelector refused fault = (fault ≡ faults.Memory) ⊎ (fault ≡ faults.Selector refused.cause refused.at)
 
--- why nothing is picked: the text's fault, and where it has none what the source gives none for
+-- why nothing is picked: the fault of the selector's text, of which nothing is read; and where it has none, why the source gives no calls
 abbrev pub RefusesPick : {R : Type 0} → (R → Option (List ℕ)) → List ℕ → Source R → Source R → Fault → Type 0
-RefusesPick remaining text old new fault =
-    MatchResult (parsed text) (λ _. RefusesScenario remaining old new fault) (λ refused. (new ≡ old) × RefusesSelector refused fault)
+RefusesPick remaining selector old new fault =
+    MatchResult (parsed selector) (λ _. RefusesScenario remaining old new fault) (λ refused. (new ≡ old) × RefusesSelector refused fault)

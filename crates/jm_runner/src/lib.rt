@@ -3,19 +3,22 @@
 #![tactic(auto)]
 
 mod command;
+mod ending;
 mod fault;
 mod program;
+mod reading;
 mod scenario;
 mod select;
+mod sink;
 mod source;
 mod subscription;
-#[cfg(test)]
-mod tests;
 
 pub use command::perform;
+pub use ending::Ending;
 pub use fault::{Fault, KeyFault};
 pub use program::run_program;
-pub use scenario::{Ending, play};
+pub use scenario::play;
 pub use select::pick;
+pub use sink::Sink;
 pub use source::Source;
 pub use subscription::lone;

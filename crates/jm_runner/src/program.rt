@@ -1,12 +1,18 @@
-ghost use Rattle.std.specs.Prelude.{◌≡◌};
+ghost use Rattle.std.specs.Prelude.{◌≡◌, OnOk, MatchOption};
+ghost use Rattle.std.specs.Io.KnownBytes.{Appends};
 ghost use Rattle.std.specs.Process.{exit_status};
+ghost use Rattle.jm_runner.specs.Faults.{fault_line};
+ghost use Rattle.jm_runner.specs.Program as spec;
 
 use crate::command::perform;
+use crate::ending::Ending;
 use crate::fault::Fault;
-use crate::scenario::{Ending, ended};
+use crate::sink::Sink;
 use crate::source::Source;
+use clap::error::ErrorKind;
 use jm_words::{Words, WordsFault, not_text, read_words};
 use std::env::Env;
+use std::io::Write;
 use std::process::ExitCode;
 use std::rt::Files;
 use std::{env, fs, io};
@@ -26,36 +32,76 @@ fn asked(rt: &(impl Env + AllocGlobal)) -> Result<Words, WordsFault> {
 /// Does what the words ask for, with the scenario of their file or of standard input.
 fn answer(rt: &(impl Files + Input + Print + AllocGlobal), words: &Words) -> Ending {
     let alloc = rt.alloc();
-    let writer = &mut io::writer(rt);
+    let sink = &mut Sink::new(io::writer(rt));
     match words {
-        Words::Input => perform(alloc, words, &mut Source::new(Ok(rt.reader())), writer),
+        Words::Input => perform(alloc, words, &mut Source::new(Ok(rt.reader())), sink),
         Words::Run { file } | Words::Select { file, .. } | Words::Lone { file, .. } => {
             let mut source = Source::new(fs::open(rt, file.as_str()));
-            perform(alloc, words, &mut source, writer)
+            perform(alloc, words, &mut source, sink)
         }
     }
 }
 
-/// Prints the fault of the ending on standard error.
-fn closed(rt: &impl Eprint, ending: &Ending) -> ExitCode
+/// Tells the fault on a line. An error where a write fails.
+fn tell<W: Write>(errors: &mut W, fault: &Fault) -> io::Result<()>
+    ensures { OnOk result (Appends (W.contents errors.old) (W.contents errors.new) (fault_line fault.now)) }
+{
+    writeln!(errors, "{fault}")
+}
+
+/// Tells the fault of the ending, where it has one. An error where a write fails.
+fn tell_ending<W: Write>(errors: &mut W, ending: &Ending) -> io::Result<()>
+    ensures { OnOk result (MatchOption ending.now.fault (errors.new ≡ errors.old)
+        (λ fault. Appends (W.contents errors.old) (W.contents errors.new) (fault_line fault))) }
+{
+    match &ending.fault {
+        Some(fault) => tell(errors, fault),
+        None => Ok(()),
+    }
+}
+
+/// Tells the fault of the ending, where it can be written, and gives the exit status.
+fn closed<W: Write>(errors: &mut W, ending: &Ending) -> ExitCode
     ensures { exit_status result ≡ ending.now.status }
 {
-    if let Some(fault) = &ending.fault {
-        let _ = eprintln!(rt; "{fault}");
-    }
+    let _ = tell_ending(errors, ending);
     ExitCode::from(ending.status)
 }
 
-/// Runs the program: reads its words, does what they ask for, and prints a fault on standard error. The
-/// exit status is that of the ending; for words that are wrong, or ask for help or the version, it is
-/// that of the command line's library, whose text is printed.
-pub fn run_program(rt: &(impl Env + Files + Input + Print + Eprint + AllocGlobal)) -> ExitCode {
+/// The exit status of words that give nothing to do: 2 where they are wrong, 0 where they ask for help or
+/// the version, 3 where a request for memory was refused.
+fn status_of_words(fault: &WordsFault) -> u8
+    ensures { result ≡ spec.status_of_words fault.now }
+{
+    match fault {
+        WordsFault::Refused(error) => match error.kind() {
+            ErrorKind::DisplayHelp | ErrorKind::DisplayVersion => 0,
+            _ => 2,
+        },
+        WordsFault::Memory => 3,
+    }
+}
+
+/// Tells why the words give nothing to do, where it can be written, and gives the exit status. The text is
+/// that of the command line's library, which tells help and the version on standard output.
+fn refused<W: Write>(rt: &(impl Print + Eprint), errors: &mut W, fault: &WordsFault) -> ExitCode
+    ensures { exit_status result ≡ spec.status_of_words fault.now }
+{
+    let _ = match fault {
+        WordsFault::Refused(error) => error.print(rt),
+        WordsFault::Memory => tell(errors, &Fault::Memory),
+    };
+    ExitCode::from(status_of_words(fault))
+}
+
+/// Runs the program: reads its words, does what they ask for, and tells a fault on `errors`, its standard
+/// error. The exit status is that of the ending, or that of words which give nothing to do.
+pub fn run_program<W: Write>(
+    rt: &(impl Env + Files + Input + Print + Eprint + AllocGlobal),
+    errors: &mut W,
+) -> ExitCode {
     match asked(rt) {
-        Ok(words) => closed(rt, &answer(rt, &words)),
-        Err(WordsFault::Memory) => closed(rt, &ended(Fault::Memory)),
-        Err(WordsFault::Refused(error)) => {
-            let _ = error.print(rt);
-            ExitCode::from(error.exit_code() as u8)
-        }
+        Ok(words) => closed(errors, &answer(rt, &words)),
+        Err(fault) => refused(rt, errors, &fault),
     }
 }

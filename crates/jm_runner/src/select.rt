@@ -1,14 +1,16 @@
-ghost use Rattle.std.specs.Prelude.{◌≡◌, ◌≢◌, ◌+◌, None, Ok, Err, string_bytes, IfOk, IfErr, IfSome, MatchResult};
+ghost use Rattle.std.specs.Prelude.{◌≡◌, ◌≤◌, ◌+◌, Ok, string_bytes, IfOk, IfErr, MatchResult};
 ghost use Rattle.jm_core.specs.Runs.{sent_of};
-ghost use Rattle.jm_syntax.specs.Parse.{parsed};
-ghost use Rattle.jm_lexer.specs.declared.fault.SyntaxFault.{SyntaxFault};
-ghost use Rattle.jm_runner.specs.Play.{Writes, status_of_fault};
+ghost use Rattle.jm_tree.specs.Parse.{parsed};
+ghost use Rattle.jm_runner.specs.Ending.{Ends, ToldBy};
 ghost use Rattle.jm_runner.specs.Select as spec;
 ghost use Rattle.jm_runner.specs.Select.{Picks, RefusesPick, RefusesSelector};
-ghost use Rattle.jm_runner.specs.Source.{source_remaining};
+ghost use Rattle.jm_runner.specs.Source.{reads, reads_max};
 
+use crate::ending::{Ending, Printout, ended};
 use crate::fault::Fault;
-use crate::scenario::{Ending, OPENING, calls_of, ended, written};
+use crate::reading::calls_of;
+use crate::scenario::OPENING;
+use crate::sink::Sink;
 use crate::source::Source;
 use jm_base::{Cause, Refusal};
 use jm_dest::{Destination, Moment, Number, SessionId};
@@ -177,34 +179,31 @@ fn call_lines(
 }
 
 /// The lines of the sends of the scenario that the source gives.
-fn lines_of<R: Read>(alloc: Global, selector: &str, source: &mut Source<R>) -> Result<String, Fault>
-    ensures { MatchResult result
-        (λ lines. IfSome (source_remaining R.remaining source.old) (λ all. Picks selector.now all (string_bytes lines)))
-        (RefusesPick R.remaining selector.now source.old source.new) }
+fn told<R: Read>(alloc: Global, selector: &str, source: &mut Source<R>) -> Result<Printout, Fault>
+    ensures told { ToldBy (Picks R.remaining selector.now source.old source.new) (RefusesPick R.remaining selector.now source.old source.new) result }
+    ensures reads { reads source.new ≤ reads source.old + reads_max }
 {
     let tree = tree_of(alloc, selector)?;
     let calls = calls_of(alloc, source)?;
-    Ok(call_lines(alloc, &tree, calls)?)
+    Ok(Printout {
+        text: call_lines(alloc, &tree, calls)?,
+        status: 0,
+    })
 }
 
-/// Reads a selector and then a scenario, and writes the value of the selector over each send: the
-/// number of its call and TRUE, FALSE or UNKNOWN. The sends are stamped in order; one that is refused
-/// leaves its number free, and whether a session is open does not matter (ours). Of a selector that is
-/// refused the fault is told before anything is read.
+/// Reads a selector and then a scenario, in at most 16,777,217 reads, and prints the value of the selector
+/// over each send: the number of its call and TRUE, FALSE or UNKNOWN. The sends are stamped in order; one
+/// that is refused leaves its number free, and whether a session is open does not matter (ours). Of a
+/// selector that is refused the fault is told before anything is read.
 pub fn pick<R: Read, W: Write>(
     alloc: Global,
     selector: &str,
     source: &mut Source<R>,
-    writer: &mut W,
+    sink: &mut Sink<W>,
 ) -> Ending
-    ensures fault { IfSome result.fault (λ fault. (writer.new ≡ writer.old) × (result.status ≡ status_of_fault fault)) }
-    ensures refused { IfSome result.fault (RefusesPick R.remaining selector.now source.old source.new) }
-    // What is written where no fault comes, and the writes succeed.
-    ensures lines { result.fault ≡ None → result.status ≢ 1 → (result.status ≡ 0) × IfSome (source_remaining R.remaining source.old)
-        (λ all. Writes (Picks selector.now all) (W.contents writer.old) (W.contents writer.new)) }
+    ensures ends { Ends (Picks R.remaining selector.now source.old source.new) (RefusesPick R.remaining selector.now source.old source.new)
+        W.contents sink.old sink.new result }
+    ensures reads { reads source.new ≤ reads source.old + reads_max }
 {
-    match lines_of(alloc, selector, source) {
-        Ok(lines) => written(writer, lines.as_str(), 0),
-        Err(fault) => ended(fault),
-    }
+    ended(sink, told(alloc, selector, source))
 }

@@ -1,81 +1,65 @@
-ghost use Rattle.std.specs.Prelude.{◌≡◌, ◌≤◌, ◌<◌, length, take, true, false, None, IfOk, IfErr, IfSome};
-ghost use Rattle.std.specs.Io.KnownBytes.{Consumes, IsAtEnd};
-ghost use Rattle.jm_runner.specs.Source.{IsFaultOfReading, source_remaining};
+ghost use Rattle.std.specs.Prelude.{◌≡◌, ◌≤◌, ◌<◌, length, take, false, is_none, IfSome, IfNone, OnSome};
+ghost use Rattle.std.specs.Io.KnownBytes.{Consumes, IsAtEnd, Keeps};
+ghost use Rattle.jm_runner.specs.Source.{source_remaining};
+ghost use Rattle.jm_runner.specs.Source as spec;
 
-use crate::fault::Fault;
-use std::alloc::Global;
 use std::io;
 use std::io::Read;
 
-const SCENARIO_MAX: usize = 16_777_216;
-
-const CHUNK: usize = 4096;
-
-/// Where a scenario is read from: a reader that remembers whether a read of it failed. Of one that could
-/// not be opened each read fails.
+/// Where a scenario is read from: a reader, how many reads were made of it, and whether one failed. Of one
+/// that could not be opened each read fails; from a failed read on each read fails.
 #[derive(Drop)]
 pub struct Source<R> {
     opened: io::Result<R>,
+    reads: u64,
     has_failed: bool,
 }
 
 impl<R: Read> Source<R> {
-    /// A source over what was opened, of which no read has failed.
+    /// A source over what was opened, of which no read was made.
     pub fn new(opened: io::Result<R>) -> Source<R>
-        ensures opened { result.opened ≡ opened }
-        ensures has_failed { result.has_failed ≡ false }
+        ensures { result ≡ record { opened = opened; reads = 0; has_failed = false } }
     {
         Source {
             opened,
+            reads: 0,
             has_failed: false,
         }
     }
 
+    /// How many reads were made; the count stays at 2^64-1.
+    pub fn reads(&self) -> u64
+        ensures { result ≡ spec.reads self.now }
+    {
+        self.reads
+    }
+
     /// Whether a read has failed.
     pub fn has_failed(&self) -> bool
-        ensures { result ≡ self.now.has_failed }
+        ensures { result ≡ spec.has_failed self.now }
     {
         self.has_failed
     }
 
     /// How many bytes a read gives, at the front of the chunk; none where it fails, which is remembered.
-    fn read(&mut self, chunk: &mut [u8]) -> Option<usize>
+    pub(crate) fn read(&mut self, chunk: &mut [u8]) -> Option<usize>
         ensures bound { IfSome result (λ count. count ≤ length chunk.new) }
         ensures bytes { IfSome result (λ count. Consumes (source_remaining R.remaining self.old) (source_remaining R.remaining self.new) (take count chunk.new)) }
         ensures end { IfSome result (λ count. count ≡ 0 → 0 < length chunk.new → IsAtEnd (source_remaining R.remaining self.new)) }
-        ensures failed { result ≡ None → self.new.has_failed ≡ true }
+        ensures kept { IfNone result (Keeps (source_remaining R.remaining self.old) (source_remaining R.remaining self.new)) }
+        ensures unmarked { OnSome result (spec.has_failed self.new ≡ spec.has_failed self.old) }
+        ensures marked { spec.has_failed self.new ≡ is_none result }
+        ensures counted { spec.reads self.new ≡ spec.one_more (spec.reads self.old) }
     {
-        if let Ok(reader) = &mut self.opened {
-            if let Ok(count) = reader.read(chunk) {
-                return Some(count);
+        self.reads = self.reads.saturating_add(1);
+        if !self.has_failed {
+            if let Ok(reader) = &mut self.opened {
+                if let Ok(count) = reader.read(chunk) {
+                    return Some(count);
+                }
             }
         }
         self.has_failed = true;
         None
-    }
-
-    /// The bytes to the end, in at most 16,777,217 reads. `File` where a read failed, or more than
-    /// 16,777,216 bytes came; `Memory` where a request for memory was refused.
-    #[tactic(auto, using(crate::proofs::Consumed::read_more, crate::proofs::Consumed::read_end, crate::proofs::Consumed::read_too_much))]
-    pub(crate) fn read_all(&mut self, alloc: Global) -> Result<Vec<u8>, Fault>
-        ensures all { IfOk result (λ bytes. IfSome (source_remaining R.remaining self.old) (λ all. bytes.items ≡ all)) }
-        ensures limit { IfOk result (λ bytes. length bytes.items ≤ 16777216) }
-        ensures err { IfErr result (IsFaultOfReading R.remaining self.old self.new) }
-    {
-        let mut bytes = Vec::new(alloc);
-        'reads: for _ in 0..SCENARIO_MAX + 1 {
-            let mut chunk = [0; CHUNK];
-            let Some(count) = self.read(&mut chunk) else {
-                return Err(Fault::File);
-            };
-            if count == 0 {
-                return Ok(bytes);
-            }
-            if bytes.len() + count > SCENARIO_MAX {
-                return Err(Fault::File);
-            }
-            bytes.extend_from_slice(&chunk[..count])?;
-        }
-        Err(Fault::File)
     }
 }

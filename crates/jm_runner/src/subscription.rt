@@ -1,14 +1,18 @@
-ghost use Rattle.std.specs.Prelude.{◌≡◌, ◌≢◌, Some, None, true, string_bytes, IfOk, IfErr, IfSome, MatchResult};
+ghost use Rattle.std.specs.Prelude.{◌≡◌, ◌≤◌, ◌+◌, Some, true, string_bytes, IfOk, IfErr, MatchResult};
 ghost use Rattle.jm_machine.specs.Isolation.{is_unshared};
 ghost use Rattle.jm_machine.specs.Machine.{new_core};
 ghost use Rattle.jm_scenario.specs.Key.{key_of_text};
+ghost use Rattle.jm_runner.specs.Ending.{Ends, ToldBy};
 ghost use Rattle.jm_runner.specs.Lone as spec;
-ghost use Rattle.jm_runner.specs.Lone.{Ran, RefusesLone, WritesLone};
-ghost use Rattle.jm_runner.specs.Play.{RefusesScenario, status_of_fault};
-ghost use Rattle.jm_runner.specs.Source.{source_remaining};
+ghost use Rattle.jm_runner.specs.Lone.{RefusesLone, TellsLone};
+ghost use Rattle.jm_runner.specs.Play.{GivesCalls, IsRun, RefusesScenario};
+ghost use Rattle.jm_runner.specs.Source.{reads, reads_max};
 
+use crate::ending::{Ending, Printout, ended};
 use crate::fault::{Fault, KeyFault};
-use crate::scenario::{Ending, OPENING, calls_of, ended, run, status_of, written};
+use crate::reading::calls_of;
+use crate::scenario::{OPENING, run, status_of};
+use crate::sink::Sink;
 use crate::source::Source;
 use jm_core::Core;
 use jm_dest::{Key, Number};
@@ -103,9 +107,10 @@ fn ran<R: Read>(
     alloc: Global,
     source: &mut Source<R>,
 ) -> Result<(Vec<ClientCall>, Vec<Reply>), Fault>
-    ensures { MatchResult result
-        (λ ran. IfSome (source_remaining R.remaining source.old) (λ all. Ran all ran.0.items ran.1.items))
+    ensures ran { MatchResult result
+        (λ ran. GivesCalls R.remaining source.old source.new ran.0.items × IsRun ran.0.items ran.1.items)
         (RefusesScenario R.remaining source.old source.new) }
+    ensures reads { reads source.new ≤ reads source.old + reads_max }
 {
     let calls = calls_of(alloc, source)?;
     let replies = run(alloc, copy_calls(alloc, &calls)?)?;
@@ -147,41 +152,33 @@ fn lines_alone(
 }
 
 /// The lines of the subscription of the key that the text spells, over a run of the scenario that the
-/// source gives, and the status of that run.
-fn lines_of<R: Read>(
-    alloc: Global,
-    source: &mut Source<R>,
-    key: &str,
-) -> Result<(String, u8), Fault>
-    ensures { MatchResult result
-        (λ lines. IfSome (source_remaining R.remaining source.old) (λ all. spec.TellsLone all key.now (string_bytes lines.0) lines.1))
-        (RefusesLone R.remaining key.now source.old source.new) }
+/// source gives, and the exit status of that run.
+fn told<R: Read>(alloc: Global, source: &mut Source<R>, key: &str) -> Result<Printout, Fault>
+    ensures told { ToldBy (TellsLone R.remaining key.now source.old source.new) (RefusesLone R.remaining key.now source.old source.new) result }
+    ensures reads { reads source.new ≤ reads source.old + reads_max }
 {
     let (calls, replies) = ran(alloc, source)?;
     let key = key_of(alloc, key)?;
-    let lines = lines_alone(alloc, &key, &calls, &replies)?;
-    Ok((lines, status_of(&replies)))
+    Ok(Printout {
+        text: lines_alone(alloc, &key, &calls, &replies)?,
+        status: status_of(&replies),
+    })
 }
 
-/// Reads a scenario and makes its calls on a new provider, then reads the key of a subscription, and
-/// writes what this subscription answers alone, fed with the calls of its own session, with the
-/// accepted calls of that session's connection, and with the messages sent that it accepts: a line for
-/// each reply, with the number of its call. The status is that of the run. The fault of a scenario is
-/// told before any of the key.
+/// Reads a scenario, in at most 16,777,217 reads, and makes its calls on a new provider, then reads the key
+/// of a subscription, and prints what this subscription answers alone, fed with the calls of its own
+/// session, with the accepted calls of that session's connection, and with the messages sent that it
+/// accepts: a line for each reply, with the number of its call. The exit status is that of the run. The
+/// fault of a scenario is told before any of the key.
 pub fn lone<R: Read, W: Write>(
     alloc: Global,
     source: &mut Source<R>,
     key: &str,
-    writer: &mut W,
+    sink: &mut Sink<W>,
 ) -> Ending
-    ensures fault { IfSome result.fault (λ fault. (writer.new ≡ writer.old) × (result.status ≡ status_of_fault fault)) }
-    ensures refused { IfSome result.fault (RefusesLone R.remaining key.now source.old source.new) }
-    // What is written where no fault comes, and the writes succeed.
-    ensures lines { result.fault ≡ None → result.status ≢ 1 → IfSome (source_remaining R.remaining source.old)
-        (λ all. WritesLone all key.now result.status (W.contents writer.old) (W.contents writer.new)) }
+    ensures ends { Ends (TellsLone R.remaining key.now source.old source.new) (RefusesLone R.remaining key.now source.old source.new)
+        W.contents sink.old sink.new result }
+    ensures reads { reads source.new ≤ reads source.old + reads_max }
 {
-    match lines_of(alloc, source, key) {
-        Ok((lines, status)) => written(writer, lines.as_str(), status),
-        Err(fault) => ended(fault),
-    }
+    ended(sink, told(alloc, source, key))
 }

@@ -1,6 +1,7 @@
 pub mod Lines
 pub mod Reading
 pub mod Fields
+pub mod Faults
 pub mod Values
 pub mod Drafts
 pub mod Calls

@@ -4,7 +4,7 @@ use Rattle.json.specs.Print.{quoted}
 use Rattle.hex.specs.Hex.{encode_lower}
 use Rattle.jm_base.specs.declared.refusal.Refusal.{Refusal}
 use Rattle.jm_base.specs.Shown.{refusal_name}
-use Rattle.jm_eval.specs.MessageIds.{message_id}
+use Rattle.jm_header.specs.MessageIds.{message_id}
 use Rattle.jm_header.specs.declared.body.Body.{Body}
 use Rattle.jm_header.specs.declared.body.Body.TheVariants.{None as NoBody, Text, Bytes}
 use Rattle.jm_machine.specs.declared.answer.Answer.{Answer}

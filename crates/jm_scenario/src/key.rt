@@ -1,7 +1,7 @@
 ghost use Rattle.std.specs.Prelude.{◌≡◌, string_bytes, IfOk};
 ghost use Rattle.serde_json.specs.View.{view, items_view};
 ghost use Rattle.jm_scenario.specs.Key as spec;
-ghost use Rattle.jm_scenario.specs.Values.{name as name_of};
+ghost use Rattle.jm_scenario.specs.Values as values;
 
 use crate::value::{consumer_of, session_of};
 use jm_base::Refusal;
@@ -23,7 +23,7 @@ fn own(numbers: &[Value]) -> Option<Key>
 
 /// The client identifier of that value. `AllocError` where a request for memory was refused.
 fn client(alloc: Global, value: &Value) -> Result<Option<ClientId>, AllocError>
-    ensures { IfOk result (λ client. client ≡ name_of (view value.now)) }
+    ensures { IfOk result (λ client. client ≡ values.name (view value.now)) }
 {
     let Some(text) = value.as_str() else {
         return Ok(None);
@@ -37,7 +37,7 @@ fn client(alloc: Global, value: &Value) -> Result<Option<ClientId>, AllocError>
 
 /// The subscription's name of that value. `AllocError` where a request for memory was refused.
 fn subscription(alloc: Global, value: &Value) -> Result<Option<SubscriptionName>, AllocError>
-    ensures { IfOk result (λ name. name ≡ name_of (view value.now)) }
+    ensures { IfOk result (λ name. name ≡ values.name (view value.now)) }
 {
     let Some(text) = value.as_str() else {
         return Ok(None);

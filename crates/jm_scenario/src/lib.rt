@@ -8,8 +8,6 @@ mod key;
 mod lines;
 mod misfit;
 mod scenario;
-#[cfg(test)]
-mod tests;
 mod value;
 
 pub use field::{Field, FieldName};

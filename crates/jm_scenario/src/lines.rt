@@ -1,7 +1,6 @@
 ghost use Rattle.std.specs.Prelude.{◌≡◌, ◌++◌, codes, decimal, string_bytes, IfOk};
 ghost use Rattle.jm_scenario.specs.Lines as spec;
 
-use jm_eval::message_id_text;
 use jm_header::Body;
 use jm_machine::{Answer, Delivery, Reply};
 use serde_json::Value;
@@ -36,7 +35,7 @@ fn redelivered_text(count: u32) -> &'static str
 fn delivery_head(alloc: Global, delivery: &Delivery) -> Result<String, AllocError>
     ensures { IfOk result (λ text. string_bytes text ≡ spec.delivery_head delivery.now) }
 {
-    let id = message_id_text(&delivery.message);
+    let id = delivery.message.message_id();
     let id = id.as_str();
     let count = delivery.count;
     let redelivered = redelivered_text(count);

@@ -8,6 +8,7 @@ use crate::misfit::Misfit;
 use jm_machine::ClientCall;
 use serde_json::{Category, Value};
 use std::alloc::{AllocError, AllocFailed, Global};
+use std::fmt;
 use thiserror::Error;
 
 /// Why bytes are no scenario (ours). Steps are the numbers of calls, from 1; step 0 is the outer
@@ -15,17 +16,32 @@ use thiserror::Error;
 #[derive(Debug, PartialEq, Drop, Error)]
 pub enum ScenarioFault {
     /// The bytes are no JSON.
-    #[error("scenario: syntax")]
     Syntax,
     /// The field is missing, of the wrong type, out of its range, or not known there.
-    #[error("scenario: step {step}: field {field}")]
     Shape { step: usize, field: FieldName },
     /// A number of the step is no whole number of 64 bits.
-    #[error("scenario: step {step}: floating")]
     Floating { step: usize },
     /// A request for memory was refused.
-    #[error("memory")]
     Memory,
+}
+
+impl fmt::Display for ScenarioFault {
+    ghost use Rattle.std.specs.Prelude.{Some};
+    ghost use Rattle.jm_scenario.specs.Faults.{fault_text};
+
+    ghost output = { λ fault. Some (fault_text fault) };
+
+    /// What is told of the fault: `scenario:` and its place, or `memory`.
+    fn fmt<W: fmt::Write>(&self, f: &mut fmt::Formatter<W>) -> fmt::Result {
+        match self {
+            ScenarioFault::Syntax => f.write_str("scenario: syntax"),
+            ScenarioFault::Shape { step, field } => {
+                write!(f, "scenario: step {step}: field {field}")
+            }
+            ScenarioFault::Floating { step } => write!(f, "scenario: step {step}: floating"),
+            ScenarioFault::Memory => f.write_str("memory"),
+        }
+    }
 }
 
 impl From<AllocError> for ScenarioFault {

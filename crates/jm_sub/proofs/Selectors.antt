@@ -5,10 +5,10 @@ use Rattle.jm_base.specs.declared.refusal.Cause.{Cause}
 use Rattle.jm_base.specs.declared.refusal.Cause.TheVariants as causes
 use Rattle.jm_base.specs.declared.refusal.Refusal.TheVariants.{Memory}
 use Rattle.jm_header.specs.declared.content.Content.{Content}
-use Rattle.jm_syntax.specs.declared.tree.Tree.{Tree}
+use Rattle.jm_tree.specs.declared.tree.Tree.{Tree}
 use Rattle.jm_eval.specs.Views.{view}
 use Rattle.jm_eval.specs.Evaluation.{Selects}
-use Rattle.jm_machine.specs.Machine.{accepts, defined, is_to}
+use Rattle.jm_machine.specs.Machine.{Publisher, accepts, defined, is_to}
 use Rattle.jm_machine.specs.Selectors.{selector_read, selector_refusal, read_refusal, standing}
 use Rattle.jm_machine.proofs.Selectors.{selects_same}
 use Rattle.jm_sub.specs.Subscriptions.{Subscription, refused_for, takes}
@@ -43,11 +43,11 @@ not_refused selector tree h = ap read_refusal h
 
 -- a subscription accepts what goes to its topic and is selected by its tree
 pub accepts_there : (s : Subscription) (m : Content) (tree : Option Tree) (b : Bool) → selector_read s.definition.selector ≡ Ok tree → (IsTrue b ↔ Selects (view m) tree) →
-    is_to s.definition.topic m.destination ≡ true → b ≡ takes m s
+    is_to s.definition.topic m.destination ≡ true → (publisher : Publisher) → b ≡ takes publisher m s
 unfolding accepts
-accepts_there s m tree b h e t = rw (t, h) (selects_same b tree m e)
+accepts_there s m tree b h e t publisher = rw (t, h) (selects_same b tree m e)
 
 -- and nothing that goes elsewhere
-pub accepts_elsewhere : (s : Subscription) (m : Content) → is_to s.definition.topic m.destination ≡ false → false ≡ takes m s
+pub accepts_elsewhere : (s : Subscription) (m : Content) → is_to s.definition.topic m.destination ≡ false → (publisher : Publisher) → false ≡ takes publisher m s
 unfolding accepts
-accepts_elsewhere s m t = rw t refl
+accepts_elsewhere s m t publisher = rw t refl

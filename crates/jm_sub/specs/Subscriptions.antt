@@ -9,7 +9,7 @@ use Rattle.jm_base.specs.declared.refusal.Refusal.TheVariants.{InvalidSelector, 
 use Rattle.jm_lexer.specs.declared.fault.SyntaxFault.{SyntaxFault}
 use Rattle.jm_header.specs.declared.content.Content.{Content}
 use Rattle.jm_machine.specs.declared.state.Definition.{Definition}
-use Rattle.jm_machine.specs.Machine.{accepts}
+use Rattle.jm_machine.specs.Machine.{Publisher, accepts}
 
 -- a subscription: its key, and what it asks for
 pub record Subscription : Type 0 where
@@ -21,13 +21,13 @@ pub record Subscriptions : Type 0 where
   pub list : List Subscription
   pub spare : ℕ
 
--- the subscription accepts the message
-abbrev pub takes : Content → Subscription → Bool
-takes m s = accepts s.key s.definition m
+-- the subscription accepts the publisher's message
+abbrev pub takes : Publisher → Content → Subscription → Bool
+takes publisher m s = accepts s.key s.definition publisher m
 
--- the keys of those that accept the message, in order of creation
-abbrev pub accepting : Content → List Subscription → List Key
-accepting m subscriptions = map (λ s. s.key) (filter (takes m) subscriptions)
+-- the keys of those that accept the publisher's message, in order of creation
+abbrev pub accepting : Publisher → Content → List Subscription → List Key
+accepting publisher m subscriptions = map (λ s. s.key) (filter (takes publisher m) subscriptions)
 
 -- all but the subscription of the key
 abbrev pub without : Key → List Subscription → List Subscription

@@ -3,7 +3,5 @@
 
 mod subs;
 mod subscription;
-#[cfg(test)]
-mod tests;
 
 pub use subs::{Decision, Subs};

@@ -4,9 +4,10 @@ ghost use Rattle.std.specs.Prelude.{◌≡◌, ◌≢◌, ◌+◌, ◌<◌, ◌�
 ghost use Rattle.std.specs.Option.{option_copied};
 ghost use Rattle.jm_base.specs.declared.refusal.Refusal.TheVariants.{Memory};
 ghost use Rattle.jm_dest.specs.Keys.{key_eq};
-ghost use Rattle.jm_machine.specs.Machine.{defined};
+ghost use Rattle.jm_machine.specs.Machine.{Publisher, defined};
 ghost use Rattle.jm_machine.specs.Selectors.{selector_refusal};
-ghost use Rattle.jm_sub.specs.Subscriptions.{accepting as accepting_lem, put, takes, without};
+ghost use Rattle.jm_sub.specs.Subscriptions as spec;
+ghost use Rattle.jm_sub.specs.Subscriptions.{put, takes, without};
 
 use crate::subscription::Sub;
 use jm_base::{Refusal, Str};
@@ -58,7 +59,7 @@ fn remove_key_of(items: &mut Vec<Sub>, other: &Sub)
 
 /// The keys of those that accept the message.
 fn keys_of(alloc: Global, items: &[Sub], message: &Message) -> Result<Vec<Key>, AllocError>
-    ensures { IfOk result (λ keys. keys.items ≡ accepting_lem message.now items.now) }
+    ensures { IfOk result (λ keys. (publisher : Publisher) → keys.items ≡ spec.accepting publisher message.now items.now) }
 {
     let mut keys = Vec::new(alloc);
     for sub in items {
@@ -145,7 +146,7 @@ impl Subs {
     /// the message (section 3.8.1). Takes no memory.
     pub fn accepts_at(&self, at: usize, message: &Message) -> bool
         requires { at < length self.now.list }
-        ensures { option_map (takes message.now) (slice_get self.now.list at) ≡ Some result }
+        ensures { (publisher : Publisher) → option_map (takes publisher message.now) (slice_get self.now.list at) ≡ Some result }
     {
         let held = &self.items[at];
         held.accepts(message)
@@ -154,7 +155,7 @@ impl Subs {
     /// The keys of the subscriptions that accept the message, in order of creation. `Memory` where a
     /// request for memory was refused.
     pub fn accepting(&self, message: &Message) -> Result<Vec<Key>, Refusal>
-        ensures ok { IfOk result (λ keys. keys.items ≡ accepting_lem message.now self.now.list) }
+        ensures ok { IfOk result (λ keys. (publisher : Publisher) → keys.items ≡ spec.accepting publisher message.now self.now.list) }
         ensures err { IfErr result (λ refusal. refusal ≡ Memory) }
     {
         Ok(keys_of(self.alloc, &self.items, message)?)

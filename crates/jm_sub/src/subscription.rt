@@ -3,15 +3,16 @@
 ghost use Rattle.std.specs.Prelude.{◌≡◌, ◌≢◌, IfOk, IfErr, Ok, Some};
 ghost use Rattle.jm_base.specs.declared.refusal.Refusal.TheVariants.{Memory};
 ghost use Rattle.jm_dest.specs.Keys.{key_eq};
-ghost use Rattle.jm_machine.specs.Machine.{defined, is_to as is_to_lem};
-ghost use Rattle.jm_machine.specs.Selectors.{selector_read, selector_refusal, standing as standing_lem};
+ghost use Rattle.jm_machine.specs.Machine.{Publisher, defined};
+ghost use Rattle.jm_machine.specs.Selectors as spec;
+ghost use Rattle.jm_machine.specs.Selectors.{selector_read, selector_refusal};
 ghost use Rattle.jm_sub.specs.Subscriptions.{refused, takes};
 
 use jm_base::{Cause, Refusal, Str};
-use jm_dest::{Destination, Key, Name};
+use jm_dest::{Key, Name};
 use jm_eval::selects;
 use jm_header::Message;
-use jm_machine::Definition;
+use jm_machine::{Definition, copy_selector};
 use jm_syntax::{SyntaxFault, Tree, parse};
 use std::alloc::{AllocError, Global};
 use std::marker::Model;
@@ -64,22 +65,13 @@ fn tree_of(alloc: Global, selector: &Option<Str>) -> Result<Option<Tree>, Refusa
     }
 }
 
-fn copy_text(text: &Option<Str>) -> Result<Option<Str>, AllocError>
-    ensures { IfOk result (λ copy. copy ≡ text.now) }
-{
-    match text {
-        None => Ok(None),
-        Some(text) => Ok(Some(text.copy()?)),
-    }
-}
-
 /// The selector as it stands in a definition: none where its text holds no token.
 fn standing(tree: &Option<Tree>, selector: &Option<Str>) -> Result<Option<Str>, AllocError>
-    ensures { IfOk result (λ text. text ≡ standing_lem selector.now (Ok tree.now)) }
+    ensures { IfOk result (λ text. text ≡ spec.standing selector.now (Ok tree.now)) }
 {
     match tree {
         None => Ok(None),
-        Some(_) => copy_text(selector),
+        Some(_) => copy_selector(selector),
     }
 }
 
@@ -89,16 +81,6 @@ fn copy_tree(alloc: Global, tree: &Option<Tree>) -> Result<Option<Tree>, AllocEr
     match tree {
         None => Ok(None),
         Some(tree) => Ok(Some(tree.copy(alloc)?)),
-    }
-}
-
-/// Whether the destination is the topic.
-fn is_to(topic: &Name, destination: &Destination) -> bool
-    ensures { result ≡ is_to_lem topic.now destination.now }
-{
-    match destination {
-        Destination::Queue(_) => false,
-        Destination::Topic(name) => *topic == *name,
     }
 }
 
@@ -168,8 +150,8 @@ impl Sub {
 
     /// Whether the message's topic is the subscription's, and its selector accepts the message.
     pub(crate) fn accepts(&self, message: &Message) -> bool
-        ensures { result ≡ takes message.now self.now }
+        ensures { (publisher : Publisher) → result ≡ takes publisher message.now self.now }
     {
-        is_to(&self.definition.topic, message.destination()) && selects(&self.tree, message)
+        self.definition.is_to(message) && selects(&self.tree, message)
     }
 }

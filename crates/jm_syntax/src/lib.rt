@@ -1,16 +1,10 @@
-//! Selector texts (Jakarta Messaging 3.1, section 3.8.1): their grammar, their trees, and the parser.
+//! Selector texts (Jakarta Messaging 3.1, section 3.8.1): from a text to its tree or its first fault.
+//! Tokens, trees and the grammar's laws are given out again.
 #![tactic(auto)]
 
-mod cursor;
-mod growth;
 mod parser;
-mod predicates;
-mod rules;
-mod sort;
-#[cfg(test)]
-mod tests;
-mod tree;
 
+pub use jm_grammar::{law_fault, law_one_tree};
 pub use jm_lexer::{Kind, Mark, SyntaxFault, Token, lex};
-pub use parser::{law_fault, law_one_tree, parse};
-pub use tree::{Additive, Comparison, Multiplicative, Tree};
+pub use jm_tree::{Additive, Comparison, Multiplicative, Sort, Tree};
+pub use parser::parse;

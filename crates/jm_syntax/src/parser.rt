@@ -1,62 +1,25 @@
-ghost use Rattle.std.specs.Prelude.{◌≡◌, ◌≤◌, ℕ, List, IfOk, length};
-ghost use Rattle.jm_syntax.specs.Answer as spec;
+ghost use Rattle.std.specs.Prelude.{◌≡◌, ◌≤◌, List, IfOk, length};
 ghost use Rattle.jm_lexer.specs.Faults.{Gives};
-ghost use Rattle.jm_syntax.specs.Input.{Reads};
-ghost use Rattle.jm_lexer.specs.Lex as lexer;
-ghost use Rattle.jm_syntax.specs.Parse as whole;
-ghost use Rattle.jm_syntax.specs.Parse.{Finds, IsFaulty};
-ghost use Rattle.jm_syntax.specs.Spells.{Spells};
-ghost use Rattle.jm_lexer.specs.declared.fault.SyntaxFault.{SyntaxFault};
+ghost use Rattle.jm_lexer.specs.Lexes.{Lexes};
+ghost use Rattle.jm_lexer.specs.declared.fault.SyntaxFault.{SyntaxFault as Fault};
+ghost use Rattle.jm_tree.specs.Parse as spec;
+ghost use Rattle.jm_tree.specs.Parse.{Finds, Refuses};
+ghost use Rattle.jm_tree.specs.Spells.{Spells};
 ghost use Rattle.jm_lexer.specs.declared.token.Token.{Token};
-ghost use Rattle.jm_syntax.specs.declared.tree.Tree.{Tree};
+ghost use Rattle.jm_tree.specs.declared.tree.Tree.{Tree};
 
-use crate::cursor::Cursor;
-use crate::predicates::unless;
-use crate::rules::either;
-use crate::sort::fits_truth;
-use crate::tree::Tree;
 use jm_base::Cause;
-use jm_lexer::{SyntaxFault, Token, lex};
+use jm_lexer::{SyntaxFault, lex};
+use jm_parser::read_selector;
+use jm_tree::Tree;
 use std::alloc::Global;
 
 /// How many bytes a selector text may have.
 const MAX_LENGTH: usize = 8192;
 
-/// How many levels a selector may open.
-const MAX_LEVELS: usize = 64;
-
-#[tactic(auto, unfolding(crate::specs::Answer::finished))]
-fn finished(tokens: &mut Cursor<'_>, tree: Tree, at: usize) -> Result<Tree, SyntaxFault>
-    ensures { Reads (spec.finished tree at tokens.old) result tokens.new }
-{
-    if !tokens.is_end() {
-        return Err(tokens.stop(Cause::Expected));
-    }
-    tokens.note(unless(fits_truth(&tree), at));
-    tokens.settled(tree)
-}
-
-#[tactic(auto, unfolding(crate::specs::Answer::whole))]
-fn whole(alloc: Global, tokens: &mut Cursor<'_>) -> Result<Tree, SyntaxFault>
-    ensures { Reads (spec.whole tokens.old) result tokens.new }
-{
-    let at = tokens.start();
-    let tree = either(alloc, tokens, MAX_LEVELS)?;
-    finished(tokens, tree, at)
-}
-
-/// The tree that the tokens of a text of `end` bytes spell, or the first fault.
-#[tactic(auto, unfolding(crate::specs::Answer::answer))]
-fn answer(alloc: Global, tokens: &[Token], end: usize) -> Result<Tree, SyntaxFault>
-    ensures { Gives result (spec.answer tokens.now end) }
-{
-    let mut tokens = Cursor::new(tokens, end);
-    whole(alloc, &mut tokens)
-}
-
-#[tactic(auto, unfolding(crate::specs::Parse::parsed))]
+#[tactic(auto, using(jm_lexer::proofs::Lexed::lexed_tokens), unfolding(jm_tree::specs::Parse::parsed))]
 fn parsed(alloc: Global, text: &str) -> Result<Option<Tree>, SyntaxFault>
-    ensures { Gives result (whole.parsed text.now) }
+    ensures { Gives result (spec.parsed text.now) }
 {
     if text.len() > MAX_LENGTH {
         return Err(SyntaxFault {
@@ -67,7 +30,7 @@ fn parsed(alloc: Global, text: &str) -> Result<Option<Tree>, SyntaxFault>
     let tokens = lex(alloc, text)?;
     match tokens.as_slice() {
         [] => Ok(None),
-        tokens => Ok(Some(answer(alloc, tokens, text.len())?)),
+        tokens => Ok(Some(read_selector(alloc, tokens, text.len())?)),
     }
 }
 
@@ -82,23 +45,15 @@ fn parsed(alloc: Global, text: &str) -> Result<Option<Tree>, SyntaxFault>
 /// text. Memory where a request for memory was refused.
 pub fn parse(alloc: Global, text: &str) -> Result<Option<Tree>, SyntaxFault>
     // Which tree, or which fault.
-    ensures exact { Gives result (whole.parsed text.now) }
+    ensures exact { Gives result (spec.parsed text.now) }
     // What is found is nothing where there is no token, else the tree that the tokens spell.
     ensures found { IfOk result (Finds text.now) }
     // What is spelled is found, unless memory runs out.
-    ensures only { (toks : List Token) (tree : Tree) → length text.now ≤ 8192 → lexer.tokens text.now ≡ Ok toks → Spells tree toks → Gives result (Ok (Some tree)) }
+    ensures only { (toks : List Token) (tree : Tree) → length text.now ≤ spec.length_max → Lexes text.now (Ok toks) → Spells tree toks → Gives result (Ok (Some tree)) }
+    // A lexical fault is told, unless memory runs out.
+    ensures lexical { (fault : Fault) → length text.now ≤ spec.length_max → Lexes text.now (Err fault) → Gives result (Err fault) }
+    // What is refused is too long, has a lexical fault, or has tokens that no tree spells, unless memory runs out.
+    ensures refused { Refuses text.now result }
 {
     parsed(alloc, text)
 }
-
-/// Two trees never spell one list of tokens.
-pub fn law_one_tree()
-    ensures { (toks : List Token) (s t : Tree) → Spells s toks → Spells t toks → s ≡ t }
-{}
-
-/// A text has a fault exactly where it is over 8,192 bytes, has a lexical fault, or has tokens that
-/// no tree spells.
-pub fn law_fault()
-    ensures some { (text : List ℕ) (e : SyntaxFault) → whole.fault text ≡ Some e → IsFaulty text }
-    ensures none { (text : List ℕ) → whole.fault text ≡ None → IsFaulty text → ⊥ }
-{}

@@ -1,8 +1,6 @@
 //! The words of the program's command line, and what they ask for.
 #![tactic(auto)]
 
-#[cfg(test)]
-mod tests;
 mod words;
 
 pub use words::{Words, WordsFault, not_text, read_words};

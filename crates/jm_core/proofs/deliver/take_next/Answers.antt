@@ -8,7 +8,7 @@ use Rattle.jm_core.proofs.deliver.take_next.Goals as goal
 pub returns-in-Some-clause-answer : goal.returns-in-Some-clause-answer
 returns-in-Some-clause-answer c =
     let at = found_at (λ x. is_next c.args.now (bare c.args.rows.now.items) x.row) c.args.rows.now.items c.in-Some.i (sym (rw c.deref.ensures.value at c.next_at.ensures) ∙ c.in-Some.is) in
-    c.delivered.ensures
+    c.hand_out.ensures
     ∙ ap (λ x. delivery (Some x.row)) c.remove.ensures.value
     ∙ ap delivery (sym (one_passes (is_next c.args.now (bare c.args.rows.now.items)) c.args.rows.now.items c.remove.result c.in-Some.i at.0 at.1).1)
 

@@ -12,7 +12,7 @@ returns-in-Some-clause-answer c =
     let rows : List Row = c.args.rows.now.items in
     let at = found_at (position_or_len (is_next c.args.now rows) rows) (length rows) c.in-Some.i (search rules) in
     let found = one_passes (is_next c.args.now rows) rows c.in-Some.i c.remove.result at.0 at.1 in
-    c.delivered.ensures ∙ ap (λ (r : Row). delivery (Some r)) c.remove.ensures.value ∙ ap (λ (o : Option Row). delivery o) (sym found.1)
+    c.hand_out.ensures ∙ ap (λ (r : Row). delivery (Some r)) c.remove.ensures.value ∙ ap (λ (o : Option Row). delivery o) (sym found.1)
 
 pub returns-in-Some-clause-rows : goal.returns-in-Some-clause-rows
 unfolding left_of

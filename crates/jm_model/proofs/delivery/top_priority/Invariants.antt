@@ -1,9 +1,7 @@
-use Rattle.std.proofs.Common.{◌≡◌, ◌≤◌, drop, length}
-use Rattle.jm_machine.specs.Rows.{top_priority}
+use Rattle.std.proofs.Common.{◌≡◌, ℕ, take}
+use Rattle.std.specs.Prelude.{nat_le}
+use Rattle.jm_machine.specs.Rows.{none_above}
 use Rattle.jm_model.proofs.delivery.top_priority.Given as goal
 
-abbrev pub invariant-loop-i : goal.invariant-loop-i
-invariant-loop-i l = (l.i ≤ length l.rows) × (l.top ≡ top_priority l.now (drop l.i l.rows))
-
-abbrev pub decreases-loop-i : goal.decreases-loop-i
-decreases-loop-i l = l.i
+abbrev pub invariant-loop-row : goal.invariant-loop-row
+invariant-loop-row l = (priority : ℕ) → none_above l.now (take l.row-index l.rows) priority ≡ nat_le l.top priority

@@ -1,13 +1,17 @@
-use Rattle.std.proofs.Common.{◌++◌, ◌+◌, drop, ap, ◌∙◌, ℕ, List}
-use Rattle.std.specs.Prelude.{Result}
-use Rattle.jm_base.specs.declared.refusal.Refusal.{Refusal}
-use Rattle.jm_machine.specs.declared.answer.Answer.{Answer}
+use Rattle.std.proofs.Common.{[], drop, refl}
+use Rattle.std.proofs.Math.ListN.{drop_of_length-le}
 use Rattle.jm_model.specs.Owners.{scope}
-use Rattle.jm_model.proofs.Placing.{answer_turn, to_answer}
+use Rattle.jm_model.proofs.Placing.{answer_turn, to_answer, all_answered}
 use Rattle.jm_model.proofs.replies.answers.Goals as goal
 
 pub loop-place-preserved : goal.loop-place-preserved
-loop-place-preserved c =
-    let fed = c.in_ok-reply.ensures in
-    ap (λ (xs : List (ℕ × Result Answer Refusal)). xs ++ to_answer (scope c.args.owner.now) (c.loop-place.place + 1) c.feed.new.self (drop (c.loop-place.place + 1) c.args.entries.now)) c.in_ok-add_reply.ensures
-    ∙ answer_turn (scope c.args.owner.now) c.loop-place.place c.loop-place.lone c.feed.new.self c.args.entries.now c.index-entries-place.result c.in_ok-reply.reply c.loop-place.replies.items (to_answer (scope c.args.owner.now) 0 c.args.lone c.args.entries.now) c.loop-place-test.true c.index-entries-place.is fed.0 fed.1 c.loop-place.invariant
+loop-place-preserved c life =
+    rw c.in_ok-add_reply.ensures
+    (answer_turn (scope c.args.owner.now) c.loop-place.place c.loop-place.lone c.feed.new.self c.args.entries.now c.index-entries-place.result c.in_ok-reply.reply c.loop-place.replies.items
+    (to_answer (scope c.args.owner.now) 0 life [] c.args.lone c.args.entries.now) c.loop-place-test.true c.index-entries-place.is c.in_ok-reply.ensures (c.loop-place.invariant life))
+
+pub loop-place-init : goal.loop-place-init
+loop-place-init c life = (life, [], rw c.new-replies.ensures.items refl)
+
+pub returns : goal.returns
+returns c life = all_answered (scope c.args.owner.now) c.loop-place.replies.items c.loop-place.place c.loop-place.lone (drop c.loop-place.place c.args.entries.now) _ (drop_of_length-le c.args.entries.now c.loop-place-test.false) (c.loop-place.invariant life)

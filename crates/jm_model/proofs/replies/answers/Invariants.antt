@@ -1,7 +1,8 @@
-use Rattle.std.proofs.Common.{◌≡◌, ◌++◌, drop}
+use Rattle.std.proofs.Common.{[], drop}
+use Rattle.jm_machine.specs.Life.{Life}
 use Rattle.jm_model.specs.Owners.{scope}
-use Rattle.jm_model.proofs.Placing.{to_answer}
+use Rattle.jm_model.proofs.Placing.{to_answer, Remains}
 use Rattle.jm_model.proofs.replies.answers.Given as goal
 
 abbrev pub invariant-loop-place : goal.invariant-loop-place
-invariant-loop-place l = l.replies.items ++ to_answer (scope l.owner) l.place l.lone (drop l.place l.entries) ≡ to_answer (scope l.owner) 0 l.fn.lone l.entries
+invariant-loop-place l = (life : Life) → Remains (scope l.owner) l.replies.items l.place l.lone (drop l.place l.entries) (to_answer (scope l.owner) 0 life [] l.fn.lone l.entries)

@@ -1,6 +1,6 @@
 use Rattle.std.proofs.Common.{◌≡◌, ◌∙◌, ap, sym, Option, Result, Ok}
 use Rattle.jm_lexer.specs.declared.fault.SyntaxFault.{SyntaxFault}
-use Rattle.jm_syntax.specs.declared.tree.Tree.{Tree}
+use Rattle.jm_tree.specs.declared.tree.Tree.{Tree}
 use Rattle.jm_machine.specs.declared.state.Definition.{Definition}
 use Rattle.jm_machine.specs.Selectors.{selector_read, read_selects}
 use Rattle.jm_machine.proofs.Selectors.{selects_same}

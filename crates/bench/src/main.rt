@@ -1,0 +1,60 @@
+//! Counted work on the core. The words are a kind of work, its rounds, the rows that are held before it,
+//! and its subscribers (or topics); with `timed` as a fifth word the nanoseconds a round are printed too.
+#![tactic(auto)]
+
+mod provider;
+mod work;
+
+use std::alloc::Global;
+use std::env::Env;
+use std::process::ExitCode;
+use std::rt::Clock;
+use std::time::Instant;
+use std::{env, io};
+use work::{Load, filled, kind_named, work};
+
+/// The load that the words ask for.
+fn load_of(words: &[String]) -> Option<Load> {
+    if words.len() < 4 {
+        return None;
+    }
+    Some(Load {
+        kind: kind_named(words[0].as_str())?,
+        rounds: words[1].as_str().parse().ok()?,
+        held: words[2].as_str().parse().ok()?,
+        subscribers: words[3].as_str().parse().ok()?,
+    })
+}
+
+/// Prints what was received, and with `timed` how long a round took.
+fn run(rt: &(impl Clock + Print), alloc: Global, load: Load, is_timed: bool) -> io::Result<()> {
+    let Ok(mut provider) = filled(alloc, load) else {
+        return println!(rt; "refused");
+    };
+    let start = Instant::now(rt)?;
+    if work(&mut provider, load).is_err() {
+        return println!(rt; "refused");
+    }
+    let sum = provider.sum();
+    println!(rt; "sum {sum}")?;
+    if is_timed {
+        let nanoseconds = start.elapsed(rt)?.as_nanos() / u128::from(load.rounds.max(1));
+        println!(rt; "{nanoseconds} ns")?;
+    }
+    Ok(())
+}
+
+fn main(rt: HostRuntime) -> io::Result<ExitCode> {
+    let alloc = rt.alloc();
+    let words: Vec<String> = env::args(&rt)?.skip(1).collect(alloc)?;
+    match load_of(&words) {
+        None => {
+            println!(&rt; "bench: KIND ROUNDS HELD SUBSCRIBERS [timed]")?;
+            Ok(ExitCode::from(2))
+        }
+        Some(load) => {
+            run(&rt, alloc, load, words.len() > 4)?;
+            Ok(ExitCode::from(0))
+        }
+    }
+}

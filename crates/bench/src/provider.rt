@@ -1,0 +1,122 @@
+//! A provider under work: one session that receives, one that publishes, and what was received.
+
+use jm_base::{List, Mode, Refusal};
+use jm_core::{Answer, Call, Core, Request, Step, Who};
+use jm_dest::{ConnectionId, ConsumerId, Destination, Moment, Name, Number, SessionId};
+use jm_header::{Draft, Sender, stamp};
+use std::alloc::Global;
+
+/// A message to be sent.
+#[derive(Clone, Copy)]
+pub(crate) struct Parcel {
+    /// The number of its topic.
+    pub topic: u32,
+    /// From 0 to 9.
+    pub priority: u8,
+    /// In milliseconds; 0 for no end.
+    pub time_to_live: i64,
+    pub now: i64,
+}
+
+/// A core with its two sessions, and the sum of the numbers of the messages that were received.
+#[derive(Drop)]
+pub(crate) struct Provider {
+    alloc: Global,
+    core: Core,
+    receiver: SessionId,
+    publisher: SessionId,
+    sent: u64,
+    sum: u64,
+}
+
+fn topic_name(alloc: Global, topic: u32) -> Result<String, Refusal> {
+    Ok(format!(in alloc; "topic{topic}")?)
+}
+
+impl Provider {
+    /// Both connections are open and started, both sessions are open.
+    pub(crate) fn new(alloc: Global) -> Result<Provider, Refusal> {
+        let first = ConnectionId::new(1)?;
+        let second = ConnectionId::new(2)?;
+        let mut provider = Provider {
+            alloc,
+            core: Core::new(alloc, 1)?,
+            receiver: SessionId::new(first, 1)?,
+            publisher: SessionId::new(second, 1)?,
+            sent: 0,
+            sum: 0,
+        };
+        for connection in [first, second] {
+            provider.ask(Who::Connection(connection), Request::Open)?;
+            provider.ask(Who::Connection(connection), Request::Start)?;
+        }
+        for session in [provider.receiver, provider.publisher] {
+            let request = Request::CreateSession { mode: Mode::Auto };
+            provider.ask(Who::Session(session), request)?;
+        }
+        Ok(provider)
+    }
+
+    fn ask(&mut self, who: Who, request: Request) -> Result<Answer, Refusal> {
+        let step = Step {
+            who,
+            call: Call::Ask(request),
+        };
+        self.core.step(&step)
+    }
+
+    /// The sum of the numbers of the messages that were received.
+    pub(crate) fn sum(&self) -> u64 {
+        self.sum
+    }
+
+    /// Makes a consumer of that number on the topic of that number.
+    pub(crate) fn subscribe(&mut self, consumer: u32, topic: u32) -> Result<(), Refusal> {
+        let name = topic_name(self.alloc, topic)?;
+        let request = Request::CreateConsumer {
+            consumer: ConsumerId::new(consumer)?,
+            topic: Name::new(self.alloc, name.as_str())?,
+            selector: None,
+        };
+        self.ask(Who::Session(self.receiver), request)?;
+        Ok(())
+    }
+
+    /// Publishes one message.
+    pub(crate) fn send(&mut self, parcel: Parcel) -> Result<(), Refusal> {
+        let alloc = self.alloc;
+        let mut draft = Draft::new(alloc);
+        draft.set_text("work")?;
+        draft.set_priority(parcel.priority)?;
+        draft.set_time_to_live(parcel.time_to_live)?;
+        let name = topic_name(alloc, parcel.topic)?;
+        let destination = Destination::topic(alloc, name.as_str())?;
+        let sender = Sender {
+            opening: Number::new(1)?,
+            session: self.publisher,
+        };
+        self.sent = self.sent.saturating_add(1);
+        let now = Moment::new(parcel.now)?;
+        let message = stamp(draft, destination, sender, self.sent, now)?;
+        let mut messages = Vec::with_capacity(alloc, 1)?;
+        messages.push_reserved(message);
+        let step = Step {
+            who: Who::Session(self.publisher),
+            call: Call::Publish(List::new(messages)),
+        };
+        self.core.step(&step)?;
+        Ok(())
+    }
+
+    /// Receives for that consumer, and adds the number of the message to the sum.
+    pub(crate) fn receive(&mut self, consumer: u32, now: i64) -> Result<(), Refusal> {
+        let request = Request::Receive {
+            consumer: ConsumerId::new(consumer)?,
+            now: Moment::new(now)?,
+        };
+        if let Answer::Delivered(delivery) = self.ask(Who::Session(self.receiver), request)? {
+            self.sum = self.sum.wrapping_add(delivery.message.number());
+        }
+        Ok(())
+    }
+}

@@ -1,0 +1,115 @@
+//! The kinds of work, each as rounds over a provider that holds rows already.
+
+use crate::provider::{Parcel, Provider};
+use jm_base::Refusal;
+use std::alloc::Global;
+
+/// What is done in each round.
+#[derive(Clone, Copy, PartialEq, Eq)]
+pub(crate) enum Kind {
+    /// A message is sent, and received by its one subscriber.
+    OneToOne,
+    /// A message is sent, and received by each of its subscribers.
+    FanOut,
+    /// A message is sent to the next of many topics, and received there.
+    Topics,
+    /// As one to one, with priorities in turn.
+    Priorities,
+    /// A message is sent that expires in two rounds, and one is received.
+    Expiry,
+}
+
+/// How much of it.
+#[derive(Clone, Copy)]
+pub(crate) struct Load {
+    pub kind: Kind,
+    pub rounds: u32,
+    /// Rows that are held before the first round, and left after the last.
+    pub held: u32,
+    /// Subscribers, or topics with one subscriber each; at least 1.
+    pub subscribers: u32,
+}
+
+/// The kind of that name.
+pub(crate) fn kind_named(name: &str) -> Option<Kind> {
+    match name {
+        "one-to-one" => Some(Kind::OneToOne),
+        "fan-out" => Some(Kind::FanOut),
+        "topics" => Some(Kind::Topics),
+        "priorities" => Some(Kind::Priorities),
+        "expiry" => Some(Kind::Expiry),
+        _ => None,
+    }
+}
+
+/// The parcel of a round.
+fn parcel(load: Load, round: u32) -> Parcel {
+    let topic = match load.kind {
+        Kind::Topics => round % load.subscribers.max(1),
+        _ => 0,
+    };
+    let priority = match load.kind {
+        Kind::Priorities => (round % 10) as u8,
+        _ => 4,
+    };
+    let time_to_live = match load.kind {
+        Kind::Expiry => 2,
+        _ => 0,
+    };
+    Parcel {
+        topic,
+        priority,
+        time_to_live,
+        now: i64::from(round),
+    }
+}
+
+/// A provider with the subscribers of the load, and the rows that are held before it.
+pub(crate) fn filled(alloc: Global, load: Load) -> Result<Provider, Refusal> {
+    let mut provider = Provider::new(alloc)?;
+    for number in 0..load.subscribers.min(1_000_000) {
+        let topic = match load.kind {
+            Kind::Topics => number,
+            _ => 0,
+        };
+        provider.subscribe(number + 1, topic)?;
+    }
+    for round in 0..load.held {
+        let held = Parcel {
+            time_to_live: 0,
+            ..parcel(load, round)
+        };
+        provider.send(held)?;
+    }
+    Ok(provider)
+}
+
+/// Who receives in a round: the first and the last of the consumers.
+fn receivers(load: Load, round: u32) -> (u32, u32) {
+    match load.kind {
+        Kind::FanOut => (0, load.subscribers.min(1_000_000)),
+        Kind::Topics => {
+            let at = round % load.subscribers.clamp(1, 1_000_000);
+            (at, at + 1)
+        }
+        _ => (0, 1),
+    }
+}
+
+/// Makes one round.
+fn work_once(provider: &mut Provider, load: Load, round: u32) -> Result<(), Refusal> {
+    provider.send(parcel(load, round))?;
+    let (from, to) = receivers(load, round);
+    for number in from..to.min(1_000_000) {
+        provider.receive(number + 1, i64::from(round))?;
+    }
+    Ok(())
+}
+
+/// Makes the rounds of the load.
+pub(crate) fn work(provider: &mut Provider, load: Load) -> Result<(), Refusal> {
+    for round in 0..load.rounds {
+        work_once(provider, load, round)?;
+    }
+    Ok(())
+}

@@ -1,9 +1,0 @@
-use Rattle.std.proofs.Common.{◌≡◌, ◌≤◌, ◌++◌, length, vec_len, vec_capacity}
-use Rattle.std.specs.Vec.Iter.{into_iter_items}
-use Rattle.jm_machine.specs.Client.{begun, RepliesFit}
-use Rattle.jm_core.specs.Runs.{progress}
-use Rattle.jm_core.proofs.state.Core.run.Given as goal
-
-abbrev pub invariant-loop-call : goal.invariant-loop-call
-invariant-loop-call l =
-    RepliesFit (begun l.fn.self) l.yielded l.replies.items (progress l.self l.sends) × (vec_len l.replies ≡ length l.yielded) × (length l.fn.calls.items ≤ vec_capacity l.replies) × (l.fn.calls.items ≡ l.yielded ++ into_iter_items l.call-iterator)

@@ -1,0 +1,131 @@
+ghost use Rattle.std.specs.Prelude.{◌≡◌, ◌≤◌, MatchResult, IfOk, OnErr};
+ghost use Rattle.jm_base.specs.declared.refusal.Refusal.TheVariants.{OutOfRange};
+ghost use Rattle.jm_machine.specs.Machine as machine;
+ghost use Rattle.jm_machine.specs.Client.{Progress, begun, RunOwed};
+ghost use Rattle.jm_machine.specs.Isolation.{Reached};
+ghost use Rattle.jm_core.specs.Accepted.{HoldsAccepted};
+ghost use Rattle.jm_core.specs.Steps.{StepFits};
+
+use crate::state::CoreState;
+use jm_base::Refusal;
+use jm_dest::Number;
+use jm_machine::{
+    Answer, ClientCall, ConnectionState, Consumer, Reply, SessionState, Station, Step,
+};
+use std::alloc::{AllocError, Global};
+use std::marker::Model;
+
+/// The provider. Contracts see it as the machine's state, and every core's state is one that the
+/// provider reaches.
+#[derive(Drop)]
+pub struct Core {
+    state: CoreState,
+}
+
+impl Model for Core {
+    ghost use Rattle.jm_machine.specs.Machine.{State};
+    ghost use Rattle.jm_machine.specs.Isolation.{Reached};
+
+    ghost Value = { State };
+
+    ghost view = { λ c. c.state };
+
+    ghost invariant = { λ c. Reached c.state };
+}
+
+/// The law that each core's state is reached, proved; the function itself does nothing.
+///
+/// The state of every core is one that the provider reaches: that of a new core, or what steps lead to
+/// from one. So the law of isolation holds of whatever list of calls is run on it next.
+pub fn law_core_reached(core: &Core)
+    ensures { Reached core.now }
+{
+    let _ = &core.state;
+}
+
+impl Core {
+    /// A core that holds nothing, in that opening of the provider. `OutOfRange` exactly where the
+    /// number is 0.
+    pub fn new(alloc: Global, opening: u32) -> Result<Core, Refusal>
+        ensures { MatchResult result (λ core. (core ≡ machine.new_core opening) × (1 ≤ opening)) (λ refusal. (refusal ≡ OutOfRange) × (opening ≡ 0)) }
+    {
+        let state = CoreState::new(alloc, opening)?;
+        Ok(Core { state })
+    }
+
+    /// An equal core. `AllocError` where a request for memory was refused.
+    pub fn copy(&self) -> Result<Core, AllocError>
+        ensures { IfOk result (λ copy. copy ≡ self.now) }
+    {
+        let state = self.state.copy()?;
+        Ok(Core { state })
+    }
+
+    /// The number of this opening of the provider, from 1.
+    pub fn opening(&self) -> Number
+        ensures { result ≡ self.now.opening }
+    {
+        self.state.opening()
+    }
+
+    /// The connections that were opened, in order.
+    pub fn connections(&self) -> &[ConnectionState]
+        ensures { result.now ≡ self.now.life.connections }
+    {
+        self.state.connections()
+    }
+
+    /// The sessions that were opened, in order.
+    pub fn sessions(&self) -> &[SessionState]
+        ensures { result.now ≡ self.now.life.sessions }
+    {
+        self.state.sessions()
+    }
+
+    /// The consumers that were made, in order.
+    pub fn consumers(&self) -> &[Consumer]
+        ensures { result.now ≡ self.now.consumers }
+    {
+        self.state.consumers()
+    }
+
+    /// The subscriptions with their rows, in order of creation. Each row was accepted: its message goes
+    /// to the subscription's topic, and the tree of the subscription's selector is TRUE for it, or there
+    /// is no selector. The rows of each stand by place, below the next place.
+    pub fn stations(&self) -> &[Station]
+        ensures stations { result.now ≡ self.now.stations }
+        ensures accepted { HoldsAccepted self.now.stations }
+        ensures ordered { machine.AllInOrder self.now.next_place self.now.stations }
+    {
+        self.state.stations()
+    }
+
+    /// The place of the next publication, from 1.
+    pub fn next_place(&self) -> u64
+        ensures { result ≡ self.now.next_place }
+    {
+        self.state.next_place()
+    }
+
+    /// Makes one step. A refusal is the first cause that stands, in the order of `Refusal`, and leaves
+    /// the core as it was; so does `Memory`, which comes only to a call that takes memory: one that opens a
+    /// connection or a session, makes a consumer or publishes, and only where no other cause stands, or in
+    /// place of `InvalidSelector`. `Start`, `Stop` and `Receive` take none.
+    pub fn step(&mut self, step: &Step) -> Result<Answer, Refusal>
+        ensures { StepFits self.old step.now.who step.now.call result self.new }
+    {
+        self.state.step(step)
+    }
+
+    /// Makes the calls in turn, and gives the reply to each. The numbers of each session's sends count
+    /// from 1 at the start of the list. `AllocError` where no room was found for the replies and for the
+    /// counts of sends; then no call was made. Where one call wants memory, as `step` says, its reply is
+    /// `Memory`, the core is as it was before that call, and the run goes on; a send has used its number
+    /// then.
+    pub fn run(&mut self, calls: Vec<ClientCall>) -> Result<Vec<Reply>, AllocError>
+        ensures ok { IfOk result (λ replies. (end : Progress) × RunOwed (begun self.old) calls.items replies.items end × (self.new ≡ end.state)) }
+        ensures err { OnErr result (self.new ≡ self.old) }
+    {
+        self.state.run(calls)
+    }
+}

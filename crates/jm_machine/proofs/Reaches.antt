@@ -1,0 +1,57 @@
+-- Replies that fit lead from a state that the provider reaches to another; and what a run owes fits.
+use Rattle.std.proofs.Common.{◌≡◌, ◌⊎◌, inr, Bool, true, false, List, [], ◌∷◌, ap, sym, subst}
+use Rattle.std.specs.Prelude.{Result, Ok, Err, MatchBool}
+use Rattle.jm_base.specs.declared.refusal.Refusal.{Refusal}
+use Rattle.jm_dest.specs.declared.session.SessionId.{SessionId}
+use Rattle.jm_header.specs.declared.content.Content.{Content}
+use Rattle.jm_machine.specs.declared.call.Who.TheVariants.{Session}
+use Rattle.jm_machine.specs.declared.call.Call.TheVariants.{Publish, Ask as AskStep}
+use Rattle.jm_machine.specs.declared.call.ClientCall.{ClientCall}
+use Rattle.jm_machine.specs.declared.call.ClientCall.TheVariants.{Ask, Send}
+use Rattle.jm_machine.specs.declared.answer.Answer.{Answer}
+use Rattle.jm_machine.specs.Machine.{State}
+use Rattle.jm_machine.specs.Wants.{is_want}
+use Rattle.jm_machine.specs.Client.{Progress, stamp_of, send_progress, reply_to, progress_to, call_may_want, CallFits, CallOwed, RepliesFit, RunOwed}
+use Rattle.jm_machine.specs.Isolation.{Reached, RunsReach}
+use Rattle.jm_machine.specs.Isolation.Reached.{Stepped}
+
+sent_reached : (p : Progress) (s : SessionId) (x : Result Content Refusal) → Reached p.state → Reached (send_progress p s x).state
+sent_reached p s (Ok m) r = Stepped p.state (Session s) (Publish (m ∷ [])) r
+sent_reached p s (Err e) r = r
+
+moved_reached : (p : Progress) (call : ClientCall) → Reached p.state → Reached (progress_to p call).state
+unfolding progress_to
+moved_reached p (Ask who request) r = Stepped p.state who (AskStep request) r
+moved_reached p (Send s draft destination now) r = sent_reached p s (stamp_of p s draft destination now) r
+
+call_reached : (p next : Progress) (call : ClientCall) (r : Result Answer Refusal) → CallFits p call r next → Reached p.state → Reached next.state
+call_reached p next call r f reached = go (is_want r) f
+  where
+    go : (b : Bool) → MatchBool b ((next.state ≡ p.state) × ((next.sent ≡ p.sent) ⊎ (next.sent ≡ (progress_to p call).sent))) ((r ≡ reply_to p call) × (next ≡ progress_to p call)) → Reached next.state
+    go true f = subst Reached (sym f.0) reached
+    go false f = subst (λ (x : Progress). Reached x.state) (sym f.1) (moved_reached p call reached)
+
+run_reached : (calls : List ClientCall) (replies : List (Result Answer Refusal)) (p end : Progress) → Reached p.state → RepliesFit p calls replies end → Reached end.state
+run_reached [] [] p end r f = subst (λ (x : Progress). Reached x.state) (sym f) r
+run_reached [] (x ∷ replies) p end r f = absurd f
+run_reached (call ∷ calls) [] p end r f = absurd f
+run_reached (call ∷ calls) (x ∷ replies) p end r f = run_reached calls replies f.0 end (call_reached p f.0 call x f.1 r) f.2
+
+pub runs_reach : RunsReach
+runs_reach opening calls replies end r f = run_reached calls replies (record { state = opening; sent = λ s. 0 }) end r f
+
+-- what a run owes to a call fits
+owed_call : (p : Progress) (call : ClientCall) (r : Result Answer Refusal) (next : Progress) → CallOwed p call r next → CallFits p call r next
+owed_call p call r next f = go (is_want r) f
+  where
+    go : (b : Bool) → MatchBool b ((call_may_want p call ≡ true) × (next ≡ record (progress_to p call) { state = p.state })) ((r ≡ reply_to p call) × (next ≡ progress_to p call)) →
+        MatchBool b ((next.state ≡ p.state) × ((next.sent ≡ p.sent) ⊎ (next.sent ≡ (progress_to p call).sent))) ((r ≡ reply_to p call) × (next ≡ progress_to p call))
+    go true f = (ap (λ (x : Progress). x.state) f.1, inr (ap (λ (x : Progress). x.sent) f.1))
+    go false f = f
+
+-- what a run owes fits
+pub owed_fits : (p : Progress) (calls : List ClientCall) (replies : List (Result Answer Refusal)) (end : Progress) → RunOwed p calls replies end → RepliesFit p calls replies end
+owed_fits p [] [] end f = f
+owed_fits p [] (r ∷ replies) end f = absurd f
+owed_fits p (call ∷ calls) [] end f = absurd f
+owed_fits p (call ∷ calls) (r ∷ replies) end f = (f.0, owed_call p call r f.0 f.1, owed_fits f.0 calls replies end f.2)

@@ -1,0 +1,5 @@
+pub mod Turns
+pub mod Single
+pub mod Levels
+pub mod Chains
+pub mod Primaries

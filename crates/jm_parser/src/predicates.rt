@@ -1,0 +1,173 @@
+ghost use Rattle.std.specs.Prelude.{◌≡◌};
+ghost use Rattle.jm_tree.specs.FaultOrder as spec;
+ghost use Rattle.jm_tree.specs.Input as input;
+ghost use Rattle.jm_tree.specs.Input.{Reads};
+ghost use Rattle.jm_tree.specs.Sorts as sorts;
+
+use crate::cursor::Cursor;
+use crate::growth::push;
+use jm_base::{List, Str};
+use jm_lexer::{Mark, SyntaxFault};
+use jm_tree::Tree;
+use std::alloc::Global;
+
+/// The place, if the operand does not fit.
+pub(crate) fn unless(fits: bool, at: usize) -> Option<usize>
+    ensures { result ≡ input.unless fits at }
+{
+    if fits { None } else { Some(at) }
+}
+
+#[tactic(auto, unfolding(jm_tree::specs::FaultOrder::named))]
+fn is_null(tokens: &mut Cursor<'_>, negated: bool, operand: Tree, at: usize) -> Tree
+    ensures { spec.named (Tree.IsNull negated) operand at tokens.old ≡ Ok (result, tokens.new) }
+{
+    match operand {
+        Tree::Name(name) => Tree::IsNull { negated, name },
+        other => {
+            tokens.note(Some(at));
+            other
+        }
+    }
+}
+
+#[tactic(auto, unfolding(jm_tree::specs::FaultOrder::named, jm_tree::specs::FaultOrder::in_of))]
+fn is_in(tokens: &mut Cursor<'_>, negated: bool, operand: Tree, at: usize, list: List<Str>) -> Tree
+    ensures { spec.named (spec.in_of negated list) operand at tokens.old ≡ Ok (result, tokens.new) }
+{
+    match operand {
+        Tree::Name(name) => Tree::In {
+            negated,
+            name,
+            list,
+        },
+        other => {
+            tokens.note(Some(at));
+            other
+        }
+    }
+}
+
+#[tactic(auto, unfolding(jm_tree::specs::FaultOrder::named, jm_tree::specs::FaultOrder::like_of))]
+fn is_like(
+    tokens: &mut Cursor<'_>,
+    negated: bool,
+    operand: Tree,
+    at: usize,
+    pattern: Str,
+    escape: Option<char>,
+) -> Tree
+    ensures { spec.named (spec.like_of negated pattern escape) operand at tokens.old ≡ Ok (result, tokens.new) }
+{
+    match operand {
+        Tree::Name(name) => Tree::Like {
+            negated,
+            name,
+            pattern,
+            escape,
+        },
+        other => {
+            tokens.note(Some(at));
+            other
+        }
+    }
+}
+
+/// `IS [NOT] NULL`, after the operand that began at `at`.
+#[tactic(auto, unfolding(jm_tree::specs::FaultOrder::null_test))]
+pub(crate) fn null_test(
+    tokens: &mut Cursor<'_>,
+    operand: Tree,
+    at: usize,
+) -> Result<Tree, SyntaxFault>
+    ensures { Reads (spec.null_test operand at tokens.old) result tokens.new }
+{
+    tokens.pass();
+    let negated = tokens.eat(Mark::Not);
+    tokens.expect(Mark::Null)?;
+    Ok(is_null(tokens, negated, operand, at))
+}
+
+/// `text { , text }`.
+#[tactic(auto, unfolding(jm_tree::specs::FaultOrder::texts, jm_tree::specs::FaultOrder::texts_from))]
+fn texts(alloc: Global, tokens: &mut Cursor<'_>) -> Result<List<Str>, SyntaxFault>
+    ensures { Reads (spec.texts tokens.old) result tokens.new }
+{
+    let mut found = Vec::new(alloc);
+    push(&mut found, tokens.text()?)?;
+    for _turn in 0..tokens.left() {
+        if !tokens.eat(Mark::Comma) {
+            return Ok(List::new(found));
+        }
+        push(&mut found, tokens.text()?)?;
+    }
+    Ok(List::new(found))
+}
+
+/// `[NOT] IN ( text { , text } )`, after the operand that began at `at`.
+#[tactic(auto, unfolding(jm_tree::specs::FaultOrder::membership))]
+pub(crate) fn membership(
+    alloc: Global,
+    tokens: &mut Cursor<'_>,
+    negated: bool,
+    operand: Tree,
+    at: usize,
+) -> Result<Tree, SyntaxFault>
+    ensures { Reads (spec.membership negated operand at tokens.old) result tokens.new }
+{
+    tokens.pass();
+    tokens.expect(Mark::Open)?;
+    let list = texts(alloc, tokens)?;
+    tokens.expect(Mark::Close)?;
+    Ok(is_in(tokens, negated, operand, at, list))
+}
+
+/// The character of a text that is one Unicode scalar value.
+#[tactic(auto, unfolding(jm_tree::specs::Sorts::single))]
+fn single(text: &str) -> Option<char>
+    ensures { result ≡ sorts.single text.now }
+{
+    let mut chars = text.chars();
+    let first = chars.next()?;
+    match chars.next() {
+        None => Some(first),
+        Some(_) => None,
+    }
+}
+
+/// `ESCAPE text`: the left operand is checked before it.
+#[tactic(auto, unfolding(jm_tree::specs::FaultOrder::escaped))]
+fn escaped(
+    tokens: &mut Cursor<'_>,
+    negated: bool,
+    operand: Tree,
+    at: usize,
+    pattern: Str,
+) -> Result<Tree, SyntaxFault>
+    ensures { Reads (spec.escaped negated operand at pattern tokens.old) result tokens.new }
+{
+    let place = tokens.start();
+    let text = tokens.text()?;
+    let escape = single(text.as_str());
+    let tree = is_like(tokens, negated, operand, at, pattern, escape);
+    tokens.note(unless(escape.is_some(), place));
+    Ok(tree)
+}
+
+/// `[NOT] LIKE text [ ESCAPE text ]`, after the operand that began at `at`.
+#[tactic(auto, unfolding(jm_tree::specs::FaultOrder::likeness))]
+pub(crate) fn likeness(
+    tokens: &mut Cursor<'_>,
+    negated: bool,
+    operand: Tree,
+    at: usize,
+) -> Result<Tree, SyntaxFault>
+    ensures { Reads (spec.likeness negated operand at tokens.old) result tokens.new }
+{
+    tokens.pass();
+    let pattern = tokens.text()?;
+    if tokens.eat(Mark::Escape) {
+        return escaped(tokens, negated, operand, at, pattern);
+    }
+    Ok(is_like(tokens, negated, operand, at, pattern, None))
+}

@@ -1,0 +1,131 @@
+-- The first row that a test finds in all lanes, and its lane.
+use Rattle.std.proofs.Common.{◌≡◌, ◌≢◌, ℕ, ◌+◌, ◌-◌, ◌<◌, ◌≤◌, List, [], ◌∷◌, ◌++◌, length, get_or, set, map, take, drop, true, false, Bool, cond, Option, Some, None, refl, ap, sym, subst, ◌∙◌, arith, suc, zero, ◌⊎◌, inl, inr, is_some, option_map}
+use Rattle.std.specs.List.{filter, find, All}
+use Rattle.std.specs.Option.{IfSome, IsSome, MatchOption}
+use Rattle.std.proofs.lemmas.List.{length-set, get_or-set_same, get_or-set_other, take_more, take-append-drop, drop_more, get_or-take, get_or-drop, length-take, length-drop, append-nil, get_or_default, length-append}
+use Rattle.std.proofs.lemmas.Grind.{flat_map-append}
+use Rattle.std.proofs.lemmas.List.Elements.{filter-append}
+use Rattle.std.proofs.lemmas.Bool.Decides.{eqb_tells, leb_tells}
+use Rattle.jm_pending.specs.declared.row.Row.{Row}
+use Rattle.jm_dest.specs.declared.session.SessionId.{SessionId}
+use Rattle.jm_pending.specs.Rows.{is_waiting, is_elsewhere, sent, sent_at}
+use Rattle.jm_pending.specs.Lanes.{Lane, Becomes, EachBecomes, all_rows, IsApart}
+use Rattle.jm_pending.proofs.Rising.{map_elsewhere, filter_elsewhere}
+use Rattle.jm_pending.proofs.Places.{all_front, all_back, apart_before, apart_behind, apart_tail, find_has}
+
+pub none_of : {X : Type 0} (o : Option X) → is_some o ≡ false → o ≡ None
+none_of None h = refl
+none_of (Some x) h = absurd (cc)
+
+pub find_past : (p : Row → Bool) (xs ys : List Row) → find p xs ≡ None → find p (xs ++ ys) ≡ find p ys
+find_past p [] ys h = refl
+find_past p (x ∷ xs) ys h = go (p x) (find_past p xs ys) h
+  where
+    go : (b : Bool) → (find p xs ≡ None → find p (xs ++ ys) ≡ find p ys) → cond b (Some x) (find p xs) ≡ None → cond b (Some x) (find p (xs ++ ys)) ≡ find p ys
+    go true rec h = absurd (cc)
+    go false rec h = rec h
+
+pub find_within : (p : Row → Bool) (xs ys : List Row) → IsSome (find p xs) → find p (xs ++ ys) ≡ find p xs
+find_within p [] ys h = absurd (cc)
+find_within p (x ∷ xs) ys h = go (p x) (find_within p xs ys) h
+  where
+    go : (b : Bool) → (IsSome (find p xs) → find p (xs ++ ys) ≡ find p xs) → IsSome (cond b (Some x) (find p xs)) → cond b (Some x) (find p (xs ++ ys)) ≡ cond b (Some x) (find p xs)
+    go true rec h = refl
+    go false rec h = rec h
+
+pub all_rows_more : (lanes : List Lane) (i : ℕ) (d : Lane) → i < length lanes → all_rows (take (i + 1) lanes) ≡ all_rows (take i lanes) ++ (get_or lanes i d).rows
+all_rows_more lanes i d l =
+    ap all_rows (take_more lanes i d l) ∙ flat_map-append (λ (l : Lane). l.rows) (take i lanes) (get_or lanes i d ∷ []) ∙ ap (λ zs. all_rows (take i lanes) ++ zs) (append-nil (get_or lanes i d).rows)
+
+pub all_rows_split : (lanes : List Lane) (i : ℕ) (d : Lane) → i < length lanes → all_rows lanes ≡ all_rows (take i lanes) ++ ((get_or lanes i d).rows ++ all_rows (drop (i + 1) lanes))
+all_rows_split lanes i d l =
+    ap all_rows (sym (take-append-drop i lanes)) ∙ flat_map-append (λ (l : Lane). l.rows) (take i lanes) (drop i lanes) ∙ ap (λ zs. all_rows (take i lanes) ++ all_rows zs) (drop_more lanes i d l)
+
+pub find_more : (p : Row → Bool) (lanes : List Lane) (i : ℕ) (d : Lane) → i < length lanes → find p (all_rows (take i lanes)) ≡ None → find p (get_or lanes i d).rows ≡ None → find p (all_rows (take (i + 1) lanes)) ≡ None
+find_more p lanes i d l before here =
+    ap (find p) (all_rows_more lanes i d l) ∙ find_past p (all_rows (take i lanes)) (get_or lanes i d).rows before ∙ here
+
+pub find_here : (p : Row → Bool) (lanes : List Lane) (i : ℕ) (d : Lane) → i < length lanes → find p (all_rows (take i lanes)) ≡ None → IsSome (find p (get_or lanes i d).rows) → find p (all_rows lanes) ≡ find p (get_or lanes i d).rows
+find_here p lanes i d l before here =
+    ap (find p) (all_rows_split lanes i d l) ∙ find_past p (all_rows (take i lanes)) ((get_or lanes i d).rows ++ all_rows (drop (i + 1) lanes)) before ∙ find_within p (get_or lanes i d).rows (all_rows (drop (i + 1) lanes)) here
+
+pub all_in_lane : (P : Row → Type 0) (lanes : List Lane) (k : ℕ) (d : Lane) → k < length lanes → All P (all_rows lanes) → All P (get_or lanes k d).rows
+all_in_lane P [] k d l a = absurd (omega arith)
+all_in_lane P (x ∷ xs) zero d l a = all_front P x.rows (all_rows xs) a
+all_in_lane P (x ∷ xs) (suc k) d l a = all_in_lane P xs k d (omega arith) (all_back P x.rows (all_rows xs) a)
+
+lt_or_gt : (k at : ℕ) → k ≢ at → (k < at) ⊎ (at < k)
+lt_or_gt k at ne = elim (leb_tells k at) [ inl h ↦ inl (let le : k ≤ at = h.1 in omega arith) | inr h ↦ inr (let gt : at < k = h.1 in gt) ]
+
+-- the rows of all other lanes are at other places than the row that is found in this one
+others : (lanes : List Lane) (at : ℕ) (d : Lane) (r : Row) → IsApart (all_rows lanes) → at < length lanes → find is_waiting (get_or lanes at d).rows ≡ Some r → (k : ℕ) (e : Lane) → k < length lanes → k ≢ at → All (λ (y : Row). y.place ≢ r.place) (get_or lanes k e).rows
+others lanes at d r apart l f k e kl ne =
+    let fronts : List Row = all_rows (take at lanes) in
+    let rows : List Row = (get_or lanes at d).rows in
+    let backs : List Row = all_rows (drop (at + 1) lanes) in
+    let split : IsApart (fronts ++ (rows ++ backs)) = subst IsApart (all_rows_split lanes at d l) apart in
+    let before : IfSome (find is_waiting rows) (λ x. All (λ (y : Row). y.place ≢ x.place) fronts) = find_has (λ x. All (λ (y : Row). y.place ≢ x.place) fronts) is_waiting rows (all_front (λ x. All (λ (y : Row). y.place ≢ x.place) fronts) rows backs (apart_before fronts (rows ++ backs) split)) in
+    let behind : IfSome (find is_waiting rows) (λ x. All (λ (y : Row). y.place ≢ x.place) backs) = find_has (λ x. All (λ (y : Row). y.place ≢ x.place) backs) is_waiting rows (apart_behind rows backs (apart_tail fronts (rows ++ backs) split)) in
+    let before' : All (λ (y : Row). y.place ≢ r.place) fronts = subst (λ o. IfSome o (λ x. All (λ (y : Row). y.place ≢ x.place) fronts)) f before in
+    let behind' : All (λ (y : Row). y.place ≢ r.place) backs = subst (λ o. IfSome o (λ x. All (λ (y : Row). y.place ≢ x.place) backs)) f behind in
+    elim (lt_or_gt k at ne) [
+      | inl lt ↦ rw (← get_or-take at lanes k e lt) (all_in_lane (λ (y : Row). y.place ≢ r.place) (take at lanes) k e (omega (arith, length-take at lanes)) before')
+      | inr gt ↦
+          let back_at : at + 1 + (k - (at + 1)) ≡ k = omega arith in
+          rw (← back_at, ← get_or-drop (at + 1) lanes (k - (at + 1)) e) (all_in_lane (λ (y : Row). y.place ≢ r.place) (drop (at + 1) lanes) (k - (at + 1)) e (omega (arith, length-drop (at + 1) lanes)) behind')
+    ]
+
+-- an edit that leaves the rows of all lanes but one
+each_but : (f : List Row → List Row) (lanes : List Lane) (at : ℕ) (d after : Lane) → at < length lanes → Becomes f (get_or lanes at d) after → ((k : ℕ) (e : Lane) → k < length lanes → k ≢ at → f (get_or lanes k e).rows ≡ (get_or lanes k e).rows) → EachBecomes f lanes (set lanes at after)
+each_but f lanes at d after l here rest = record {
+  len = length-set lanes at after;
+  at = λ k e kl. elim (eqb_tells k at) [
+    | inl h ↦ rw (h.1, get_or-set_same lanes at after e l, get_or_default lanes at e d l) here
+    | inr n ↦ rw (get_or-set_other lanes at k after e n.1) (record { priority = refl; rows = sym (rest k e kl n.1); room = omega arith })
+  ];
+}
+
+-- what `take_first` does to one lane, said of all
+pub taken_first : (s : SessionId) (c : ℕ) (lanes : List Lane) (at : ℕ) (d after : Lane) (res : Option Row) → IsApart (all_rows lanes) → at < length lanes → find is_waiting (all_rows (take at lanes)) ≡ None → IsSome (find is_waiting (get_or lanes at d).rows) → after.priority ≡ (get_or lanes at d).priority → res ≡ option_map (sent s c) (find is_waiting (get_or lanes at d).rows) → MatchOption (find is_waiting (get_or lanes at d).rows) (after.rows ≡ (get_or lanes at d).rows) (λ r. after.rows ≡ map (sent_at r.place s c) (get_or lanes at d).rows) → (get_or lanes at d).spare ≤ after.spare
+    → MatchOption (find is_waiting (all_rows lanes)) ((res ≡ None) × (set lanes at after ≡ lanes)) (λ r. (res ≡ Some (sent s c r)) × EachBecomes (map (sent_at r.place s c)) lanes (set lanes at after))
+taken_first s c lanes at d after res apart l before some priority result rows room =
+    rw (find_here is_waiting lanes at d l before some) (go (find is_waiting (get_or lanes at d).rows) refl some result rows)
+  where
+    go : (o : Option Row) → find is_waiting (get_or lanes at d).rows ≡ o → IsSome o → res ≡ option_map (sent s c) o → MatchOption o (after.rows ≡ (get_or lanes at d).rows) (λ r. after.rows ≡ map (sent_at r.place s c) (get_or lanes at d).rows) → MatchOption o ((res ≡ None) × (set lanes at after ≡ lanes)) (λ r. (res ≡ Some (sent s c r)) × EachBecomes (map (sent_at r.place s c)) lanes (set lanes at after))
+    go None f some result rows = absurd (cc)
+    go (Some r) f some result rows = (
+      result,
+      each_but (map (sent_at r.place s c)) lanes at d after l (record { priority = priority; rows = rows; room = room }) (λ k e kl ne. map_elsewhere s c r.place (get_or lanes k e).rows (others lanes at d r apart l f k e kl ne)),
+    )
+
+-- the lanes up to one have its rows and those before, and no more than all
+pub rows_taken : (lanes : List Lane) (i : ℕ) (d : Lane) → i < length lanes → (length (all_rows (take (i + 1) lanes)) ≡ length (all_rows (take i lanes)) + length (get_or lanes i d).rows) × (length (all_rows (take (i + 1) lanes)) ≤ length (all_rows lanes))
+rows_taken lanes i d l =
+    let fronts : List Row = all_rows (take i lanes) in
+    let rows : List Row = (get_or lanes i d).rows in
+    let backs : List Row = all_rows (drop (i + 1) lanes) in
+    let more = ap length (all_rows_more lanes i d l) ∙ length-append fronts rows in
+    (more, omega (arith, more, ap length (all_rows_split lanes i d l), length-append fronts (rows ++ backs), length-append rows backs))
+
+-- what `remove_first` does to one lane, said of all
+pub removed_first : (lanes : List Lane) (at : ℕ) (d after : Lane) (res : Option Row) → IsApart (all_rows lanes) → at < length lanes → find is_waiting (all_rows (take at lanes)) ≡ None → IsSome (find is_waiting (get_or lanes at d).rows) → after.priority ≡ (get_or lanes at d).priority → res ≡ find is_waiting (get_or lanes at d).rows → MatchOption (find is_waiting (get_or lanes at d).rows) (after.rows ≡ (get_or lanes at d).rows) (λ r. after.rows ≡ filter (is_elsewhere r.place) (get_or lanes at d).rows) → (get_or lanes at d).spare ≤ after.spare
+    → MatchOption (find is_waiting (all_rows lanes)) ((res ≡ None) × (set lanes at after ≡ lanes)) (λ r. (res ≡ Some r) × EachBecomes (filter (is_elsewhere r.place)) lanes (set lanes at after))
+removed_first lanes at d after res apart l before some priority result rows room =
+    rw (find_here is_waiting lanes at d l before some) (go (find is_waiting (get_or lanes at d).rows) refl some result rows)
+  where
+    go : (o : Option Row) → find is_waiting (get_or lanes at d).rows ≡ o → IsSome o → res ≡ o → MatchOption o (after.rows ≡ (get_or lanes at d).rows) (λ r. after.rows ≡ filter (is_elsewhere r.place) (get_or lanes at d).rows) → MatchOption o ((res ≡ None) × (set lanes at after ≡ lanes)) (λ r. (res ≡ Some r) × EachBecomes (filter (is_elsewhere r.place)) lanes (set lanes at after))
+    go None f some result rows = absurd (cc)
+    go (Some r) f some result rows = (
+      result,
+      each_but (filter (is_elsewhere r.place)) lanes at d after l (record { priority = priority; rows = rows; room = room }) (λ k e kl ne. filter_elsewhere r.place (get_or lanes k e).rows (others lanes at d r apart l f k e kl ne)),
+    )
+
+-- the same of those that pass a test
+pub rows_passed : (q : Row → Bool) (lanes : List Lane) (i : ℕ) (d : Lane) → i < length lanes → (length (filter q (all_rows (take (i + 1) lanes))) ≡ length (filter q (all_rows (take i lanes))) + length (filter q (get_or lanes i d).rows)) × (length (filter q (all_rows (take (i + 1) lanes))) ≤ length (all_rows lanes))
+rows_passed q lanes i d l =
+    let more = ap (λ rs. length (filter q rs)) (all_rows_more lanes i d l) ∙ ap length (filter-append q (all_rows (take i lanes)) (get_or lanes i d).rows) ∙ length-append (filter q (all_rows (take i lanes))) (filter q (get_or lanes i d).rows) in
+    (more, omega (arith, few_pass q (all_rows (take (i + 1) lanes)), (rows_taken lanes i d l).1))
+  where
+    few_pass : (q : Row → Bool) (xs : List Row) → length (filter q xs) ≤ length xs
+    few_pass q [] = omega arith
+    few_pass q (x ∷ xs) = elim (q x) as (λ b. length (cond b (x ∷ filter q xs) (filter q xs)) ≤ length (x ∷ xs)) [ true ↦ omega (arith, few_pass q xs) | false ↦ omega (arith, few_pass q xs) ]

@@ -1,0 +1,210 @@
+-- What the table keeps while rows move and go.
+use Rattle.std.proofs.Common.{◌≡◌, ◌≢◌, ℕ, ◌+◌, ◌<◌, ◌≤◌, ◌==◌, List, [], ◌∷◌, ◌++◌, length, get_or, set, map, drop, true, false, Bool, cond, Option, Some, None, refl, ap, sym, subst, ◌∙◌, arith, suc, zero}
+use Rattle.std.specs.List.{filter, find, All}
+use Rattle.std.specs.Option.{IfSome, MatchOption}
+use Rattle.std.proofs.lemmas.Bool.Decides.{nat_tests}
+use Rattle.std.proofs.lemmas.Bool.{eq-eqb, eqb-true, ne_eqb}
+use Rattle.std.proofs.lemmas.List.{map-append, get_or_default}
+use Rattle.std.proofs.lemmas.List.Elements.{All-head, All-tail, All-weaker}
+use Rattle.std.proofs.lemmas.List.Sums.{sum_by-cons, sum_by-append, get_or-le-sum_by}
+use Rattle.jm_dest.specs.declared.session.SessionId.{SessionId}
+use Rattle.jm_pending.specs.declared.row.Row.{Row}
+use Rattle.jm_pending.specs.Lists.{sorted, put}
+use Rattle.jm_pending.specs.Rows.{IsRising, is_waiting, is_elsewhere, sent, sent_at}
+use Rattle.jm_pending.specs.Lanes.{Lane, all_rows, rows_of, is_lower, EachBecomes, IsApart}
+use Rattle.jm_pending.specs.Holders.{Messages, holders_of, last_message, rows_at, Follows, Covers, KeepsMessages, GainsHolder, LosesHolder}
+use Rattle.jm_pending.proofs.Rising.{filter_elsewhere}
+use Rattle.jm_pending.proofs.Places.{find_has}
+use Rattle.jm_pending.proofs.Edited.{all_rows_each, IsEdited, edited_more}
+use Rattle.jm_pending.proofs.Steps.{sent_at_place}
+use Rattle.jm_pending.proofs.Letting.{row_gone}
+use Rattle.jm_pending.proofs.Rolling.{remove_first}
+
+same_test : (a b : ℕ) → cond {A = ℕ} (a == b) 1 0 ≡ cond {A = ℕ} (b == a) 1 0
+same_test a b = grind (arith, nat_tests)
+
+pub row_first : (p : ℕ) (x : Row) (xs : List Row) → rows_at p (x ∷ xs) ≡ cond {A = ℕ} (x.place == p) 1 0 + rows_at p xs
+row_first p x xs = sum_by-cons (λ (r : Row). cond {A = ℕ} (r.place == p) 1 0) x xs
+
+pub rows_both : (p : ℕ) (xs ys : List Row) → rows_at p (xs ++ ys) ≡ rows_at p xs + rows_at p ys
+rows_both p xs ys = sum_by-append (λ (r : Row). cond {A = ℕ} (r.place == p) 1 0) xs ys
+
+pub rolled_count : (p : ℕ) (ys : List Row) (d : Row) → 0 < length ys → rows_at p (drop 1 ys ++ get_or ys 0 d ∷ []) ≡ rows_at p ys
+rolled_count p [] d l = absurd (omega arith)
+rolled_count p (y ∷ ys) d l = omega (arith, rows_both p ys (y ∷ []), row_first p y ys, row_first p y [])
+
+pub follows_same : (t0 t : Messages) (init xs ys : List Row) → ((p : ℕ) → rows_at p ys ≡ rows_at p xs) → Follows t0 t init xs → Follows t0 t init ys
+follows_same t0 t init xs ys e f = record { holders = λ p. omega (arith, e p, f.holders p); messages = f.messages }
+
+pub covers_same : (t : Messages) (xs ys : List Row) → ((p : ℕ) → rows_at p ys ≡ rows_at p xs) → Covers t xs → Covers t ys
+covers_same t xs ys e c = record { held = λ p. omega (arith, e p, c.held p) }
+
+pub first_gone : (t0 t t' : Messages) (init ys : List Row) (row : Row) → 0 < length ys → row ≡ get_or ys 0 row → Follows t0 t init ys → Covers t ys → LosesHolder t t' row.place → KeepsMessages t t' → Follows t0 t' init (drop 1 ys) × Covers t' (drop 1 ys)
+first_gone t0 t t' init ys row l is f c released kept = rw (← remove_first ys) (row_gone t0 t t' init ys 0 row l is f c released kept)
+
+put_count : (p : ℕ) (x : Row) (l : List Row) → rows_at p (put is_lower x l) ≡ rows_at p (x ∷ l)
+put_count p x [] = refl
+put_count p x (y ∷ ys) =
+    elim (is_lower x y) as (λ b. rows_at p (cond b (x ∷ y ∷ ys) (y ∷ put is_lower x ys)) ≡ rows_at p (x ∷ y ∷ ys)) [
+      | true ↦ refl
+      | false ↦ omega (arith, row_first p y (put is_lower x ys), put_count p x ys, row_first p x (y ∷ ys), row_first p y ys, row_first p x ys)
+    ]
+
+pub sorted_count : (p : ℕ) (xs : List Row) → rows_at p (sorted is_lower xs) ≡ rows_at p xs
+sorted_count p [] = refl
+sorted_count p (x ∷ xs) = omega (arith, put_count p x (sorted is_lower xs), row_first p x (sorted is_lower xs), row_first p x xs, sorted_count p xs)
+
+pub map_count : (f : Row → Row) → ((r : Row) → (f r).place ≡ r.place) → (p : ℕ) (xs : List Row) → rows_at p (map f xs) ≡ rows_at p xs
+map_count f place p [] = refl
+map_count f place p (x ∷ xs) =
+    let e : cond {A = ℕ} ((f x).place == p) 1 0 ≡ cond {A = ℕ} (x.place == p) 1 0 = rw (place x) refl in
+    omega (arith, e, row_first p (f x) (map f xs), row_first p x xs, map_count f place p xs)
+
+pub filter_count : (q : Row → Bool) (p : ℕ) (xs : List Row) → rows_at p (filter q xs) ≤ rows_at p xs
+filter_count q p [] = omega arith
+filter_count q p (x ∷ xs) =
+    elim (q x) as (λ b. rows_at p (cond b (x ∷ filter q xs) (filter q xs)) ≤ rows_at p (x ∷ xs)) [
+      | true ↦ omega (arith, row_first p x (filter q xs), row_first p x xs, filter_count q p xs)
+      | false ↦ omega (arith, row_first p x xs, filter_count q p xs)
+    ]
+
+set_count : (p : ℕ) (lanes : List Lane) (i : ℕ) (lane : Lane) (d : Lane) → i < length lanes → rows_at p (all_rows (set lanes i lane)) + rows_at p (get_or lanes i d).rows ≡ rows_at p (all_rows lanes) + rows_at p lane.rows
+set_count p [] i lane d l = absurd (omega arith)
+set_count p (x ∷ xs) zero lane d l = omega (arith, rows_both p x.rows (all_rows xs), rows_both p lane.rows (all_rows xs))
+set_count p (x ∷ xs) (suc i) lane d l = omega (arith, rows_both p x.rows (all_rows (set xs i lane)), rows_both p x.rows (all_rows xs), set_count p xs i lane d (omega arith))
+
+pub record IsLet (t0 t : Messages) (init lanes : List Lane) : Type 0 where
+  pub follows : Follows t0 t (all_rows init) (all_rows lanes)
+  pub covers : Covers t (all_rows lanes)
+
+pub let_none : (t : Messages) (init : List Lane) → Covers t (all_rows init) → IsLet t t init init
+let_none t init c = record { follows = record { holders = λ p. refl; messages = record { same = λ p h. refl; room = omega arith } }; covers = c }
+
+lane_part : (p : ℕ) (lanes : List Lane) (i : ℕ) (d : Lane) → i < length lanes → rows_at p (get_or lanes i d).rows ≤ rows_at p (all_rows lanes)
+lane_part p [] i d l = absurd (omega arith)
+lane_part p (x ∷ xs) zero d l = omega (arith, rows_both p x.rows (all_rows xs))
+lane_part p (x ∷ xs) (suc i) d l = omega (arith, rows_both p x.rows (all_rows xs), lane_part p xs i d (omega arith))
+
+pub covers_lane : (t : Messages) (lanes : List Lane) (i : ℕ) (d : Lane) → Covers t (all_rows lanes) → i < length lanes → Covers t (get_or lanes i d).rows
+covers_lane t lanes i d c l = record { held = λ p. omega (arith, lane_part p lanes i d l, c.held p) }
+
+pub let_more : (q : Row → Bool) (t0 t t' : Messages) (init lanes : List Lane) (i : ℕ) (d lane : Lane) → IsLet t0 t init lanes → i < length lanes → lane.rows ≡ filter q (get_or lanes i d).rows → Follows t t' (get_or lanes i d).rows lane.rows → IsLet t0 t' init (set lanes i lane)
+let_more q t0 t t' init lanes i d lane w l is f =
+    let fewer : (p : ℕ) → rows_at p lane.rows ≤ rows_at p (get_or lanes i d).rows = λ p. rw is (filter_count q p (get_or lanes i d).rows) in
+    record {
+      follows = record {
+        holders = λ p. omega (arith, set_count p lanes i lane d l, f.holders p, w.follows.holders p);
+        messages = record { same = λ p h. f.messages.same p h ∙ w.follows.messages.same p (omega (arith, h, f.holders p, fewer p)); room = omega (arith, f.messages.room, w.follows.messages.room) };
+      };
+      covers = record { held = λ p. omega (arith, set_count p lanes i lane d l, f.holders p, w.covers.held p) };
+    }
+
+-- by place, of all lanes
+pub follows_shown : (t0 t : Messages) (xs ys : List Lane) (us vs : List Row) → ((p : ℕ) → rows_at p us ≡ rows_at p (all_rows xs)) → ((p : ℕ) → rows_at p vs ≡ rows_at p (all_rows ys)) → Follows t0 t (all_rows xs) (all_rows ys) → Follows t0 t us vs
+follows_shown t0 t xs ys us vs a b f = record { holders = λ p. omega (arith, a p, b p, f.holders p); messages = f.messages }
+
+pub shown_count : (p : ℕ) (xs : List Lane) → rows_at p (rows_of xs) ≡ rows_at p (all_rows xs)
+shown_count p xs = sorted_count p (all_rows xs)
+
+pub covers_all : (t : Messages) (xs : List Lane) → Covers t (rows_of xs) → Covers t (all_rows xs)
+covers_all t xs c = covers_same t (rows_of xs) (all_rows xs) (λ p. sym (shown_count p xs)) c
+
+pub follows_all : (t0 t : Messages) (xs ys : List Lane) → Follows t0 t (all_rows xs) (all_rows ys) → Follows t0 t (rows_of xs) (rows_of ys)
+follows_all t0 t xs ys f = follows_shown t0 t xs ys (rows_of xs) (rows_of ys) (λ p. shown_count p xs) (λ p. shown_count p ys) f
+
+taken_count : (s : SessionId) (c : ℕ) (ys zs : List Lane) (res o : Option Row) → MatchOption o ((res ≡ None) × (zs ≡ ys)) (λ r. (res ≡ Some (sent s c r)) × EachBecomes (map (sent_at r.place s c)) ys zs) → (p : ℕ) → rows_at p (all_rows zs) ≡ rows_at p (all_rows ys)
+taken_count s c ys zs res None m p = ap (λ ls. rows_at p (all_rows ls)) m.1
+taken_count s c ys zs res (Some r) m p =
+    ap (rows_at p) (all_rows_each (map (sent_at r.place s c)) refl (map-append (sent_at r.place s c)) ys zs m.1) ∙ map_count (sent_at r.place s c) (sent_at_place r.place s c) p (all_rows ys)
+
+pub follows_taken : (t0 t : Messages) (s : SessionId) (c : ℕ) (xs ys zs : List Lane) (res : Option Row) → MatchOption (find is_waiting (all_rows ys)) ((res ≡ None) × (zs ≡ ys)) (λ r. (res ≡ Some (sent s c r)) × EachBecomes (map (sent_at r.place s c)) ys zs) → Follows t0 t (all_rows xs) (all_rows ys) → Follows t0 t (rows_of xs) (rows_of zs)
+follows_taken t0 t s c xs ys zs res m f =
+    follows_shown t0 t xs ys (rows_of xs) (rows_of zs) (λ p. shown_count p xs) (λ p. shown_count p zs ∙ taken_count s c ys zs res (find is_waiting (all_rows ys)) m p) f
+
+pub follows_held : (t0 t : Messages) (xs : List Row) (row : Row) → GainsHolder t0 t row.place → KeepsMessages t0 t → Follows t0 t xs (xs ++ row ∷ [])
+follows_held t0 t xs row h k =
+    record { holders = λ p. omega (arith, h.holders p, same_test p row.place, rows_both p xs (row ∷ []), row_first p row []); messages = k }
+
+pub edited_one : (q : Row → Bool) (init lanes : List Lane) (i : ℕ) (d lane : Lane) → IsEdited (filter q) init lanes i → i < length init → lane.priority ≡ (get_or lanes i d).priority → lane.rows ≡ filter q (get_or lanes i d).rows → (get_or lanes i d).spare ≤ lane.spare → IsEdited (filter q) init (set lanes i lane) (i + 1)
+edited_one q init lanes i d lane e l pr rows room =
+    edited_more (filter q) init lanes i lane e l (λ d'. rw (get_or_default lanes i d' d (omega (arith, e.len))) (record { priority = pr; rows = rows; room = room }))
+
+pub holder_there : (t : Messages) (ys : List Row) (at : ℕ) (row : Row) → Covers t ys → at < length ys → row ≡ get_or ys at row → 0 < holders_of t row.place
+holder_there t ys at row c l is =
+    let one : cond {A = ℕ} ((get_or ys at row).place == row.place) 1 0 ≡ 1 = rw (eq-eqb (get_or ys at row).place row.place (ap (λ (r : Row). r.place) (sym is))) refl in
+    omega (arith, one, get_or-le-sum_by (λ (r : Row). cond {A = ℕ} (r.place == row.place) 1 0) ys at row l, c.held row.place)
+
+-- where no row is at the place, none is counted
+none_at : (q : ℕ) (ys : List Row) → All (λ (y : Row). y.place ≢ q) ys → rows_at q ys ≡ 0
+none_at q [] a = refl
+none_at q (y ∷ ys) a =
+    let ne = ne_eqb y.place q (All-head (λ (y : Row). y.place ≢ q) y ys a) in
+    let e : cond {A = ℕ} (y.place == q) 1 0 ≡ 0 = rw ne refl in
+    omega (arith, e, row_first q y ys, none_at q ys (All-tail (λ (y : Row). y.place ≢ q) y ys a))
+
+-- a row of each place at most
+pub apart_once : (p : ℕ) (xs : List Row) → IsApart xs → rows_at p xs ≤ 1
+apart_once p [] h = omega arith
+apart_once p (x ∷ xs) h = go (x.place == p) refl (apart_once p xs h.1)
+  where
+    go : (b : Bool) → (x.place == p) ≡ b → rows_at p xs ≤ 1 → rows_at p (x ∷ xs) ≤ 1
+    go true e rest =
+        let here : x.place ≡ p = eqb-true x.place p e in
+        let one : cond {A = ℕ} (x.place == p) 1 0 ≡ 1 = rw e refl in
+        omega (arith, one, row_first p x xs, none_at p xs (rw (← here) h.0))
+    go false e rest =
+        let zero : cond {A = ℕ} (x.place == p) 1 0 ≡ 0 = rw e refl in
+        omega (arith, zero, row_first p x xs, rest)
+
+-- the first that waits goes: its place has one row less
+pub elsewhere_count : (p : ℕ) (xs : List Row) (r : Row) → IsApart xs → find is_waiting xs ≡ Some r → rows_at p (filter (is_elsewhere r.place) xs) + cond {A = ℕ} (p == r.place) 1 0 ≡ rows_at p xs
+elsewhere_count p [] r h f = absurd (cc)
+elsewhere_count p (x ∷ xs) r h f = go (is_waiting x) (elsewhere_count p xs r h.1) (find_has (λ (y : Row). y.place ≢ x.place) is_waiting xs h.0) f
+  where
+    go : (b : Bool) → (find is_waiting xs ≡ Some r → rows_at p (filter (is_elsewhere r.place) xs) + cond {A = ℕ} (p == r.place) 1 0 ≡ rows_at p xs) → IfSome (find is_waiting xs) (λ (y : Row). y.place ≢ x.place) → cond b (Some x) (find is_waiting xs) ≡ Some r → rows_at p (filter (is_elsewhere r.place) (x ∷ xs)) + cond {A = ℕ} (p == r.place) 1 0 ≡ rows_at p (x ∷ xs)
+    go true rec other e =
+        let is : x ≡ r = cc in
+        let kept : filter (is_elsewhere x.place) (x ∷ xs) ≡ xs = rw (eq-eqb x.place x.place refl) (filter_elsewhere x.place xs h.0) in
+        subst (λ (q : Row). rows_at p (filter (is_elsewhere q.place) (x ∷ xs)) + cond {A = ℕ} (p == q.place) 1 0 ≡ rows_at p (x ∷ xs)) is (omega (arith, row_first p x xs, same_test p x.place, ap (rows_at p) kept))
+    go false rec other e =
+        let ne : r.place ≢ x.place = subst (λ o. IfSome o (λ (y : Row). y.place ≢ x.place)) e other in
+        rw (ne_eqb x.place r.place (λ q. ne (sym q))) (omega (arith, rec e, row_first p x (filter (is_elsewhere r.place) xs), row_first p x xs))
+
+-- what is covered stays so while the holders follow
+pub covers_after : (old new : Messages) (before after : List Row) → Covers old before → Follows old new before after → Covers new after
+covers_after old new before after c f = record { held = λ p. omega (arith, c.held p, f.holders p) }
+
+-- one step after another
+pub follows_then : (t0 t1 t2 : Messages) (us vs ws : List Row) → ((p : ℕ) → rows_at p ws ≤ rows_at p vs) → Follows t0 t1 us vs → Follows t1 t2 vs ws → Follows t0 t2 us ws
+follows_then t0 t1 t2 us vs ws fewer f g = record {
+  holders = λ p. omega (arith, f.holders p, g.holders p);
+  messages = record { same = λ p h. g.messages.same p h ∙ f.messages.same p (omega (arith, h, g.holders p, fewer p)); room = omega (arith, g.messages.room, f.messages.room) };
+}
+
+-- the first that waits lets its message go
+pub first_settled : (t t' : Messages) (ys : List Row) (r : Row) → IsApart ys → find is_waiting ys ≡ Some r → LosesHolder t t' r.place → KeepsMessages t t' → Follows t t' ys (filter (is_elsewhere r.place) ys)
+first_settled t t' ys r apart found lost kept =
+    record { holders = λ p. omega (arith, elsewhere_count p ys r apart found, lost.holders p); messages = kept }
+
+-- its place has a holder
+pub first_holder : (t : Messages) (ys : List Row) (r : Row) → IsApart ys → find is_waiting ys ≡ Some r → Covers t ys → 0 < holders_of t r.place
+first_holder t ys r apart found c =
+    let one : cond {A = ℕ} (r.place == r.place) 1 0 ≡ 1 = rw (eq-eqb r.place r.place refl) refl in
+    omega (arith, one, elsewhere_count r.place ys r apart found, c.held r.place)
+
+-- and what was dropped before changes neither its holders nor its message
+pub first_message : (t0 t1 : Messages) (xs : List Row) (p : Row → Bool) (r : Row) → IsApart xs → IsApart (filter p xs) → find is_waiting (filter p xs) ≡ Some r → Covers t0 xs → Follows t0 t1 xs (filter p xs) → last_message t1 r.place ≡ last_message t0 r.place
+first_message t0 t1 xs p r apart apart' found c f =
+    let there : 0 < holders_of t1 r.place = first_holder t1 (filter p xs) r apart' found (covers_after t0 t1 xs (filter p xs) c f) in
+    let one : cond {A = ℕ} (r.place == r.place) 1 0 ≡ 1 = rw (eq-eqb r.place r.place refl) refl in
+    let same : holders_of t1 r.place ≡ holders_of t0 r.place = omega (arith, one, f.holders r.place, apart_once r.place xs apart, filter_count p r.place xs, elsewhere_count r.place (filter p xs) r apart' found) in
+    rw (same, f.messages.same r.place there) refl
+
+-- rows that rise have no two of one place
+rising_apart : (xs : List Row) → IsRising xs → IsApart xs
+rising_apart [] h = tt
+rising_apart (x ∷ xs) h = (All-weaker (λ (y : Row). x.place < y.place) (λ (y : Row). y.place ≢ x.place) (λ y l. omega (arith, l)) xs h.0, rising_apart xs h.1)
+
+-- so at most one of each
+pub rising_once : (p : ℕ) (xs : List Row) → IsRising xs → rows_at p xs ≤ 1
+rising_once p xs h = apart_once p xs (rising_apart xs h)

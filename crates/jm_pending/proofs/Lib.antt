@@ -1,0 +1,15 @@
+pub mod Rising
+mod Sieve
+mod Rolling
+pub mod Places
+mod Steps
+mod Turns
+mod Edited
+mod Found
+mod Keeping
+mod Order
+mod Pushing
+mod Letting
+pub mod Holding
+mod Ranks
+pub mod Counting

@@ -1,0 +1,8 @@
+use Rattle.std.proofs.Common.{◌≡◌, ◌∙◌, ap, sym, arith, false}
+use Rattle.std.proofs.lemmas.List.Elements.{All-more}
+use Rattle.jm_pending.specs.Rows.{is_ready}
+use Rattle.jm_pending.proofs.walks.first_ready.Goals as goal
+
+pub loop-i-preserved : goal.loop-i-preserved
+loop-i-preserved c =
+    All-more (λ r. is_ready c.args.now r ≡ false) _ c.loop-i.i c.index.result.now (omega arith) c.loop-i.invariant (ap (is_ready c.args.now) (sym c.index.ensures) ∙ sym c.is_ready.ensures ∙ c.if-is_ready.false)

@@ -1,0 +1,102 @@
+-- How rows stand in lanes: one lane for each priority, from 9 down, each by place.
+use Rattle.std.specs.Prelude.{◌≡◌, ◌≢◌, ℕ, ◌+◌, ◌++◌, ◌≤◌, ◌<◌, ◌^◌, ◌==◌, nat_lt, nat_le, Bool, true, false, not, ◌&&◌, ◌||◌, List, [], ◌∷◌, All, take, drop, length, slice_index_or}
+use Rattle.std.specs.List.{flat_map}
+use Rattle.jm_pending.specs.Lists.{sorted}
+use Rattle.jm_pending.specs.declared.row.Row.{Row}
+use Rattle.jm_pending.specs.Rows.{is_waiting, IsRising}
+
+-- a lane: the rows of one priority, and for how many more there is room
+pub record Lane : Type 0 where
+  pub priority : ℕ
+  pub rows : List Row
+  pub spare : ℕ
+
+-- a row that waits expires no earlier
+abbrev pub IsBound : ℕ → Row → Type 0
+IsBound least r = is_waiting r ≡ true → r.expiration ≢ 0 → least ≤ r.expiration
+
+-- y does not expire before x
+abbrev pub in_turn : Row → Row → Bool
+in_turn x y = (y.expiration == 0) || (not (x.expiration == 0) && nat_le x.expiration y.expiration)
+
+-- no row expires before an earlier one
+abbrev pub IsSteady : List Row → Type 0
+IsSteady [] = Unit {0}
+IsSteady (x ∷ xs) = All (λ y. in_turn x y ≡ true) xs × IsSteady xs
+
+-- no row waits before `low`, none is out from `high` on, and none that waits expires before `least`
+pub record IsLane (rows : List Row) (priority low high least : ℕ) : Type 0 where
+  pub same : All (λ (r : Row). r.priority ≡ priority) rows
+  pub rising : IsRising rows
+  pub low_in : low ≤ length rows
+  pub high_in : high ≤ length rows
+  pub before : All (λ r. is_waiting r ≡ false) (take low rows)
+  pub behind : All (λ r. is_waiting r ≡ true) (drop high rows)
+  pub bound : All (IsBound least) rows
+
+-- the same, and where the lane is marked as steady its rows expire in turn
+pub record IsSteadyLane (rows : List Row) (priority low high least : ℕ) (steady : Bool) : Type 0 where
+  pub lane : IsLane rows priority low high least
+  pub turn : steady ≡ true → IsSteady rows
+
+-- the rows of all lanes, in the order of delivery
+abbrev pub all_rows : List Lane → List Row
+all_rows lanes = flat_map (λ (l : Lane). l.rows) lanes
+
+-- a is of a lower place than b
+abbrev pub is_lower : Row → Row → Bool
+is_lower a b = nat_lt a.place b.place
+
+-- the row is of a lower place
+abbrev pub is_below : ℕ → Row → Bool
+is_below place r = nat_lt r.place place
+
+-- the row is at that place
+abbrev pub is_at : ℕ → Row → Bool
+is_at place r = r.place == place
+
+-- the rows of all lanes, by place
+abbrev pub rows_of : List Lane → List Row
+rows_of lanes = sorted is_lower (all_rows lanes)
+
+-- a goes before b: it is of higher priority, or of the same and of the lower place
+abbrev pub is_sooner : Row → Row → Bool
+is_sooner a b = nat_lt b.priority a.priority || (a.priority == b.priority && nat_lt a.place b.place)
+
+-- each row goes before those that follow
+abbrev pub IsInOrder : List Row → Type 0
+IsInOrder [] = Unit {0}
+IsInOrder (x ∷ xs) = All (λ y. is_sooner x y ≡ true) xs × IsInOrder xs
+
+-- no two rows of one place
+abbrev pub IsApart : List Row → Type 0
+IsApart [] = Unit {0}
+IsApart (x ∷ xs) = All (λ (y : Row). y.place ≢ x.place) xs × IsApart xs
+
+-- ten lanes, from the highest priority on, each row in its own, no two rows of one place, places below 2^63, and room
+-- for `room` more rows whatever their priority
+pub record IsHeld (lanes : List Lane) (room : ℕ) : Type 0 where
+  pub ten : length lanes ≡ 10
+  pub priorities : (k : ℕ) (d : Lane) → k < length lanes → (slice_index_or lanes k d).priority + k ≡ 9
+  pub same : All (λ (l : Lane). All (λ (r : Row). r.priority ≡ l.priority) l.rows) lanes
+  pub ordered : IsInOrder (all_rows lanes)
+  pub rising : IsRising (rows_of lanes)
+  pub bounded : All (λ (r : Row). r.place < 2 ^ 63) (all_rows lanes)
+  pub spare : All (λ (l : Lane). room ≤ l.spare) lanes
+
+-- a lane after an edit of its rows
+pub record Becomes (f : List Row → List Row) (a b : Lane) : Type 0 where
+  pub priority : b.priority ≡ a.priority
+  pub rows : b.rows ≡ f a.rows
+  pub room : a.spare ≤ b.spare
+
+-- each lane after that edit
+pub record EachBecomes (f : List Row → List Row) (xs ys : List Lane) : Type 0 where
+  pub len : length ys ≡ length xs
+  pub at : (k : ℕ) (d : Lane) → k < length xs → Becomes f (slice_index_or xs k d) (slice_index_or ys k d)
+
+-- a lane with one more row
+pub record IsPushed (row : Row) (a b : Lane) : Type 0 where
+  pub priority : b.priority ≡ a.priority
+  pub rows : b.rows ≡ a.rows ++ row ∷ []
+  pub room : a.spare ≡ b.spare + 1

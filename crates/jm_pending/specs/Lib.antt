@@ -1,0 +1,6 @@
+pub mod Lists
+pub mod Rows
+pub mod Lanes
+pub mod Holders
+pub mod Counts
+pub mod Placed

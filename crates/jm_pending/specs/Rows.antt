@@ -1,0 +1,114 @@
+-- Rows that a subscription holds, each for a message, and which of them is delivered next.
+use Rattle.std.specs.Prelude.{ℕ, ◌+◌, ◌<◌, ◌==◌, nat_lt, nat_le, Bool, true, false, not, ◌&&◌, ◌||◌, if◌then◌else◌, List, [], ◌∷◌, Option, Some, None, All, find}
+use Rattle.std.specs.List.{list_all}
+use Rattle.jm_dest.specs.declared.session.SessionId.{SessionId}
+use Rattle.jm_dest.specs.Names.{session_eq}
+use Rattle.jm_header.specs.declared.content.Content.{Content}
+use Rattle.jm_pending.specs.declared.row.Row.{Row}
+use Rattle.jm_pending.specs.declared.row.State.{State}
+use Rattle.jm_pending.specs.declared.row.State.TheVariants.{Waiting, Out}
+use Rattle.jm_pending.specs.declared.row.Outs.{Outs}
+use Rattle.jm_pending.specs.declared.row.Outs.TheVariants.{To, Through}
+
+-- the row of a message that comes, at its place: it waits, and was never delivered
+abbrev pub fresh : ℕ → Content → Row
+fresh place m = record { place = place; count = 0; state = Waiting; priority = m.priority; expiration = m.expiration }
+
+-- a state of waiting
+abbrev pub waits : State → Bool
+waits Waiting = true
+waits (Out s c) = false
+
+-- the row waits
+abbrev pub is_waiting : Row → Bool
+is_waiting r = waits r.state
+
+-- a state of being out to the session
+abbrev pub goes_to : SessionId → State → Bool
+goes_to session Waiting = false
+goes_to session (Out s c) = session_eq s session
+
+-- the row is out to the session
+abbrev pub is_out_to : SessionId → Row → Bool
+is_out_to session r = goes_to session r.state
+
+-- a state of being out through the session's consumer of that number
+abbrev pub goes_through : SessionId → ℕ → State → Bool
+goes_through session consumer Waiting = false
+goes_through session consumer (Out s c) = session_eq s session && (c == consumer)
+
+-- the row at the place is out through that consumer
+abbrev pub is_out_through : SessionId → ℕ → ℕ → Row → Bool
+is_out_through session consumer place r = (r.place == place) && goes_through session consumer r.state
+
+-- the row is one of those
+abbrev pub is_among : Outs → Row → Bool
+is_among (To session) r = is_out_to session r
+is_among (Through session consumer place) r = is_out_through session consumer place r
+
+-- the row is none of those
+abbrev pub keeps : Outs → Row → Bool
+keeps outs r = not (is_among outs r)
+
+-- a row is expired from its expiration on, where it has one (Jakarta Messaging 3.1, section 3.4.9)
+abbrev pub is_expired : ℕ → Row → Bool
+is_expired now r = not (r.expiration == 0) && nat_le r.expiration now
+
+-- what a delivery leaves: rows that are out, and rows that are not expired
+abbrev pub stays : ℕ → Row → Bool
+stays now r = not (is_waiting r) || not (is_expired now r)
+
+-- a row may be delivered: it waits, and is not expired
+abbrev pub is_ready : ℕ → Row → Bool
+is_ready now r = is_waiting r && not (is_expired now r)
+
+-- a row may be delivered, and none of higher priority may
+abbrev pub is_next : ℕ → List Row → Row → Bool
+is_next now rows r = is_ready now r && list_all (λ x. not (is_ready now x) || nat_le x.priority r.priority) rows
+
+-- the next row: of those of highest priority the one of least place (Jakarta Messaging 3.1, section
+-- 3.4.10, asks that higher priorities go first as far as possible; that they always do is ours)
+abbrev pub next : ℕ → List Row → Option Row
+next now rows = find (is_next now rows) rows
+
+-- a count of deliveries, one more; from 2,147,483,647 on it stays (ours)
+abbrev pub raised : ℕ → ℕ
+raised n = if nat_lt n 2147483647 then n + 1 else n
+
+-- a row after one more delivery
+abbrev pub counted : Row → Row
+counted r = record r { count = raised r.count }
+
+-- a row that is delivered, and goes out to the session through its consumer
+abbrev pub sent : SessionId → ℕ → Row → Row
+sent session consumer r = record (counted r) { state = Out session consumer }
+
+-- the row at a place is sent
+abbrev pub sent_at : ℕ → SessionId → ℕ → Row → Row
+sent_at place session consumer r = if r.place == place then sent session consumer r else r
+
+-- the row is at another place
+abbrev pub is_elsewhere : ℕ → Row → Bool
+is_elsewhere place r = not (r.place == place)
+
+-- a row that passes waits again, at its place and with its count
+abbrev pub back : (Row → Bool) → Row → Row
+back passes r = if passes r then record r { state = Waiting } else r
+
+-- places rise through the list
+abbrev pub IsRising : List Row → Type 0
+IsRising [] = Unit {0}
+IsRising (x ∷ xs) = All (λ (y : Row). x.place < y.place) xs × IsRising xs
+
+-- so many rows are at the limit, where there is one
+abbrev pub is_at_limit : Option ℕ → ℕ → Bool
+is_at_limit None n = false
+is_at_limit (Some limit) n = nat_le limit n
+
+-- what a subscription holds: its rows by place, the limit of their number, how many it missed at the limit, and
+-- for how many more there is room
+pub record Held : Type 0 where
+  pub rows : List Row
+  pub limit : Option ℕ
+  pub missed : ℕ
+  pub room : ℕ

@@ -1,0 +1,254 @@
+//! The rows of one subscription.
+
+ghost use Rattle.std.specs.Prelude.{◌≡◌, ℕ, ◌+◌, ◌-◌, ◌^◌, ◌<◌, ◌≤◌, [], ◌∷◌, ◌++◌, length, slice_get, All, filter, map, min, not, true, false, None, Some, OnOk, MatchOption};
+ghost use Rattle.jm_pending.specs.declared.row.Row.{Row};
+ghost use Rattle.jm_pending.specs.Rows as spec;
+ghost use Rattle.jm_pending.specs.Holders.{Covers, Follows, holders_of, last_message};
+
+use crate::lane::Lane;
+use crate::lanes;
+use crate::row::{Outs, Row};
+use crate::table::Table;
+use jm_dest::{ConsumerId, Moment, SessionId};
+use jm_header::Message;
+use std::alloc::{AllocError, Global};
+use std::marker::Model;
+
+/// A row that was delivered and settled at once, counted, with its message where no other row holds it.
+#[derive(Drop)]
+pub struct Taken {
+    pub row: Row,
+    pub message: Option<Message>,
+}
+
+/// The rows that a subscription holds (ours). Contracts see them as a list by place, with the limit of
+/// their number, how many publications were missed at the limit, and for how many more rows there is room.
+#[derive(Drop)]
+pub struct Held {
+    lanes: [Lane; 10],
+    limit: Option<u32>,
+    missed: u64,
+    room: usize,
+}
+
+impl Model for Held {
+    ghost use Rattle.jm_pending.specs.Lanes.{IsHeld, rows_of};
+    ghost use Rattle.jm_pending.specs.Rows.{Held as HeldShown};
+
+    ghost Value = { HeldShown };
+
+    ghost view = { λ h. record { rows = rows_of h.lanes; limit = h.limit; missed = h.missed; room = h.room } };
+
+    ghost invariant = { λ h. IsHeld h.lanes h.room };
+}
+
+impl Held {
+    /// No rows, of which there may be at most so many, or any number. Takes no memory.
+    pub fn new(alloc: Global, limit: Option<u32>) -> Held
+        ensures { result ≡ record { rows = []; limit = limit; missed = 0; room = 0 } }
+    {
+        Held {
+            lanes: [
+                Lane::new(alloc, 9),
+                Lane::new(alloc, 8),
+                Lane::new(alloc, 7),
+                Lane::new(alloc, 6),
+                Lane::new(alloc, 5),
+                Lane::new(alloc, 4),
+                Lane::new(alloc, 3),
+                Lane::new(alloc, 2),
+                Lane::new(alloc, 1),
+                Lane::new(alloc, 0),
+            ],
+            limit,
+            missed: 0,
+            room: 0,
+        }
+    }
+
+    /// How many rows there are.
+    pub fn len(&self) -> usize
+        ensures len { result ≡ length self.now.rows }
+        ensures rising { spec.IsRising self.now.rows }
+    {
+        lanes::len(&self.lanes)
+    }
+
+    /// How many publications were missed at the limit; at 18,446,744,073,709,551,615 it stays.
+    pub fn missed(&self) -> u64
+        ensures { result ≡ self.now.missed }
+    {
+        self.missed
+    }
+
+    /// The row that so many stand before by place, where there is one.
+    pub fn row_at(&self, index: usize) -> Option<Row>
+        ensures { result ≡ slice_get self.now.rows index }
+    {
+        lanes::row_at(&self.lanes, index)
+    }
+
+    /// Whether one more publication would be missed.
+    pub fn is_at_limit(&self) -> bool
+        ensures { result ≡ spec.is_at_limit self.now.limit (length self.now.rows) }
+    {
+        match self.limit {
+            Some(limit) => limit as usize <= self.len(),
+            None => false,
+        }
+    }
+
+    /// Makes room for that many more rows. `AllocError` where a request for memory was refused. Either
+    /// way the rows are as before.
+    pub fn reserve(&mut self, additional: usize) -> Result<(), AllocError>
+        ensures ok { OnOk result (additional ≤ self.new.room) }
+        ensures same { self.new ≡ record self.old { room = self.new.room } }
+        ensures kept { self.old.room ≤ self.new.room }
+    {
+        lanes::reserve(&mut self.lanes, additional)?;
+        self.room = self.room.max(additional);
+        Ok(())
+    }
+
+    /// Adds a row behind all others, which holds its message in the table. At the limit it is missed
+    /// instead. Takes no memory, since room was reserved.
+    pub fn add(&mut self, table: &mut Table, row: Row)
+        requires room { 0 < self.old.room }
+        requires place { row.place < 2 ^ 63 }
+        requires priority { row.priority < 10 }
+        requires waiting { spec.is_waiting row ≡ true }
+        requires above { All (λ (r : Row). r.place < row.place) self.old.rows }
+        requires there { 0 < holders_of table.old row.place }
+        requires fits { holders_of table.old row.place < 2 ^ 64 - 1 }
+        ensures missed { spec.is_at_limit self.old.limit (length self.old.rows) ≡ true →
+            self.new ≡ record self.old { missed = min (self.old.missed + 1) (2 ^ 64 - 1) } }
+        ensures added { spec.is_at_limit self.old.limit (length self.old.rows) ≡ false →
+            self.new ≡ record self.old { rows = self.old.rows ++ row ∷ []; room = self.old.room - 1 } }
+        ensures table { Follows table.old table.new self.old.rows self.new.rows }
+    {
+        if self.is_at_limit() {
+            self.missed = self.missed.saturating_add(1);
+            return;
+        }
+        table.hold(row.place);
+        lanes::push(&mut self.lanes, row);
+        self.room -= 1;
+    }
+
+    /// The row that a delivery at that moment would take: of those that wait and are not expired the
+    /// one of highest priority, then of least place.
+    pub fn next(&self, now: Moment) -> Option<Row>
+        ensures next { result ≡ spec.next now self.now.rows }
+        ensures rising { spec.IsRising self.now.rows }
+    {
+        lanes::next(&self.lanes, now)
+    }
+
+    /// Drops the waiting rows that are expired at that moment, and delivers the next row, which goes
+    /// out to the session through its consumer. Takes no memory.
+    pub fn take(
+        &mut self,
+        table: &mut Table,
+        now: Moment,
+        session: SessionId,
+        consumer: ConsumerId,
+    ) -> Option<Row>
+        requires { Covers table.old self.old.rows }
+        ensures rows { MatchOption (spec.next now self.old.rows)
+            ((result ≡ None) × (self.new ≡ record self.old { rows = filter (spec.stays now) self.old.rows }))
+            (λ r. (result ≡ Some (spec.sent session consumer r)) ×
+            (self.new ≡ record self.old {
+              rows =
+                  map (spec.sent_at r.place session consumer) (filter (spec.stays now) self.old.rows);
+            })) }
+        ensures table { Follows table.old table.new self.old.rows self.new.rows }
+        ensures rising { spec.IsRising self.old.rows }
+    {
+        lanes::drop_expired(&mut self.lanes, table, now);
+        lanes::take_first(&mut self.lanes, session, consumer)
+    }
+
+    /// Drops the waiting rows that are expired at that moment, and delivers the next row, which is
+    /// settled at once. Its message is handed out where no other row holds it, and else stays in the
+    /// table. Takes no memory.
+    pub fn take_settled(&mut self, table: &mut Table, now: Moment) -> Option<Taken>
+        requires { Covers table.old self.old.rows }
+        ensures rows { MatchOption (spec.next now self.old.rows)
+            ((result ≡ None) × (self.new ≡ record self.old { rows = filter (spec.stays now) self.old.rows }))
+            (λ r. (result ≡ Some (record { row = spec.counted r; message = last_message table.old r.place })) ×
+            (self.new ≡ record self.old {
+              rows =
+                  filter (spec.is_elsewhere r.place) (filter (spec.stays now) self.old.rows);
+            })) }
+        ensures table { Follows table.old table.new self.old.rows self.new.rows }
+        ensures rising { spec.IsRising self.old.rows }
+    {
+        lanes::drop_expired(&mut self.lanes, table, now);
+        let row = lanes::remove_first(&mut self.lanes)?;
+        let message = table.release(row.place);
+        Some(Taken {
+            row: row.counted(),
+            message,
+        })
+    }
+
+    /// The rows that are out to the session go. Takes no memory.
+    pub fn settle(&mut self, table: &mut Table, session: SessionId)
+        requires { Covers table.old self.old.rows }
+        ensures rows { self.new ≡ record self.old { rows = filter (λ r. not (spec.is_out_to session r)) self.old.rows } }
+        ensures table { Follows table.old table.new self.old.rows self.new.rows }
+    {
+        lanes::settle(&mut self.lanes, table, &Outs::To(session));
+    }
+
+    /// The row at that place goes, where it is out through that consumer of the session. Takes no
+    /// memory.
+    pub fn settle_one(
+        &mut self,
+        table: &mut Table,
+        session: SessionId,
+        consumer: ConsumerId,
+        place: u64,
+    )
+        requires { Covers table.old self.old.rows }
+        ensures rows { self.new ≡ record self.old {
+          rows =
+              filter (λ r. not (spec.is_out_through session consumer place r)) self.old.rows;
+        } }
+        ensures table { Follows table.old table.new self.old.rows self.new.rows }
+    {
+        lanes::settle(
+            &mut self.lanes,
+            table,
+            &Outs::Through(session, consumer, place),
+        );
+    }
+
+    /// The rows that are out to the session wait again, at their places and with their counts. Takes no
+    /// memory.
+    pub fn give_back(&mut self, session: SessionId)
+        ensures { self.new ≡ record self.old { rows = map (spec.back (spec.is_out_to session)) self.old.rows } }
+    {
+        lanes::give_back(&mut self.lanes, &Outs::To(session));
+    }
+
+    /// The row at that place waits again, where it is out through that consumer of the session. Takes
+    /// no memory.
+    pub fn give_back_one(&mut self, session: SessionId, consumer: ConsumerId, place: u64)
+        ensures { self.new ≡ record self.old {
+          rows =
+              map (spec.back (spec.is_out_through session consumer place)) self.old.rows;
+        } }
+    {
+        lanes::give_back(&mut self.lanes, &Outs::Through(session, consumer, place));
+    }
+
+    /// All rows go. Takes no memory.
+    pub fn clear(&mut self, table: &mut Table)
+        requires { Covers table.old self.old.rows }
+        ensures rows { self.new ≡ record self.old { rows = [] } }
+        ensures table { Follows table.old table.new self.old.rows self.new.rows }
+    {
+        lanes::clear(&mut self.lanes, table);
+    }
+}

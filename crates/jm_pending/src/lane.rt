@@ -1,0 +1,228 @@
+//! The rows of one priority, by place.
+
+ghost use Rattle.std.specs.Prelude.{◌≡◌, ℕ, ◌+◌, ◌<◌, ◌≤◌, [], ◌∷◌, ◌++◌, length, All, find, filter, map, true, false, OnOk, MatchOption, option_map, slice_get};
+ghost use Rattle.jm_pending.specs.declared.row.Row.{Row};
+ghost use Rattle.jm_pending.specs.Rows.{IsRising, back, is_among, is_elsewhere, is_ready, is_waiting, keeps, sent as sent_lem, sent_at, stays};
+ghost use Rattle.jm_pending.specs.Lanes.{is_at, is_below};
+ghost use Rattle.jm_pending.specs.Holders.{Covers, Follows};
+
+use crate::row::{Outs, Row};
+use crate::table::Table;
+use crate::walks;
+use jm_dest::{ConsumerId, Moment, SessionId};
+use std::alloc::{AllocError, Global};
+use std::collections::VecDeque;
+use std::marker::Model;
+
+/// The rows of one priority, by place. Rows stay where they stand, with their states, so that giving
+/// them back moves nothing. Three bounds spare walks: none of the first `low` rows waits, none from `high`
+/// on is out, and none that waits expires before `least`. Where the lane is steady, its rows expire in
+/// turn.
+#[derive(Drop)]
+pub(crate) struct Lane {
+    rows: VecDeque<Row>,
+    priority: u8,
+    low: usize,
+    high: usize,
+    least: u64,
+    steady: bool,
+}
+
+impl Model for Lane {
+    ghost use Rattle.std.specs.Prelude.{◌-◌};
+    ghost use Rattle.std.specs.VecDeque.{deque_len, deque_capacity};
+    ghost use Rattle.jm_pending.specs.Lanes.{Lane as LaneShown, IsSteadyLane};
+
+    ghost Value = { LaneShown };
+
+    ghost view = { λ a. record { priority = a.priority; rows = a.rows.items; spare = deque_capacity a.rows - deque_len a.rows } };
+
+    ghost invariant = { λ a. IsSteadyLane a.rows.items a.priority a.low a.high a.least a.steady };
+}
+
+impl Lane {
+    pub(crate) fn new(alloc: Global, priority: u8) -> Lane
+        ensures priority { result.priority ≡ priority }
+        ensures rows { result.rows ≡ [] }
+    {
+        Lane {
+            rows: VecDeque::new(alloc),
+            priority,
+            low: 0,
+            high: 0,
+            least: u64::MAX,
+            steady: true,
+        }
+    }
+
+    pub(crate) fn len(&self) -> usize
+        ensures { result ≡ length self.now.rows }
+    {
+        self.rows.len()
+    }
+
+    /// The row that so many stand before.
+    pub(crate) fn get(&self, index: usize) -> Option<Row>
+        ensures row { result ≡ slice_get self.now.rows index }
+        ensures rising { IsRising self.now.rows }
+    {
+        self.rows.get(index).copied()
+    }
+
+    /// How many rows are of lower places.
+    pub(crate) fn below(&self, place: u64) -> usize
+        ensures { result ≡ length (filter (is_below place) self.now.rows) }
+    {
+        self.rows.partition_point(|row| row.place < place)
+    }
+
+    /// The row at that place.
+    pub(crate) fn at(&self, place: u64) -> Option<Row>
+        ensures { result ≡ find (is_at place) self.now.rows }
+    {
+        let row = self.get(self.below(place))?;
+        if row.place == place {
+            Some(Row { ..row })
+        } else {
+            None
+        }
+    }
+
+    pub(crate) fn reserve(&mut self, additional: usize) -> Result<(), AllocError>
+        ensures ok { OnOk result (additional ≤ self.new.spare) }
+        ensures same { (self.new.priority ≡ self.old.priority) × (self.new.rows ≡ self.old.rows) }
+        ensures room { self.old.spare ≤ self.new.spare }
+    {
+        self.rows.reserve(additional)
+    }
+
+    /// Adds a row behind all others.
+    pub(crate) fn push(&mut self, row: Row)
+        requires room { 0 < self.old.spare }
+        requires priority { row.priority ≡ self.old.priority }
+        requires waiting { is_waiting row ≡ true }
+        requires above { All (λ (r : Row). r.place < row.place) self.old.rows }
+        ensures priority { self.new.priority ≡ self.old.priority }
+        ensures rows { self.new.rows ≡ self.old.rows ++ row ∷ [] }
+        ensures room { self.old.spare ≡ self.new.spare + 1 }
+    {
+        self.least = row.earlier(self.least);
+        self.steady = walks::is_steady_with(&self.rows, &row, self.steady);
+        self.rows.push_back_reserved(Row { ..row });
+    }
+
+    /// The first row that waits.
+    pub(crate) fn waiting(&self) -> Option<Row>
+        ensures { result ≡ find is_waiting self.now.rows }
+    {
+        let at = walks::first_waiting(&self.rows, self.low);
+        self.get(at)
+    }
+
+    /// The first row that is ready.
+    pub(crate) fn next(&self, now: Moment) -> Option<Row>
+        ensures { result ≡ find (is_ready now) self.now.rows }
+    {
+        let at = walks::first_ready(&self.rows, self.low, now);
+        self.get(at)
+    }
+
+    /// Drops the waiting rows that are expired.
+    pub(crate) fn drop_expired(&mut self, table: &mut Table, now: Moment)
+        requires { Covers table.old self.old.rows }
+        ensures priority { self.new.priority ≡ self.old.priority }
+        ensures rows { self.new.rows ≡ filter (stays now) self.old.rows }
+        ensures table { Follows table.old table.new self.old.rows self.new.rows }
+        ensures room { self.old.spare ≤ self.new.spare }
+    {
+        if now.get() < self.least {
+            return;
+        }
+        if self.steady {
+            walks::drop_front(&mut self.rows, table, self.low, now);
+            self.high = self.high.min(self.rows.len());
+            return;
+        }
+        walks::drop_each(&mut self.rows, table, now);
+        self.low = 0;
+        self.high = self.high.min(self.rows.len());
+        self.least = walks::bound_of(&self.rows);
+    }
+
+    /// Sends the first row that waits.
+    pub(crate) fn take_first(&mut self, session: SessionId, consumer: ConsumerId) -> Option<Row>
+        ensures priority { self.new.priority ≡ self.old.priority }
+        ensures result { result ≡ option_map (sent_lem session consumer) (find is_waiting self.old.rows) }
+        ensures rows { MatchOption (find is_waiting self.old.rows)
+            (self.new.rows ≡ self.old.rows)
+            (λ r. self.new.rows ≡ map (sent_at r.place session consumer) self.old.rows) }
+        ensures room { self.old.spare ≡ self.new.spare }
+    {
+        let at = walks::first_waiting(&self.rows, self.low);
+        if at < self.rows.len() {
+            self.rows[at] = self.rows[at].sent(session, consumer);
+            self.low = at + 1;
+            self.high = self.high.max(self.low);
+            self.get(at)
+        } else {
+            self.low = at;
+            None
+        }
+    }
+
+    /// Removes the first row that waits.
+    pub(crate) fn remove_first(&mut self) -> Option<Row>
+        ensures priority { self.new.priority ≡ self.old.priority }
+        ensures result { result ≡ find is_waiting self.old.rows }
+        ensures rows { MatchOption (find is_waiting self.old.rows)
+            (self.new.rows ≡ self.old.rows)
+            (λ r. self.new.rows ≡ filter (is_elsewhere r.place) self.old.rows) }
+        ensures room { self.old.spare ≤ self.new.spare }
+    {
+        let at = walks::first_waiting(&self.rows, self.low);
+        self.low = at;
+        if at == self.rows.len() {
+            return None;
+        }
+        let row = self.rows.remove(at);
+        self.high = self.high.min(self.rows.len());
+        row
+    }
+
+    /// Removes the rows that are among those.
+    pub(crate) fn settle(&mut self, table: &mut Table, outs: &Outs)
+        requires { Covers table.old self.old.rows }
+        ensures priority { self.new.priority ≡ self.old.priority }
+        ensures rows { self.new.rows ≡ filter (keeps outs.now) self.old.rows }
+        ensures table { Follows table.old table.new self.old.rows self.new.rows }
+        ensures room { self.old.spare ≤ self.new.spare }
+    {
+        self.high = walks::settle_front(&mut self.rows, table, self.high, outs);
+        self.low = 0;
+    }
+
+    /// Makes the rows wait again that are among those.
+    pub(crate) fn give_back(&mut self, outs: &Outs)
+        ensures priority { self.new.priority ≡ self.old.priority }
+        ensures rows { self.new.rows ≡ map (back (is_among outs.now)) self.old.rows }
+        ensures room { self.old.spare ≡ self.new.spare }
+    {
+        self.least = walks::give_back_front(&mut self.rows, self.high, outs, self.least);
+        self.low = 0;
+    }
+
+    /// Removes all rows.
+    pub(crate) fn clear(&mut self, table: &mut Table)
+        requires { Covers table.old self.old.rows }
+        ensures priority { self.new.priority ≡ self.old.priority }
+        ensures rows { self.new.rows ≡ filter (λ r. false) self.old.rows }
+        ensures table { Follows table.old table.new self.old.rows self.new.rows }
+        ensures room { self.old.spare ≤ self.new.spare }
+    {
+        walks::clear(&mut self.rows, table);
+        self.low = 0;
+        self.high = 0;
+        self.least = u64::MAX;
+        self.steady = true;
+    }
+}

@@ -1,0 +1,217 @@
+//! The lanes of one subscription, from the highest priority on.
+
+ghost use Rattle.std.specs.Prelude.{◌≡◌, ℕ, ◌+◌, ◌-◌, ◌^◌, ◌<◌, ◌≤◌, length, All, find, filter, map, take, true, false, None, Some, OnOk, IsSome, MatchOption, slice_get, slice_index_or, slice_set};
+ghost use Rattle.jm_pending.specs.declared.row.Row.{Row};
+ghost use Rattle.jm_pending.specs.Rows.{IsRising, back, is_among, is_elsewhere, is_ready, is_waiting, keeps, sent as sent_lem, sent_at, stays};
+ghost use Rattle.jm_pending.specs.Lanes.{EachBecomes, IsApart, IsPushed, Lane, all_rows, is_at, is_below, rows_of};
+ghost use Rattle.jm_pending.specs.Holders.{Covers, Follows};
+
+use crate::lane::Lane;
+use crate::row::{Outs, Row};
+use crate::table::Table;
+use jm_dest::{ConsumerId, Moment, SessionId};
+use std::alloc::AllocError;
+
+/// How many rows the lanes have.
+pub(crate) fn len(lanes: &[Lane]) -> usize
+    requires { length (all_rows lanes.now) < 2 ^ 64 }
+    ensures { result ≡ length (all_rows lanes.now) }
+{
+    let mut total = 0;
+    for lane in lanes.iter() {
+        total += lane.len();
+    }
+    total
+}
+
+/// How many rows are of lower places.
+fn below(lanes: &[Lane], place: u64) -> usize
+    requires { length (all_rows lanes.now) < 2 ^ 64 }
+    ensures { result ≡ length (filter (is_below place) (all_rows lanes.now)) }
+{
+    let mut total = 0;
+    for lane in lanes.iter() {
+        total += lane.below(place);
+    }
+    total
+}
+
+/// The row at that place.
+fn at(lanes: &[Lane], place: u64) -> Option<Row>
+    ensures { result ≡ find (is_at place) (all_rows lanes.now) }
+{
+    for lane in lanes.iter() {
+        let found = lane.at(place);
+        if found.is_some() {
+            return found;
+        }
+    }
+    None
+}
+
+/// The greatest place that no more than so many rows are below of, which is that of the next of them.
+fn place_after(lanes: &[Lane], count: usize) -> u64
+    requires few { length (all_rows lanes.now) < 2 ^ 64 }
+    requires some { count < length (all_rows lanes.now) }
+    requires bounded { All (λ (r : Row). r.place < 2 ^ 63) (all_rows lanes.now) }
+    ensures low { length (filter (is_below result) (all_rows lanes.now)) ≤ count }
+    ensures high { count < length (filter (is_below (result + 1)) (all_rows lanes.now)) }
+{
+    let mut low = 0;
+    let mut high = 1 << 63;
+    while high - low > 1 {
+        let middle = low + (high - low) / 2;
+        if below(lanes, middle) <= count {
+            low = middle;
+        } else {
+            high = middle;
+        }
+    }
+    low
+}
+
+/// The row that so many stand before by place.
+pub(crate) fn row_at(lanes: &[Lane], index: usize) -> Option<Row>
+    requires few { length (all_rows lanes.now) < 2 ^ 64 }
+    requires bounded { All (λ (r : Row). r.place < 2 ^ 63) (all_rows lanes.now) }
+    requires rising { IsRising (rows_of lanes.now) }
+    ensures { result ≡ slice_get (rows_of lanes.now) index }
+{
+    if index < len(lanes) {
+        at(lanes, place_after(lanes, index))
+    } else {
+        None
+    }
+}
+
+pub(crate) fn reserve(lanes: &mut [Lane], additional: usize) -> Result<(), AllocError>
+    ensures same { EachBecomes (λ rows. rows) lanes.old lanes.new }
+    ensures ok { OnOk result (All (λ l. additional ≤ l.spare) lanes.new) }
+{
+    for lane in lanes.iter_mut() {
+        lane.reserve(additional)?;
+    }
+    Ok(())
+}
+
+/// Adds a row to the lane of its priority.
+pub(crate) fn push(lanes: &mut [Lane], row: Row)
+    requires ten { length lanes.old ≡ 10 }
+    requires priority { row.priority < 10 }
+    requires priorities { (k : ℕ) (d : Lane) → k < length lanes.old → (slice_index_or lanes.old k d).priority + k ≡ 9 }
+    requires room { All (λ l. 0 < l.spare) lanes.old }
+    requires waiting { is_waiting row ≡ true }
+    requires above { All (λ (r : Row). r.place < row.place) (all_rows lanes.old) }
+    ensures { (after : Lane) × (lanes.new ≡ slice_set lanes.old (9 - row.priority) after) ×
+        IsPushed row (slice_index_or lanes.old (9 - row.priority) after) after }
+{
+    let at = 9 - row.priority as usize;
+    let lane = &mut lanes[at];
+    lane.push(row);
+}
+
+/// The first row that is ready.
+pub(crate) fn next(lanes: &[Lane], now: Moment) -> Option<Row>
+    ensures { result ≡ find (is_ready now) (all_rows lanes.now) }
+{
+    for lane in lanes.iter() {
+        let found = lane.next(now);
+        if found.is_some() {
+            return found;
+        }
+    }
+    None
+}
+
+/// Drops the waiting rows that are expired.
+pub(crate) fn drop_expired(lanes: &mut [Lane], table: &mut Table, now: Moment)
+    requires { Covers table.old (all_rows lanes.old) }
+    ensures rows { EachBecomes (filter (stays now)) lanes.old lanes.new }
+    ensures table { Follows table.old table.new (all_rows lanes.old) (all_rows lanes.new) }
+{
+    for lane in lanes.iter_mut() {
+        lane.drop_expired(table, now);
+    }
+}
+
+/// The first lane with a row that waits.
+fn first_lane(lanes: &[Lane]) -> usize
+    ensures within { result ≤ length lanes.now }
+    ensures before { find is_waiting (all_rows (take result lanes.now)) ≡ None }
+    ensures found { (d : Lane) → result < length lanes.now → IsSome (find is_waiting (slice_index_or lanes.now result d).rows) }
+{
+    for (i, lane) in lanes.iter().enumerate() {
+        if lane.waiting().is_some() {
+            return i;
+        }
+    }
+    lanes.len()
+}
+
+/// Sends the first row that waits.
+pub(crate) fn take_first(
+    lanes: &mut [Lane],
+    session: SessionId,
+    consumer: ConsumerId,
+) -> Option<Row>
+    requires { IsApart (all_rows lanes.old) }
+    ensures { MatchOption (find is_waiting (all_rows lanes.old))
+        ((result ≡ None) × (lanes.new ≡ lanes.old))
+        (λ r. (result ≡ Some (sent_lem session consumer r)) ×
+        EachBecomes (map (sent_at r.place session consumer)) lanes.old lanes.new) }
+{
+    let at = first_lane(lanes);
+    if at < lanes.len() {
+        let lane = &mut lanes[at];
+        lane.take_first(session, consumer)
+    } else {
+        None
+    }
+}
+
+/// Removes the first row that waits.
+pub(crate) fn remove_first(lanes: &mut [Lane]) -> Option<Row>
+    requires { IsApart (all_rows lanes.old) }
+    ensures { MatchOption (find is_waiting (all_rows lanes.old))
+        ((result ≡ None) × (lanes.new ≡ lanes.old))
+        (λ r. (result ≡ Some r) × EachBecomes (filter (is_elsewhere r.place)) lanes.old lanes.new) }
+{
+    let at = first_lane(lanes);
+    if at < lanes.len() {
+        let lane = &mut lanes[at];
+        lane.remove_first()
+    } else {
+        None
+    }
+}
+
+/// Removes the rows that are among those.
+pub(crate) fn settle(lanes: &mut [Lane], table: &mut Table, outs: &Outs)
+    requires { Covers table.old (all_rows lanes.old) }
+    ensures rows { EachBecomes (filter (keeps outs.now)) lanes.old lanes.new }
+    ensures table { Follows table.old table.new (all_rows lanes.old) (all_rows lanes.new) }
+{
+    for lane in lanes.iter_mut() {
+        lane.settle(table, outs);
+    }
+}
+
+/// Makes the rows wait again that are among those.
+pub(crate) fn give_back(lanes: &mut [Lane], outs: &Outs)
+    ensures { EachBecomes (map (back (is_among outs.now))) lanes.old lanes.new }
+{
+    for lane in lanes.iter_mut() {
+        lane.give_back(outs);
+    }
+}
+
+/// Removes all rows.
+pub(crate) fn clear(lanes: &mut [Lane], table: &mut Table)
+    requires { Covers table.old (all_rows lanes.old) }
+    ensures rows { EachBecomes (filter (λ r. false)) lanes.old lanes.new }
+    ensures table { Follows table.old table.new (all_rows lanes.old) (all_rows lanes.new) }
+{
+    for lane in lanes.iter_mut() {
+        lane.clear(table);
+    }
+}

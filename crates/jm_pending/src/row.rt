@@ -1,0 +1,193 @@
+//! Rows, and what is asked of one alone.
+
+ghost use Rattle.std.specs.Prelude.{◌≡◌, ◌<◌, ◌≤◌};
+ghost use Rattle.jm_dest.specs.Names.{session_eq};
+ghost use Rattle.jm_pending.specs.Rows as spec;
+ghost use Rattle.jm_pending.specs.Lanes.{IsBound, in_turn as in_turn_lem};
+
+use jm_dest::{ConsumerId, Moment, SessionId};
+use jm_header::Message;
+
+/// Where a row is (ours).
+#[derive(Clone, Copy, Debug, PartialEq, Eq)]
+pub enum State {
+    /// It waits for a delivery.
+    Waiting,
+    /// It was delivered, and is not yet settled.
+    Out {
+        session: SessionId,
+        consumer: ConsumerId,
+    },
+}
+
+/// A row that a subscription holds for a message of the table (ours).
+#[derive(Clone, Copy, Debug, PartialEq, Eq)]
+pub struct Row {
+    /// The place of the publication, by which the table has the message.
+    pub place: u64,
+    /// How often the row was delivered, at most 2,147,483,647.
+    pub count: u32,
+    pub state: State,
+    /// The message's JMSPriority, from 0 to 9.
+    pub priority: u8,
+    /// The message's JMSExpiration, where 0 means that it does not expire.
+    pub expiration: Moment,
+}
+
+/// Rows that are out: all to a session, or the one at a place through a session's consumer.
+#[derive(Clone, Copy)]
+pub(crate) enum Outs {
+    To(SessionId),
+    Through(SessionId, ConsumerId, u64),
+}
+
+fn same_session(a: SessionId, b: SessionId) -> bool
+    ensures { result ≡ session_eq a b }
+{
+    a.connection == b.connection && a.number == b.number
+}
+
+/// A count of deliveries, one more; from 2,147,483,647 on it stays.
+fn raised(count: u32) -> u32
+    ensures { result ≡ spec.raised count }
+{
+    if count < 2_147_483_647 {
+        count + 1
+    } else {
+        count
+    }
+}
+
+impl Row {
+    /// The row of a message that comes, at its place. It waits, and was never delivered.
+    pub fn new(place: u64, message: &Message) -> Row
+        ensures row { result ≡ spec.fresh place message.now }
+        ensures priority { result.priority < 10 }
+    {
+        Row {
+            place,
+            count: 0,
+            state: State::Waiting,
+            priority: message.priority(),
+            expiration: message.expiration(),
+        }
+    }
+
+    /// Whether the row waits for a delivery.
+    pub fn is_waiting(&self) -> bool
+        ensures { result ≡ spec.is_waiting self.now }
+    {
+        match self.state {
+            State::Waiting => true,
+            State::Out { .. } => false,
+        }
+    }
+
+    fn goes_to(&self, to: SessionId) -> bool
+        ensures { result ≡ spec.is_out_to to self.now }
+    {
+        match self.state {
+            State::Waiting => false,
+            State::Out { session, .. } => same_session(session, to),
+        }
+    }
+
+    fn goes_through(&self, to: SessionId, through: ConsumerId) -> bool
+        ensures { result ≡ spec.goes_through to through self.now.state }
+    {
+        match self.state {
+            State::Waiting => false,
+            State::Out { session, consumer } => same_session(session, to) && consumer == through,
+        }
+    }
+
+    /// Whether the row is one of those.
+    pub(crate) fn is_among(&self, outs: &Outs) -> bool
+        ensures { result ≡ spec.is_among outs.now self.now }
+    {
+        match *outs {
+            Outs::To(session) => self.goes_to(session),
+            Outs::Through(session, consumer, place) => {
+                self.place == place && self.goes_through(session, consumer)
+            }
+        }
+    }
+
+    /// Whether the row is expired at that moment: its expiration is set, and not later.
+    pub fn is_expired(&self, now: Moment) -> bool
+        ensures { result ≡ spec.is_expired now self.now }
+    {
+        let expiration = self.expiration.get();
+        expiration != 0 && expiration <= now.get()
+    }
+
+    /// Whether the row may be delivered at that moment.
+    pub(crate) fn is_ready(&self, now: Moment) -> bool
+        ensures { result ≡ spec.is_ready now self.now }
+    {
+        self.is_waiting() && !self.is_expired(now)
+    }
+
+    /// Whether a delivery at that moment leaves the row.
+    pub(crate) fn stays(&self, now: Moment) -> bool
+        ensures { result ≡ spec.stays now self.now }
+    {
+        !self.is_waiting() || !self.is_expired(now)
+    }
+
+    /// Whether the row does not expire before the other.
+    pub(crate) fn expires_after(&self, other: &Row) -> bool
+        ensures { result ≡ in_turn_lem other.now self.now }
+    {
+        let expiration = self.expiration.get();
+        let first = other.expiration.get();
+        expiration == 0 || (first != 0 && first <= expiration)
+    }
+
+    /// A bound on the expiration of what has that bound, and of the row.
+    pub(crate) fn earlier(&self, least: u64) -> u64
+        ensures lower { result ≤ least }
+        ensures bound { IsBound result self.now }
+    {
+        let expiration = self.expiration.get();
+        if expiration != 0 && expiration < least {
+            expiration
+        } else {
+            least
+        }
+    }
+
+    /// The row after one more delivery.
+    pub(crate) fn counted(self) -> Row
+        ensures { result ≡ spec.counted self }
+    {
+        Row {
+            count: raised(self.count),
+            ..self
+        }
+    }
+
+    /// The row delivered, and out to the session through its consumer.
+    pub(crate) fn sent(self, session: SessionId, consumer: ConsumerId) -> Row
+        ensures { result ≡ spec.sent session consumer self }
+    {
+        Row {
+            state: State::Out { session, consumer },
+            ..self.counted()
+        }
+    }
+
+    /// The row waiting again, where it is one of those.
+    pub(crate) fn back(self, outs: &Outs) -> Row
+        ensures { result ≡ spec.back (spec.is_among outs.now) self }
+    {
+        if self.is_among(outs) {
+            Row {
+                state: State::Waiting,
+                ..self
+            }
+        } else {
+            self
+        }
+    }
+}

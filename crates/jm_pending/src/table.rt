@@ -1,0 +1,155 @@
+//! The table of messages.
+
+ghost use Rattle.std.specs.Prelude.{◌≡◌, ◌≢◌, ℕ, ◌+◌, ◌-◌, ◌<◌, ◌≤◌, ◌^◌, None, Some, OnOk};
+ghost use Rattle.std.specs.Option.{option_copied};
+ghost use Rattle.jm_pending.specs.Holders.{GainsHolder, IsNumberOfPlaces, KeepsMessages, LosesHolder, holders_of, last_message, message_of};
+
+use indexmap::IndexMap;
+use jm_header::Message;
+use std::alloc::{AllocError, Global};
+use std::marker::Model;
+
+/// A message with the number of its holders, at least 1.
+#[derive(Drop)]
+pub(crate) struct Stored {
+    pub message: Message,
+    pub holders: u64,
+}
+
+/// Messages by the places of their publications (ours). Each stands once, beside the number of its
+/// holders, and goes with the last of them. Contracts see for each place the message and how many hold
+/// it, and `spare`, for how many more messages there is room.
+#[derive(Drop)]
+pub struct Table {
+    messages: IndexMap<u64, Stored>,
+}
+
+impl Model for Table {
+    ghost use Rattle.indexmap.specs.IndexMap.{spare};
+    ghost use Rattle.jm_pending.specs.Holders.{IsTable, Messages};
+
+    ghost Value = { Messages };
+
+    ghost view = { λ t. record { entries = t.messages.entries; spare = spare t.messages } };
+
+    ghost invariant = { λ t. IsTable t.messages.entries };
+}
+
+impl Table {
+    /// A table without messages. Takes no memory.
+    pub fn new(alloc: Global) -> Table
+        ensures { (p : ℕ) → holders_of result p ≡ 0 }
+    {
+        Table {
+            messages: IndexMap::new(alloc),
+        }
+    }
+
+    /// Makes room for that many more messages. `AllocError` where a request for memory was refused.
+    /// Either way the messages and their holders are as before.
+    pub fn reserve(&mut self, additional: usize) -> Result<(), AllocError>
+        ensures room { OnOk result (additional ≤ self.new.spare) }
+        ensures same { self.new ≡ record self.old { spare = self.new.spare } }
+        ensures kept { self.old.spare ≤ self.new.spare }
+    {
+        self.messages.reserve(additional)
+    }
+
+    /// Puts a message at a place where none stands. It has one holder: the publication itself, which
+    /// releases it once its rows are added. Takes no memory, since room was reserved.
+    pub fn put(&mut self, place: u64, message: Message)
+        requires room { 0 < self.old.spare }
+        requires free { holders_of self.old place ≡ 0 }
+        ensures holders { GainsHolder self.old self.new place }
+        ensures message { message_of self.new place ≡ Some message }
+        ensures others { (p : ℕ) → p ≢ place → message_of self.new p ≡ message_of self.old p }
+        ensures room { self.old.spare ≤ self.new.spare + 1 }
+    {
+        let stored = Stored {
+            message,
+            holders: 1,
+        };
+        let _ = self.messages.insert(place, stored);
+    }
+
+    /// The message at that place, where one stands there.
+    pub fn get(&self, place: u64) -> Option<&Message>
+        ensures { option_copied result ≡ message_of self.now place }
+    {
+        match self.messages.get(&place) {
+            Some(stored) => Some(&stored.message),
+            None => None,
+        }
+    }
+
+    /// How many hold the message at that place, and 0 where none stands there.
+    pub fn holders(&self, place: u64) -> u64
+        ensures { result ≡ holders_of self.now place }
+    {
+        match self.messages.get(&place) {
+            Some(stored) => stored.holders,
+            None => 0,
+        }
+    }
+
+    /// How many messages the table has.
+    pub fn len(&self) -> usize
+        ensures { IsNumberOfPlaces result self.now }
+    {
+        self.messages.len()
+    }
+
+    /// One more row holds the message at that place. Takes no memory.
+    pub(crate) fn hold(&mut self, place: u64)
+        requires there { 0 < holders_of self.old place }
+        requires fits { holders_of self.old place < 2 ^ 64 - 1 }
+        ensures holders { GainsHolder self.old self.new place }
+        ensures messages { KeepsMessages self.old self.new }
+        ensures room { self.old.spare ≤ self.new.spare }
+    {
+        if let Some(stored) = self.messages.get_mut(&place) {
+            stored.holders += 1;
+        }
+    }
+
+    /// One holder less of the message at that place. The message is handed out where this was the
+    /// last one. Takes no memory.
+    pub fn release(&mut self, place: u64) -> Option<Message>
+        requires { 0 < holders_of self.old place }
+        ensures result { result ≡ last_message self.old place }
+        ensures holders { LosesHolder self.old self.new place }
+        ensures messages { KeepsMessages self.old self.new }
+        ensures room { self.old.spare ≤ self.new.spare }
+    {
+        if self.holders(place) == 1 {
+            return self.take(place);
+        }
+        if let Some(stored) = self.messages.get_mut(&place) {
+            stored.holders -= 1;
+        }
+        None
+    }
+
+    /// One holder less of the message at that place, which goes where this was the last one.
+    pub(crate) fn let_go(&mut self, place: u64)
+        requires { 0 < holders_of self.old place }
+        ensures holders { LosesHolder self.old self.new place }
+        ensures messages { KeepsMessages self.old self.new }
+    {
+        let _ = self.release(place);
+    }
+
+    /// The message at that place, with all its holders.
+    fn take(&mut self, place: u64) -> Option<Message>
+        ensures result { result ≡ message_of self.old place }
+        ensures gone { message_of self.new place ≡ None }
+        ensures holders { (p : ℕ) → p ≢ place → holders_of self.new p ≡ holders_of self.old p }
+        ensures messages { KeepsMessages self.old self.new }
+        ensures room { self.old.spare ≤ self.new.spare }
+    {
+        match self.messages.swap_remove(&place) {
+            Some(stored) => Some(stored.message),
+            None => None,
+        }
+    }
+}

@@ -1,0 +1,176 @@
+//! Walks over the rows of one lane.
+
+ghost use Rattle.std.specs.Prelude.{◌≡◌, ℕ, ◌<◌, ◌≤◌, [], ◌∷◌, ◌++◌, length, All, filter, map, drop, take, not, true, false, slice_index_or};
+ghost use Rattle.std.specs.VecDeque.{deque_len, deque_capacity};
+ghost use Rattle.jm_pending.specs.declared.row.Row.{Row};
+ghost use Rattle.jm_pending.specs.Rows.{back, is_among, is_ready, is_waiting, keeps, stays};
+ghost use Rattle.jm_pending.specs.Lanes.{IsBound, IsSteady};
+ghost use Rattle.jm_pending.specs.Holders.{Covers, Follows};
+
+use crate::row::{Outs, Row};
+use crate::table::Table;
+use jm_dest::Moment;
+use std::collections::VecDeque;
+
+/// Whether the rows still expire in turn with one more.
+pub(crate) fn is_steady_with(rows: &VecDeque<Row>, row: &Row, steady: bool) -> bool
+    requires { steady ≡ true → IsSteady rows.now.items }
+    ensures { result ≡ true → IsSteady (rows.now.items ++ row.now ∷ []) }
+{
+    match rows.back() {
+        Some(last) => steady && row.expires_after(last),
+        None => true,
+    }
+}
+
+/// A bound on when the rows expire that wait.
+pub(crate) fn bound_of(rows: &VecDeque<Row>) -> u64
+    ensures { All (IsBound result) rows.now.items }
+{
+    let mut least = u64::MAX;
+    for i in 0..rows.len() {
+        least = rows[i].earlier(least);
+    }
+    least
+}
+
+/// Where the first row that waits stands; none of the first `low` does.
+pub(crate) fn first_waiting(rows: &VecDeque<Row>, low: usize) -> usize
+    requires in_range { low ≤ length rows.now.items }
+    requires before { All (λ r. is_waiting r ≡ false) (take low rows.now.items) }
+    ensures within { result ≤ length rows.now.items }
+    ensures before { All (λ r. is_waiting r ≡ false) (take result rows.now.items) }
+    ensures found { (d : Row) → result < length rows.now.items →
+        is_waiting (slice_index_or rows.now.items result d) ≡ true }
+{
+    for i in low..rows.len() {
+        if rows[i].is_waiting() {
+            return i;
+        }
+    }
+    rows.len()
+}
+
+/// Where the first row that is ready stands; none of the first `low` is.
+pub(crate) fn first_ready(rows: &VecDeque<Row>, low: usize, now: Moment) -> usize
+    requires in_range { low ≤ length rows.now.items }
+    requires before { All (λ r. is_ready now r ≡ false) (take low rows.now.items) }
+    ensures within { result ≤ length rows.now.items }
+    ensures before { All (λ r. is_ready now r ≡ false) (take result rows.now.items) }
+    ensures found { (d : Row) → result < length rows.now.items →
+        is_ready now (slice_index_or rows.now.items result d) ≡ true }
+{
+    for i in low..rows.len() {
+        if rows[i].is_ready(now) {
+            return i;
+        }
+    }
+    rows.len()
+}
+
+/// Makes those of the first `high` rows wait again that are among `outs`; no other row is out. Returns
+/// a bound on when the rows expire that wait then.
+pub(crate) fn give_back_front(rows: &mut VecDeque<Row>, high: usize, outs: &Outs, least: u64) -> u64
+    requires in_range { high ≤ deque_len rows.old }
+    requires behind { All (λ r. is_waiting r ≡ true) (drop high rows.old.items) }
+    requires bound { All (IsBound least) rows.old.items }
+    ensures rows { rows.new.items ≡ map (back (is_among outs.now)) rows.old.items }
+    ensures bound { All (IsBound result) rows.new.items }
+    ensures room { (deque_capacity rows.new ≡ deque_capacity rows.old) × (deque_len rows.new ≡ deque_len rows.old) }
+{
+    let mut earliest = least;
+    for i in 0..high {
+        rows[i] = rows[i].back(outs);
+        earliest = rows[i].earlier(earliest);
+    }
+    earliest
+}
+
+/// Each row leaves at the front, and comes again behind the others where it stays. Else it releases
+/// its message.
+pub(crate) fn drop_each(rows: &mut VecDeque<Row>, table: &mut Table, now: Moment)
+    requires { Covers table.old rows.old.items }
+    ensures rows { rows.new.items ≡ filter (stays now) rows.old.items }
+    ensures table { Follows table.old table.new rows.old.items rows.new.items }
+    ensures room { (deque_capacity rows.new ≡ deque_capacity rows.old) × (deque_len rows.new ≤ deque_len rows.old) }
+{
+    for _turn in 0..rows.len() {
+        let row = rows[0];
+        let _ = rows.pop_front();
+        if row.stays(now) {
+            rows.push_back_reserved(Row { ..row });
+        } else {
+            table.let_go(row.place);
+        }
+    }
+}
+
+/// Of rows that expire in turn, drops those that wait and are expired; none of the first `low` waits.
+/// Stops at the first row that is not expired.
+pub(crate) fn drop_front(rows: &mut VecDeque<Row>, table: &mut Table, low: usize, now: Moment)
+    requires in_range { low ≤ deque_len rows.old }
+    requires before { All (λ r. is_waiting r ≡ false) (take low rows.old.items) }
+    requires steady { IsSteady rows.old.items }
+    requires covered { Covers table.old rows.old.items }
+    ensures rows { rows.new.items ≡ filter (stays now) rows.old.items }
+    ensures table { Follows table.old table.new rows.old.items rows.new.items }
+    ensures room { (deque_capacity rows.new ≡ deque_capacity rows.old) × (deque_len rows.new ≤ deque_len rows.old) }
+{
+    let mut at = low;
+    for _turn in low..rows.len() {
+        let row = rows[at];
+        if !row.is_expired(now) {
+            return;
+        }
+        if row.is_waiting() {
+            let _ = rows.remove(at);
+            table.let_go(row.place);
+        } else {
+            at += 1;
+        }
+    }
+}
+
+/// Removes those of the first `high` rows that are among `outs`; no other row is out. Returns how many
+/// of the first are left.
+pub(crate) fn settle_front(
+    rows: &mut VecDeque<Row>,
+    table: &mut Table,
+    high: usize,
+    outs: &Outs,
+) -> usize
+    requires in_range { high ≤ deque_len rows.old }
+    requires behind { All (λ r. is_waiting r ≡ true) (drop high rows.old.items) }
+    requires covered { Covers table.old rows.old.items }
+    ensures rows { rows.new.items ≡ filter (keeps outs.now) rows.old.items }
+    ensures table { Follows table.old table.new rows.old.items rows.new.items }
+    ensures within { result ≤ length rows.new.items }
+    ensures behind { All (λ r. is_waiting r ≡ true) (drop result rows.new.items) }
+    ensures room { (deque_capacity rows.new ≡ deque_capacity rows.old) × (deque_len rows.new ≤ deque_len rows.old) }
+{
+    let mut at = 0;
+    for _turn in 0..high {
+        let row = rows[at];
+        if row.is_among(outs) {
+            let _ = rows.remove(at);
+            table.let_go(row.place);
+        } else {
+            at += 1;
+        }
+    }
+    at
+}
+
+/// All rows go.
+pub(crate) fn clear(rows: &mut VecDeque<Row>, table: &mut Table)
+    requires { Covers table.old rows.old.items }
+    ensures rows { rows.new.items ≡ [] }
+    ensures table { Follows table.old table.new rows.old.items rows.new.items }
+    ensures room { (deque_capacity rows.new ≡ deque_capacity rows.old) × (deque_len rows.new ≤ deque_len rows.old) }
+{
+    for _turn in 0..rows.len() {
+        let row = rows[0];
+        let _ = rows.pop_front();
+        table.let_go(row.place);
+    }
+}

@@ -1,0 +1,196 @@
+ghost use Rattle.std.specs.Prelude.{◌≡◌, ◌-◌, ◌^◌, []};
+ghost use Rattle.jm_record.specs.Reading as spec;
+ghost use Rattle.jm_record.specs.Reading.{Reads};
+
+use crate::fault::Fault;
+use crate::fields::VERSION;
+use crate::reader::Reader;
+use jm_base::{List, Str};
+use jm_dest::{ConnectionId, Destination, Number, SessionId};
+use jm_header::{Body, Content, DeliveryMode, Sender};
+use jm_property::{Properties, Property};
+use std::alloc::Global;
+
+/// The last number of a send.
+const NUMBER_MAX: u64 = 0x7fff_ffff_ffff_ffff;
+
+/// The least and the most of the tags that a property of that name may have.
+fn tags_of(name: &str) -> (u8, u8)
+    ensures { result ≡ spec.tags_of name.now }
+{
+    match name {
+        "JMSXGroupID" => (6, 6),
+        "JMSXGroupSeq" => (4, 4),
+        _ => (1, 6),
+    }
+}
+
+impl<'a> Reader<'a> {
+    /// The session that sent the message.
+    #[tactic(auto, unfolding(crate::specs::Reading::sender))]
+    fn sender(&mut self) -> Result<Sender, Fault>
+        ensures { Reads (λ sender. sender) (spec.sender self.old) result self.new }
+    {
+        let opening = Number::new(self.number()?)?;
+        let connection = ConnectionId::new(self.number()?)?;
+        let session = SessionId::new(connection, self.number()?)?;
+        Ok(Sender { opening, session })
+    }
+
+    /// JMSDeliveryMode.
+    #[tactic(auto, unfolding(crate::specs::Reading::mode))]
+    fn mode(&mut self) -> Result<DeliveryMode, Fault>
+        ensures { Reads (λ mode. mode) (spec.mode self.old) result self.new }
+    {
+        let mode = self.byte(0, 1)?;
+        match mode {
+            0 => Ok(DeliveryMode::NonPersistent),
+            _ => Ok(DeliveryMode::Persistent),
+        }
+    }
+
+    /// A text in memory of its own.
+    fn owned_text(&mut self, alloc: Global) -> Result<Str, Fault>
+        ensures { Reads (λ text. text) (spec.text self.old) result self.new }
+    {
+        let text = self.text()?;
+        Ok(Str::new(String::from_str(alloc, text)?))
+    }
+
+    /// A mark and, where it is 1, a text.
+    #[tactic(auto, unfolding(crate::specs::Reading::optional_text, crate::specs::Reading::marked_text))]
+    fn optional_text(&mut self, alloc: Global) -> Result<Option<Str>, Fault>
+        ensures { Reads (λ text. text) (spec.optional_text self.old) result self.new }
+    {
+        let mark = self.byte(0, 1)?;
+        match mark {
+            0 => Ok(None),
+            _ => Ok(Some(self.owned_text(alloc)?)),
+        }
+    }
+
+    /// A tag and the body. The body is copied once.
+    #[tactic(auto, unfolding(crate::specs::Reading::body, crate::specs::Reading::tagged_body))]
+    fn body(&mut self, alloc: Global) -> Result<Body, Fault>
+        ensures { Reads (λ body. body) (spec.body self.old) result self.new }
+    {
+        let tag = self.byte(0, 2)?;
+        match tag {
+            0 => Ok(Body::None),
+            1 => Ok(Body::Text(self.owned_text(alloc)?)),
+            _ => {
+                let bytes = self.block()?;
+                Ok(Body::Bytes(List::new(Vec::from_slice(alloc, bytes)?)))
+            }
+        }
+    }
+
+    /// JMSDestination.
+    #[tactic(auto, unfolding(crate::specs::Reading::destination))]
+    fn destination(&mut self, alloc: Global) -> Result<Destination, Fault>
+        ensures { Reads (λ destination. destination) (spec.destination self.old) result self.new }
+    {
+        let kind = self.byte(0, 1)?;
+        match kind {
+            0 => Ok(Destination::Queue(self.name(alloc)?)),
+            _ => Ok(Destination::Topic(self.name(alloc)?)),
+        }
+    }
+
+    /// The value of a property of that tag.
+    #[tactic(auto, unfolding(crate::specs::Reading::value))]
+    fn value(&mut self, alloc: Global, tag: u8) -> Result<Property, Fault>
+        ensures { Reads (λ value. value) (spec.value tag self.old) result self.new }
+    {
+        match tag {
+            1 => Ok(Property::Bool(self.byte(0, 1)? == 1)),
+            2 => Ok(Property::Byte(self.byte(0, 255)?.cast_signed())),
+            3 => Ok(Property::Short(self.short()?.cast_signed())),
+            4 => Ok(Property::Int(self.int()?.cast_signed())),
+            5 => Ok(Property::Long(self.long(0, u64::MAX)?.cast_signed())),
+            _ => Ok(Property::Text(self.owned_text(alloc)?)),
+        }
+    }
+
+    /// A property, which is set after those before it.
+    #[tactic(auto, using(crate::proofs::Tables::appended), unfolding(crate::specs::Reading::property, crate::specs::Reading::one_more))]
+    fn property(&mut self, alloc: Global, properties: &mut Properties) -> Result<(), Fault>
+        ensures { Reads (λ _. properties.new) (spec.one_more properties.old self.old) result self.new }
+    {
+        let name = self.property_name(properties)?;
+        let (least, most) = tags_of(name);
+        let tag = self.byte(least, most)?;
+        let value = self.value(alloc, tag)?;
+        match properties.set(name, value) {
+            Ok(()) => Ok(()),
+            // The name may have that value, so only memory is refused.
+            Err(_) => Err(Fault::Memory),
+        }
+    }
+
+    /// So many properties.
+    fn so_many_properties(&mut self, alloc: Global, count: u64) -> Result<Properties, Fault>
+        ensures { Reads (λ properties. properties) (spec.properties_after count [] self.old) result self.new }
+    {
+        let mut properties = Properties::new(alloc);
+        for _ in 0..count {
+            self.property(alloc, &mut properties)?;
+        }
+        Ok(properties)
+    }
+
+    /// A count and so many properties.
+    #[tactic(auto, unfolding(crate::specs::Reading::properties))]
+    fn properties(&mut self, alloc: Global) -> Result<Properties, Fault>
+        ensures { Reads (λ properties. properties) (spec.properties self.old) result self.new }
+    {
+        let count = self.long(0, u64::MAX)?;
+        self.so_many_properties(alloc, count)
+    }
+
+    /// A message.
+    #[tactic(auto, unfolding(crate::specs::Reading::message))]
+    pub(crate) fn message(&mut self, alloc: Global) -> Result<Content, Fault>
+        ensures { Reads (λ message. message) (spec.message self.old) result self.new }
+    {
+        self.byte(VERSION, VERSION)?;
+        let sender = self.sender()?;
+        let number = self.long(1, NUMBER_MAX)?;
+        let timestamp = self.moment()?;
+        let expiration = self.expiration(timestamp)?;
+        let mode = self.mode()?;
+        let priority = self.byte(0, 9)?;
+        let destination = self.destination(alloc)?;
+        let correlation = self.optional_text(alloc)?;
+        let message_type = self.optional_text(alloc)?;
+        let body = self.body(alloc)?;
+        let properties = self.properties(alloc)?;
+        Ok(Content {
+            sender,
+            number,
+            destination,
+            mode,
+            priority,
+            timestamp,
+            expiration,
+            correlation,
+            message_type,
+            body,
+            properties,
+            is_body_read_only: false,
+            are_properties_read_only: false,
+        })
+    }
+
+    /// A message and nothing after it.
+    #[tactic(auto, unfolding(crate::specs::Reading::whole))]
+    pub(crate) fn whole(&mut self, alloc: Global) -> Result<Content, Fault>
+        ensures { Reads (λ message. message) (spec.whole self.old) result self.new }
+    {
+        let message = self.message(alloc)?;
+        if self.left() > 0 {
+            return Err(Fault::Damaged);
+        }
+        Ok(message)
+    }
+}

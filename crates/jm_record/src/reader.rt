@@ -1,0 +1,199 @@
+ghost use Rattle.std.specs.Prelude.{◌≡◌, ◌≤◌, ◌-◌, ◌^◌, IfOk, None, length};
+ghost use Rattle.jm_property.specs.Properties.{value_of};
+ghost use Rattle.std.specs.Int.{w16, w32, w64};
+ghost use Rattle.jm_record.specs.Reading as spec;
+ghost use Rattle.jm_record.specs.Reading.{Reads};
+
+use crate::fault::Fault;
+use crate::fields::{block, long_number, moment, short_number, text};
+use jm_dest::{Moment, Name};
+use jm_property::{Properties, is_settable};
+use std::alloc::Global;
+use std::marker::Model;
+
+/// What is left of the bytes of a record.
+///
+/// Each method reads a field or several. Where one is cut or not allowed, it answers `Damaged` and leaves
+/// the reader before that field.
+#[derive(Drop)]
+pub(crate) struct Reader<'a> {
+    rest: &'a [u8],
+}
+
+impl<'a> Model for Reader<'a> {
+    ghost use Rattle.std.specs.Prelude.{List, ℕ};
+
+    ghost Value = { List ℕ };
+
+    ghost view = { λ r. r.rest.now };
+}
+
+impl<'a> Reader<'a> {
+    pub(crate) fn new(bytes: &'a [u8]) -> Reader<'a>
+        ensures { result ≡ bytes.now }
+    {
+        Reader { rest: bytes }
+    }
+
+    /// How many bytes are left.
+    pub(crate) fn left(&self) -> usize
+        ensures { result ≡ length self.now }
+    {
+        self.rest.len()
+    }
+
+    /// A byte from the least to the most.
+    #[tactic(auto, unfolding(crate::specs::Reading::byte))]
+    pub(crate) fn byte(&mut self, least: u8, most: u8) -> Result<u8, Fault>
+        ensures { Reads (λ n. n) (spec.byte least most self.old) result self.new }
+    {
+        match self.rest {
+            [byte, rest @ ..] if least <= *byte && *byte <= most => {
+                self.rest = rest;
+                Ok(*byte)
+            }
+            _ => Err(Fault::Damaged),
+        }
+    }
+
+    /// A number of 4 bytes, at least 1.
+    #[tactic(auto, unfolding(crate::specs::Reading::number))]
+    pub(crate) fn number(&mut self) -> Result<u32, Fault>
+        ensures reads { Reads (λ n. n) (spec.number w32 1 (2 ^ 32 - 1) self.old) result self.new }
+        ensures positive { IfOk result (λ n. 1 ≤ n) }
+    {
+        match short_number(self.rest) {
+            Some((number, rest)) if number >= 1 => {
+                self.rest = rest;
+                Ok(number)
+            }
+            _ => Err(Fault::Damaged),
+        }
+    }
+
+    /// A number of 2 bytes.
+    #[tactic(auto, unfolding(crate::specs::Reading::number))]
+    pub(crate) fn short(&mut self) -> Result<u16, Fault>
+        ensures { Reads (λ n. n) (spec.number w16 0 (2 ^ 16 - 1) self.old) result self.new }
+    {
+        match self.rest.split_first_chunk::<2>() {
+            Some((number, rest)) => {
+                self.rest = rest;
+                Ok(u16::from_be_bytes(*number))
+            }
+            None => Err(Fault::Damaged),
+        }
+    }
+
+    /// A number of 4 bytes.
+    #[tactic(auto, unfolding(crate::specs::Reading::number))]
+    pub(crate) fn int(&mut self) -> Result<u32, Fault>
+        ensures { Reads (λ n. n) (spec.number w32 0 (2 ^ 32 - 1) self.old) result self.new }
+    {
+        match short_number(self.rest) {
+            Some((number, rest)) => {
+                self.rest = rest;
+                Ok(number)
+            }
+            None => Err(Fault::Damaged),
+        }
+    }
+
+    /// A number of 8 bytes from the least to the most.
+    #[tactic(auto, unfolding(crate::specs::Reading::number))]
+    pub(crate) fn long(&mut self, least: u64, most: u64) -> Result<u64, Fault>
+        ensures { Reads (λ n. n) (spec.number w64 least most self.old) result self.new }
+    {
+        match long_number(self.rest) {
+            Some((number, rest)) if least <= number && number <= most => {
+                self.rest = rest;
+                Ok(number)
+            }
+            _ => Err(Fault::Damaged),
+        }
+    }
+
+    /// A moment.
+    #[tactic(auto, unfolding(crate::specs::Reading::moment))]
+    pub(crate) fn moment(&mut self) -> Result<Moment, Fault>
+        ensures { Reads (λ moment. moment) (spec.moment self.old) result self.new }
+    {
+        match moment(self.rest) {
+            Some((moment, rest)) => {
+                self.rest = rest;
+                Ok(moment)
+            }
+            None => Err(Fault::Damaged),
+        }
+    }
+
+    /// The expiration of a message of that timestamp: 0, or above the timestamp.
+    #[tactic(auto, unfolding(crate::specs::Reading::expiration))]
+    pub(crate) fn expiration(&mut self, timestamp: Moment) -> Result<Moment, Fault>
+        ensures { Reads (λ moment. moment) (spec.expiration timestamp self.old) result self.new }
+    {
+        match moment(self.rest) {
+            Some((moment, rest)) if moment.get() == 0 || timestamp.get() < moment.get() => {
+                self.rest = rest;
+                Ok(moment)
+            }
+            _ => Err(Fault::Damaged),
+        }
+    }
+
+    /// A length and as many bytes.
+    #[tactic(auto, unfolding(crate::specs::Reading::block))]
+    pub(crate) fn block(&mut self) -> Result<&'a [u8], Fault>
+        ensures { Reads (λ bytes. bytes.now) (spec.block self.old) result self.new }
+    {
+        match block(self.rest) {
+            Some((bytes, rest)) => {
+                self.rest = rest;
+                Ok(bytes)
+            }
+            None => Err(Fault::Damaged),
+        }
+    }
+
+    /// A text.
+    #[tactic(auto, unfolding(crate::specs::Reading::text))]
+    pub(crate) fn text(&mut self) -> Result<&'a str, Fault>
+        ensures { Reads (λ text. text.now) (spec.text self.old) result self.new }
+    {
+        match text(self.rest) {
+            Some((text, rest)) => {
+                self.rest = rest;
+                Ok(text)
+            }
+            None => Err(Fault::Damaged),
+        }
+    }
+
+    /// The name of a property beside those before it.
+    #[tactic(auto, unfolding(crate::specs::Reading::property_name))]
+    pub(crate) fn property_name(&mut self, before: &Properties) -> Result<&'a str, Fault>
+        ensures reads { Reads (λ name. name.now) (spec.property_name before.now self.old) result self.new }
+        ensures new { IfOk result (λ name. value_of before.now name.now ≡ None) }
+    {
+        match text(self.rest) {
+            Some((name, rest)) if is_settable(name) && before.get(name).is_none() => {
+                self.rest = rest;
+                Ok(name)
+            }
+            _ => Err(Fault::Damaged),
+        }
+    }
+
+    /// The name of a destination.
+    #[tactic(auto, unfolding(crate::specs::Reading::name))]
+    pub(crate) fn name(&mut self, alloc: Global) -> Result<Name, Fault>
+        ensures { Reads (λ name. name) (spec.name self.old) result self.new }
+    {
+        let Some((text, rest)) = text(self.rest) else {
+            return Err(Fault::Damaged);
+        };
+        let name = Name::new(alloc, text)?;
+        self.rest = rest;
+        Ok(name)
+    }
+}

@@ -1,0 +1,18 @@
+-- The exit status of the program (ours).
+use Rattle.std.specs.Prelude.{ℕ}
+use Rattle.clap.specs.Values.{kind_of}
+use Rattle.clap.specs.declared.error.ErrorKind.{ErrorKind}
+use Rattle.clap.specs.declared.error.ErrorKind.TheVariants.{DisplayHelp, DisplayVersion}
+use Rattle.jm_words.specs.declared.words.WordsFault.{WordsFault}
+use Rattle.jm_words.specs.declared.words.WordsFault.TheVariants.{Refused, Memory}
+
+-- the exit status of words that clap refuses: 0 where they ask for help or the version, and 2 where they are wrong
+abbrev pub status_of_kind : ErrorKind → ℕ
+status_of_kind DisplayHelp = 0
+status_of_kind DisplayVersion = 0
+status_of_kind _ = 2
+
+-- the exit status of words that give nothing to do: that one, or 3 where memory is refused
+abbrev pub status_of_words : WordsFault → ℕ
+status_of_words (Refused error) = status_of_kind (kind_of error)
+status_of_words Memory = 3

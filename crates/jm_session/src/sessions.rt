@@ -1,0 +1,290 @@
+//! What was opened and made, by number.
+
+ghost use Rattle.std.specs.Prelude.{◌≡◌, ◌+◌, ◌<◌, ◌≤◌, ◌&&◌, ◌++◌, [], ◌∷◌, true, not, is_ok, is_some, IfOk, IfErr, OnOk, OnErr, Some, None, if◌then◌else◌};
+ghost use Rattle.std.specs.Option.{option_copied};
+ghost use Rattle.jm_base.specs.declared.refusal.Refusal.TheVariants.{IllegalState};
+ghost use Rattle.jm_machine.specs.declared.call.Who.TheVariants.{Connection, Session};
+ghost use Rattle.jm_machine.specs.declared.call.Request.TheVariants.{Open, Start, Stop, CreateSession};
+ghost use Rattle.jm_machine.specs.Life as life;
+ghost use Rattle.jm_machine.specs.Machine as machine;
+ghost use Rattle.jm_session.specs.Known.{cause};
+
+use crate::number::ConsumerNumber;
+use indexmap::IndexMap;
+use jm_base::{Mode, Refusal};
+use jm_dest::{ConnectionId, ConsumerId, Key, SessionId};
+use jm_machine::{ConnectionState, Consumer, SessionState};
+use std::alloc::{AllocError, Global};
+use std::marker::Model;
+
+/// The connections and sessions that were opened, and the consumers that were made in them, each in
+/// order and found by its number. Contracts see the connections and sessions as the machine's `Life`,
+/// the consumers as its list, and `spare`, for how many more calls there is room.
+#[derive(Drop)]
+pub struct Sessions {
+    connections: IndexMap<ConnectionId, ConnectionState>,
+    sessions: IndexMap<SessionId, SessionState>,
+    consumers: IndexMap<ConsumerNumber, Consumer>,
+}
+
+impl Model for Sessions {
+    ghost use Rattle.std.specs.Prelude.{min};
+    ghost use Rattle.indexmap.specs.IndexMap.{spare, values};
+    ghost use Rattle.jm_session.specs.Known.{Known};
+
+    ghost Value = { Known };
+
+    ghost use Rattle.jm_session.specs.Numbers.{IsNumbered, number_of};
+
+    ghost view = { λ s. record {
+      life = record { connections = values s.connections; sessions = values s.sessions };
+      consumers = values s.consumers;
+      spare = min (spare s.connections) (min (spare s.sessions) (spare s.consumers));
+    } };
+
+    ghost invariant = { λ s.
+        IsNumbered (λ x. x.id) s.connections.entries
+        × IsNumbered (λ x. x.id) s.sessions.entries
+        × IsNumbered number_of s.consumers.entries };
+}
+
+impl Sessions {
+    /// Nothing was opened. Takes no memory.
+    pub fn new(alloc: Global) -> Sessions
+        ensures life { result.life ≡ record { connections = []; sessions = [] } }
+        ensures consumers { result.consumers ≡ [] }
+    {
+        Sessions {
+            connections: IndexMap::new(alloc),
+            sessions: IndexMap::new(alloc),
+            consumers: IndexMap::new(alloc),
+        }
+    }
+
+    /// The connections that were opened, in order.
+    pub fn connections(&self) -> &[ConnectionState]
+        ensures { result.now ≡ self.now.life.connections }
+    {
+        self.connections.values().as_slice()
+    }
+
+    /// The sessions that were opened, in order.
+    pub fn sessions(&self) -> &[SessionState]
+        ensures { result.now ≡ self.now.life.sessions }
+    {
+        self.sessions.values().as_slice()
+    }
+
+    /// The consumers that were made, in order.
+    pub fn consumers(&self) -> &[Consumer]
+        ensures { result.now ≡ self.now.consumers }
+    {
+        self.consumers.values().as_slice()
+    }
+
+    /// The connection of that number, where it was opened.
+    pub fn connection_of(&self, id: ConnectionId) -> Option<ConnectionState>
+        ensures { result ≡ life.connection_of self.now.life.connections id }
+    {
+        self.connections.get(&id).copied()
+    }
+
+    /// Whether the connection of that number was opened.
+    pub fn is_used(&self, id: ConnectionId) -> bool
+        ensures { result ≡ is_some (life.connection_of self.now.life.connections id) }
+    {
+        self.connection_of(id).is_some()
+    }
+
+    /// Whether the connection of that number is started.
+    pub fn is_started(&self, id: ConnectionId) -> bool
+        ensures { result ≡ life.is_started self.now.life id }
+    {
+        match self.connection_of(id) {
+            Some(connection) => connection.is_started,
+            None => false,
+        }
+    }
+
+    /// The session of that number, where it was opened.
+    pub fn session_of(&self, id: &SessionId) -> Option<SessionState>
+        ensures { result ≡ life.session_of self.now.life.sessions id.now }
+    {
+        self.sessions.get(id).copied()
+    }
+
+    /// The mode of the session of that number, where it is open.
+    pub fn mode_of(&self, id: &SessionId) -> Option<Mode>
+        ensures { result ≡ life.mode_of self.now.life id.now }
+    {
+        match self.session_of(id) {
+            Some(session) => Some(session.mode),
+            None => None,
+        }
+    }
+
+    /// Whether the session of that number is open.
+    pub fn is_open(&self, id: &SessionId) -> bool
+        ensures { result ≡ is_some (life.mode_of self.now.life id.now) }
+    {
+        self.mode_of(id).is_some()
+    }
+
+    /// Whether the session may be opened: its connection is open, and its number was not used.
+    pub fn is_new_session(&self, id: &SessionId) -> bool
+        ensures { result ≡ life.is_new_session self.now.life id.now }
+    {
+        self.is_used(id.connection) && self.session_of(id).is_none()
+    }
+
+    /// The session's consumer of that number, where it was made.
+    pub fn consumer_of(&self, session: &SessionId, id: ConsumerId) -> Option<&Consumer>
+        ensures { option_copied result ≡ machine.consumer_of self.now.consumers session.now id }
+    {
+        self.consumers.get(&ConsumerNumber {
+            session: *session,
+            consumer: id,
+        })
+    }
+
+    /// Whether the session's consumer of that number may be made: the session is open, and the number
+    /// was not used in it.
+    pub fn may_begin(&self, session: &SessionId, id: ConsumerId) -> bool
+        ensures { result ≡ machine.may_begin self.now.life self.now.consumers session.now id }
+    {
+        self.is_open(session) && self.consumer_of(session, id).is_none()
+    }
+
+    /// Whether the session's consumer of that number may receive: the session is open, and the consumer
+    /// is active in it.
+    pub fn may_receive(&self, session: &SessionId, id: ConsumerId) -> bool
+        ensures { result ≡ (is_some (life.mode_of self.now.life session.now) && machine.is_active (machine.consumer_of self.now.consumers session.now id)) }
+    {
+        self.is_open(session) && self.consumer_of(session, id).is_some()
+    }
+
+    /// Makes room, so that the next `n` calls take no memory. `AllocError` where a request for memory
+    /// was refused.
+    pub fn reserve(&mut self, n: usize) -> Result<(), AllocError>
+        ensures room { OnOk result (n ≤ self.new.spare) }
+        ensures spare { self.old.spare ≤ self.new.spare }
+        ensures life { self.new.life ≡ self.old.life }
+        ensures consumers { self.new.consumers ≡ self.old.consumers }
+    {
+        self.connections.reserve(n)?;
+        self.sessions.reserve(n)?;
+        self.consumers.reserve(n)
+    }
+
+    /// Opens the connection, stopped. `IllegalState` where the number was used; else `Memory` where a
+    /// request for memory was refused, which does not come where there is room.
+    #[tactic(auto, unfolding(jm_machine::specs::Life::life_after))]
+    pub fn open(&mut self, id: ConnectionId) -> Result<(), Refusal>
+        ensures ok { OnOk result (life.connection_of self.old.life.connections id ≡ None) }
+        ensures refused { IfErr result (λ refusal. refusal ≡ cause (not (is_some (life.connection_of self.old.life.connections id)))) }
+        ensures room { 0 < self.old.spare → life.connection_of self.old.life.connections id ≡ None → is_ok result ≡ true }
+        ensures life { self.new.life ≡ (if is_ok result then life.life_after self.old.life (Connection id) Open else self.old.life) }
+        ensures consumers { self.new.consumers ≡ self.old.consumers }
+        ensures spare { self.old.spare ≤ self.new.spare + 1 }
+    {
+        if self.is_used(id) {
+            return Err(Refusal::IllegalState);
+        }
+        let connection = ConnectionState {
+            id,
+            is_started: false,
+        };
+        match self.connections.insert(id, connection) {
+            Ok(_) => Ok(()),
+            Err(_) => Err(Refusal::Memory),
+        }
+    }
+
+    /// Starts the connection. `IllegalState` where it is not open. Takes no memory.
+    #[tactic(auto, unfolding(jm_machine::specs::Life::life_after))]
+    pub fn start(&mut self, id: ConnectionId) -> Result<(), Refusal>
+        ensures ok { is_ok result ≡ is_some (life.connection_of self.old.life.connections id) }
+        ensures refused { IfErr result (λ refusal. refusal ≡ IllegalState) }
+        ensures life { self.new.life ≡ (if is_ok result then life.life_after self.old.life (Connection id) Start else self.old.life) }
+        ensures consumers { self.new.consumers ≡ self.old.consumers }
+        ensures spare { self.old.spare ≤ self.new.spare }
+    {
+        self.set_started(id, true)
+    }
+
+    /// Stops the connection. `IllegalState` where it is not open. Takes no memory.
+    #[tactic(auto, unfolding(jm_machine::specs::Life::life_after))]
+    pub fn stop(&mut self, id: ConnectionId) -> Result<(), Refusal>
+        ensures ok { is_ok result ≡ is_some (life.connection_of self.old.life.connections id) }
+        ensures refused { IfErr result (λ refusal. refusal ≡ IllegalState) }
+        ensures life { self.new.life ≡ (if is_ok result then life.life_after self.old.life (Connection id) Stop else self.old.life) }
+        ensures consumers { self.new.consumers ≡ self.old.consumers }
+        ensures spare { self.old.spare ≤ self.new.spare }
+    {
+        self.set_started(id, false)
+    }
+
+    /// Starts or stops the connection, where it is open.
+    fn set_started(&mut self, id: ConnectionId, on: bool) -> Result<(), Refusal>
+        ensures ok { is_ok result ≡ is_some (life.connection_of self.old.life.connections id) }
+        ensures refused { IfErr result (λ refusal. refusal ≡ IllegalState) }
+        ensures life { self.new.life ≡ (if is_ok result then record self.old.life { connections = life.with_started id on self.old.life.connections } else self.old.life) }
+        ensures consumers { self.new.consumers ≡ self.old.consumers }
+        ensures spare { self.old.spare ≤ self.new.spare }
+    {
+        let Some(at) = self.connections.get_index_of(&id) else {
+            return Err(Refusal::IllegalState);
+        };
+        self.connections[at] = ConnectionState { id, is_started: on };
+        Ok(())
+    }
+
+    /// Opens the session in that mode. `IllegalState` where it may not be opened; else `Memory` where a
+    /// request for memory was refused, which does not come where there is room.
+    #[tactic(auto, unfolding(jm_machine::specs::Life::life_after))]
+    pub fn session(&mut self, id: &SessionId, mode: Mode) -> Result<(), Refusal>
+        ensures ok { OnOk result (life.is_new_session self.old.life id.now ≡ true) }
+        ensures refused { IfErr result (λ refusal. refusal ≡ cause (life.is_new_session self.old.life id.now)) }
+        ensures room { 0 < self.old.spare → life.is_new_session self.old.life id.now ≡ true → is_ok result ≡ true }
+        ensures life { self.new.life ≡ (if is_ok result then life.life_after self.old.life (Session id.now) (CreateSession mode) else self.old.life) }
+        ensures consumers { self.new.consumers ≡ self.old.consumers }
+        ensures spare { self.old.spare ≤ self.new.spare + 1 }
+    {
+        if !self.is_new_session(id) {
+            return Err(Refusal::IllegalState);
+        }
+        match self.sessions.insert(*id, SessionState { id: *id, mode }) {
+            Ok(_) => Ok(()),
+            Err(_) => Err(Refusal::Memory),
+        }
+    }
+
+    /// Makes the session's consumer of that number, which receives from the key. `IllegalState` where it
+    /// may not be made; else `Memory` where a request for memory was refused, which does not come where
+    /// there is room.
+    pub fn consumer(&mut self, session: &SessionId, id: ConsumerId, key: Key) -> Result<(), Refusal>
+        ensures ok { OnOk result (machine.may_begin self.old.life self.old.consumers session.now id ≡ true) }
+        ensures refused { IfErr result (λ refusal. refusal ≡ cause (machine.may_begin self.old.life self.old.consumers session.now id)) }
+        ensures room { 0 < self.old.spare → machine.may_begin self.old.life self.old.consumers session.now id ≡ true → is_ok result ≡ true }
+        ensures life { self.new.life ≡ self.old.life }
+        ensures consumers { self.new.consumers ≡ (if is_ok result then self.old.consumers ++ machine.new_consumer session.now id key ∷ [] else self.old.consumers) }
+        ensures spare { self.old.spare ≤ self.new.spare + 1 }
+    {
+        if !self.may_begin(session, id) {
+            return Err(Refusal::IllegalState);
+        }
+        let number = ConsumerNumber {
+            session: *session,
+            consumer: id,
+        };
+        let consumer = Consumer {
+            session: *session,
+            id,
+            key,
+        };
+        match self.consumers.insert(number, consumer) {
+            Ok(_) => Ok(()),
+            Err(_) => Err(Refusal::Memory),
+        }
+    }
+}

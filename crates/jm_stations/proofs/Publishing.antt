@@ -1,0 +1,89 @@
+-- A publication, from putting its message into the table to releasing it.
+use Rattle.std.proofs.Common.{◌≡◌, ◌≢◌, ℕ, ◌+◌, ◌<◌, ◌^◌, ◌==◌, List, [], ◌∷◌, ◌++◌, length, get_or, cond, Option, Some, None, refl, ap, sym, subst, ◌∙◌, arith}
+use Rattle.std.specs.List.{All}
+use Rattle.std.proofs.lemmas.Bool.{ne_eqb, eq-eqb}
+use Rattle.std.proofs.lemmas.List.{get_or-map, length-map, map-append}
+use Rattle.std.proofs.lemmas.List.Elements.{All-nil, All-head, All-tail, All-push}
+use Rattle.std.proofs.lemmas.List.Sums.{sum_by-cons}
+use Rattle.jm_header.specs.declared.content.Content.{Content}
+use Rattle.jm_pending.specs.declared.row.Row.{Row}
+use Rattle.jm_pending.specs.Rows.{Held, fresh}
+use Rattle.jm_pending.specs.Holders.{Messages, GainsHolder, LosesHolder, KeepsMessages, holders_of, message_of, rows_at}
+use Rattle.jm_pending.specs.Counts.{all_at, IsCounted}
+use Rattle.jm_pending.proofs.Counting.{beside_put, counted_released, counted_more}
+use Rattle.jm_pending.proofs.Holding.{row_first}
+use Rattle.jm_stations.specs.Backlogs.{Backlog, IsPublished}
+use Rattle.jm_stations.specs.Kept.{all_rows, shown, all_shown, AreBelow, IsBacklog, IsKept, IsOffered, FollowsAll}
+use Rattle.jm_stations.proofs.Holders.{beside_all, keeps_released, covers_one}
+use Rattle.jm_stations.proofs.Shown.{all_covered, all_backlogs_kept, shown_kept, offered_backlogs, offered_shown}
+
+-- no row is at a place that all are below of
+none_below : (p : ℕ) (rows : List Row) → AreBelow p rows → rows_at p rows ≡ 0
+none_below p [] b = refl
+none_below p (r ∷ rows) b =
+    let lt : r.place < p = All-head (λ (r : Row). r.place < p) r rows b in
+    let e : cond {A = ℕ} (r.place == p) 1 0 ≡ 0 = rw (ne_eqb r.place p (omega (arith, lt))) refl in
+    omega (arith, e, row_first p r rows, none_below p rows (All-tail (λ (r : Row). r.place < p) r rows b))
+
+none_all : (t : Messages) (p : ℕ) (lists : List Held) → All (IsBacklog t p) lists → all_at p (all_rows lists) ≡ 0
+none_all t p [] b = refl
+none_all t p (h ∷ lists) b =
+    omega (arith, sum_by-cons (λ rows. rows_at p rows) h.rows (all_rows lists), none_below p h.rows (All-head (IsBacklog t p) h lists b).below, none_all t p lists (All-tail (IsBacklog t p) h lists b))
+
+-- the next place is free
+pub free_place : (t : Messages) (place : ℕ) (lists : List Held) → IsKept t lists place → holders_of t place ≡ 0
+free_place t place lists k = k.counted.each place ∙ none_all t place lists k.each
+
+-- and has one holder once the message stands there
+pub one_holder : (t t1 : Messages) (place : ℕ) (lists : List Held) → IsKept t lists place → GainsHolder t t1 place → holders_of t1 place ≡ 1
+one_holder t t1 place lists k g =
+    let one : cond {A = ℕ} (place == place) 1 0 ≡ 1 = rw (eq-eqb place place refl) refl in
+    omega (arith, one, g.holders place, free_place t place lists k)
+
+-- so has it while the lists take it
+pub still_held : (t t1 t2 : Messages) (place : ℕ) (lists after : List Held) → IsKept t lists place → GainsHolder t t1 place → FollowsAll t1 t2 (all_rows lists) (all_rows after) → 0 < holders_of t2 place
+still_held t t1 t2 place lists after k g f = omega (arith, one_holder t t1 place lists k g, none_all t place lists k.each, f.holders place)
+
+-- what is held after it
+pub published_kept : (t t1 t2 t3 : Messages) (place : ℕ) (m : Content) (indexes : List ℕ) (lists after : List Held) → IsKept t lists place → place < 2 ^ 63 → GainsHolder t t1 place → message_of t1 place ≡ Some m → ((p : ℕ) → p ≢ place → message_of t1 p ≡ message_of t p) → IsOffered indexes (fresh place m) lists after → FollowsAll t1 t2 (all_rows lists) (all_rows after) → LosesHolder t2 t3 place → KeepsMessages t2 t3
+    → IsKept t3 after (place + 1) × KeepsMessages t1 t3
+published_kept t t1 t2 t3 place m indexes lists after k bound gains is others offered follows lost kept =
+    let beside = beside_put t t1 place (all_rows lists) k.counted gains in
+    let counted : IsCounted t3 (all_rows after) = counted_released t2 t3 place (all_rows after) (beside_all t1 t2 place (all_rows lists) (all_rows after) beside follows) lost in
+    let keeps : KeepsMessages t1 t3 = keeps_released t1 t2 t3 place follows.messages lost kept in
+    let each = offered_backlogs t t1 place m indexes lists after others is offered k.each in (
+      record { counted = counted; each = all_backlogs_kept t1 t3 (place + 1) after keeps (all_covered t3 after counted) each; places = omega (arith, bound) },
+      keeps,
+    )
+
+-- and what callers see of it
+pub published_shown : (t t1 t3 : Messages) (place : ℕ) (m : Content) (indexes : List ℕ) (lists after : List Held) → IsKept t lists place → IsKept t3 after (place + 1) → KeepsMessages t1 t3 → message_of t1 place ≡ Some m → ((p : ℕ) → p ≢ place → message_of t1 p ≡ message_of t p) → IsOffered indexes (fresh place m) lists after
+    → IsPublished indexes place m (all_shown t lists) (all_shown t3 after)
+published_shown t t1 t3 place m indexes lists after k k3 keeps is others offered =
+    let none : Held = record { rows = []; limit = None; missed = 0; room = 0 } in
+    record {
+      number = length-map after (shown t3) ∙ offered.number ∙ sym (length-map lists (shown t));
+      each = λ i d l.
+          let inside : i < length lists = omega (arith, length-map lists (shown t), l) in
+          let there : i < length after = omega (arith, offered.number, inside) in
+          rw (get_or-map (shown t3) after i none d there, get_or-map (shown t) lists i none d inside)
+          (shown_kept t1 t3 (get_or after i none) keeps (covers_one t3 after i none there k3.counted)
+          ∙ offered_shown t t1 place m indexes lists after i none inside others is offered k.each);
+    }
+
+-- a new list, which is empty
+pub created_kept : (t : Messages) (place : ℕ) (lists : List Held) (limit : Option ℕ) → IsKept t lists place → IsKept t (lists ++ record { rows = []; limit = limit; missed = 0; room = 0 } ∷ []) place
+created_kept t place lists limit k =
+    let h : Held = record { rows = []; limit = limit; missed = 0; room = 0 } in
+    record {
+      counted = rw (map-append (λ (h : Held). h.rows) lists (h ∷ [])) (counted_more t (all_rows lists) k.counted);
+      each = All-push (IsBacklog t place) lists h k.each (record { below = All-nil _; waiting = All-nil _; own = record { each = All-nil _ } });
+      places = k.places;
+    }
+
+-- room that callers see is there
+pub room_inside : (t : Messages) (lists : List Held) (list : List Backlog) (i : ℕ) (d : Held) → all_shown t lists ≡ list → i < length list → ((e : Backlog) → 0 < (get_or list i e).room) → 0 < (get_or lists i d).room
+room_inside t lists list i d is l room =
+    let inside : i < length lists = omega (arith, length-map lists (shown t), ap (λ (xs : List Backlog). length xs) is, l) in
+    let same : get_or list i (shown t d) ≡ shown t (get_or lists i d) = ap (λ (xs : List Backlog). get_or xs i (shown t d)) (sym is) ∙ get_or-map (shown t) lists i d (shown t d) inside in
+    subst (λ (b : Backlog). 0 < b.room) same (room (shown t d))

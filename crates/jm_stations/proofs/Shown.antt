@@ -1,0 +1,151 @@
+-- What callers see of all lists through each change.
+use Rattle.std.proofs.Common.{◌≡◌, ◌≢◌, ℕ, ◌+◌, ◌<◌, List, [], ◌∷◌, length, get_or, set, Bool, true, false, cond, Option, Some, refl, ap, ◌∙◌, arith, suc, zero}
+use Rattle.std.specs.List.{filter, All}
+use Rattle.std.proofs.lemmas.List.{map-append, length-map}
+use Rattle.std.proofs.lemmas.List.Elements.{All-nil, All-cons, All-head, All-tail, All-filter, All-weaker, All-push}
+use Rattle.jm_header.specs.declared.content.Content.{Content}
+use Rattle.jm_machine.specs.declared.state.PlacedRow.{PlacedRow}
+use Rattle.jm_pending.specs.declared.row.Row.{Row}
+use Rattle.jm_pending.specs.Rows.{Held, IsRising, is_waiting, is_at_limit, fresh, stays, next}
+use Rattle.jm_pending.specs.Holders.{Messages, KeepsMessages, Covers, message_of}
+use Rattle.jm_pending.specs.Placed.{placed, all_placed, message_or_none, IsRowOf}
+use Rattle.jm_pending.specs.Counts.{IsCounted}
+use Rattle.jm_pending.proofs.Counting.{placed_same, rows_same}
+use Rattle.jm_stations.specs.Backlogs.{Backlog, is_named, added, changed_at, received}
+use Rattle.jm_stations.specs.Kept.{all_rows, shown, all_shown, with_row, settled, is_left, AreBelow, IsBacklog, IsOffered}
+use Rattle.jm_stations.proofs.Holders.{covers_one}
+use Rattle.jm_stations.proofs.Delivery.{IsPlain, plain_rows, settled_same}
+
+-- a list of rows with these rows, as callers see it
+abbrev pub backlog_of : Held → List PlacedRow → Backlog
+backlog_of h rows = record { rows = rows; limit = h.limit; missed = h.missed; room = h.room }
+
+pub plain : (t : Messages) (place : ℕ) (h : Held) → IsBacklog t place h → All (IsPlain t) h.rows
+plain t place h b = plain_rows t h.rows b.waiting b.own.each
+
+-- what a list shows stays while its messages do
+pub shown_kept : (old new : Messages) (h : Held) → KeepsMessages old new → Covers new h.rows → shown new h ≡ shown old h
+shown_kept old new h k c = ap (backlog_of h) (placed_same old new h.rows k c)
+
+pub backlog_kept : (old new : Messages) (place : ℕ) (h : Held) → KeepsMessages old new → Covers new h.rows → IsBacklog old place h → IsBacklog new place h
+backlog_kept old new place h k c b = record { below = b.below; waiting = b.waiting; own = rows_same old new h.rows k c b.own }
+
+-- the same of all lists
+pub all_shown_kept : (old new : Messages) (lists : List Held) → KeepsMessages old new → All (λ (h : Held). Covers new h.rows) lists → all_shown new lists ≡ all_shown old lists
+all_shown_kept old new [] k c = refl
+all_shown_kept old new (h ∷ lists) k c =
+    rw (shown_kept old new h k (All-head (λ (h : Held). Covers new h.rows) h lists c), all_shown_kept old new lists k (All-tail (λ (h : Held). Covers new h.rows) h lists c)) refl
+
+pub all_backlogs_kept : (old new : Messages) (place : ℕ) (lists : List Held) → KeepsMessages old new → All (λ (h : Held). Covers new h.rows) lists → All (IsBacklog old place) lists → All (IsBacklog new place) lists
+all_backlogs_kept old new place lists k c b = λ i d l. backlog_kept old new place (get_or lists i d) k (c i d l) (b i d l)
+
+pub all_covered : (t : Messages) (lists : List Held) → IsCounted t (all_rows lists) → All (λ (h : Held). Covers t h.rows) lists
+all_covered t lists c = λ k d l. covers_one t lists k d l c
+
+-- a delivery from one list
+pub settled_shown : (t : Messages) (place now : ℕ) (h : Held) → IsBacklog t place h → IsRising h.rows → shown t (settled now h) ≡ received now (shown t h)
+settled_shown t place now h b rising = ap (backlog_of h) (settled_same t now h (plain t place h b) rising)
+
+pub settled_backlog : (t : Messages) (place now : ℕ) (h : Held) → IsBacklog t place h → IsBacklog t place (settled now h)
+settled_backlog t place now h b =
+    let first = is_left (next now h.rows) in
+    let rest = filter (stays now) h.rows in
+    record {
+      below = All-filter first (λ (r : Row). r.place < place) rest (All-filter (stays now) (λ (r : Row). r.place < place) h.rows b.below);
+      waiting = All-filter first (λ (r : Row). is_waiting r ≡ true) rest (All-filter (stays now) (λ (r : Row). is_waiting r ≡ true) h.rows b.waiting);
+      own = record { each = All-filter first (IsRowOf t) rest (All-filter (stays now) (IsRowOf t) h.rows b.own.each) };
+    }
+
+-- one of many
+pub changed_shown : (t : Messages) (place now k : ℕ) (d : Held) (lists : List Held) → k < length lists → IsRising (get_or lists k d).rows → All (IsBacklog t place) lists → all_shown t (changed_at k (settled now) lists) ≡ changed_at k (received now) (all_shown t lists)
+changed_shown t place now k d [] l r b = refl
+changed_shown t place now zero d (h ∷ lists) l r b = rw (settled_shown t place now h (All-head (IsBacklog t place) h lists b) r) refl
+changed_shown t place now (suc k) d (h ∷ lists) l r b = ap (λ xs. shown t h ∷ xs) (changed_shown t place now k d lists (omega arith) r (All-tail (IsBacklog t place) h lists b))
+
+pub changed_backlogs : (t : Messages) (place now k : ℕ) (lists : List Held) → All (IsBacklog t place) lists → All (IsBacklog t place) (changed_at k (settled now) lists)
+changed_backlogs t place now k [] b = All-nil (IsBacklog t place)
+changed_backlogs t place now zero (h ∷ lists) b = All-cons (IsBacklog t place) (settled now h) lists (settled_backlog t place now h (All-head (IsBacklog t place) h lists b)) (All-tail (IsBacklog t place) h lists b)
+changed_backlogs t place now (suc k) (h ∷ lists) b = All-cons (IsBacklog t place) h (changed_at k (settled now) lists) (All-head (IsBacklog t place) h lists b) (changed_backlogs t place now k lists (All-tail (IsBacklog t place) h lists b))
+
+pub changed_is_set : (k : ℕ) (f : Held → Held) (d : Held) (lists : List Held) → k < length lists → set lists k (f (get_or lists k d)) ≡ changed_at k f lists
+changed_is_set k f d [] l = absurd (omega arith)
+changed_is_set zero f d (h ∷ lists) l = refl
+changed_is_set (suc k) f d (h ∷ lists) l = ap (λ xs. h ∷ xs) (changed_is_set k f d lists (omega arith))
+
+-- a publication
+
+-- rows below a place are read as before, where only what stands there is other
+pub placed_below : (old new : Messages) (place : ℕ) (rows : List Row) → ((p : ℕ) → p ≢ place → message_of new p ≡ message_of old p) → AreBelow place rows → all_placed new rows ≡ all_placed old rows
+placed_below old new place [] same b = refl
+placed_below old new place (r ∷ rows) same b =
+    let lt : r.place < place = All-head (λ (r : Row). r.place < place) r rows b in
+    rw (same r.place (omega (arith, lt)), placed_below old new place rows same (All-tail (λ (r : Row). r.place < place) r rows b)) refl
+
+row_kept : (old new : Messages) (r : Row) → message_of new r.place ≡ message_of old r.place → IsRowOf old r → IsRowOf new r
+row_kept old new r same h = record { priority = rw same h.priority; expiration = rw same h.expiration }
+
+rows_below : (old new : Messages) (place : ℕ) (rows : List Row) → ((p : ℕ) → p ≢ place → message_of new p ≡ message_of old p) → AreBelow place rows → All (IsRowOf old) rows → All (IsRowOf new) rows
+rows_below old new place rows same b own = λ k d l. row_kept old new (get_or rows k d) (same (get_or rows k d).place (let lt : (get_or rows k d).place < place = b k d l in omega (arith, lt))) (own k d l)
+
+-- a list before and after the message is put into the table
+pub put_shown : (old new : Messages) (place : ℕ) (h : Held) → ((p : ℕ) → p ≢ place → message_of new p ≡ message_of old p) → IsBacklog old place h → shown new h ≡ shown old h
+put_shown old new place h same b = ap (backlog_of h) (placed_below old new place h.rows same b.below)
+
+later : (place : ℕ) (rows : List Row) → AreBelow place rows → AreBelow (place + 1) rows
+later place rows b = All-weaker (λ (r : Row). r.place < place) (λ (r : Row). r.place < place + 1) (λ r l. omega (arith, l)) rows b
+
+pub put_backlog : (old new : Messages) (place : ℕ) (h : Held) → ((p : ℕ) → p ≢ place → message_of new p ≡ message_of old p) → IsBacklog old place h → IsBacklog new (place + 1) h
+put_backlog old new place h same b = record { below = later place h.rows b.below; waiting = b.waiting; own = record { each = rows_below old new place h.rows same b.below b.own.each } }
+
+-- a row that comes, of what stands for its message
+abbrev pub fresh_at : ℕ → Option Content → PlacedRow
+fresh_at place o = record { place = place; row = record { message = message_or_none o; count = 0 } }
+
+fresh_row : (t : Messages) (place : ℕ) (m : Content) → message_of t place ≡ Some m → placed t (fresh place m) ≡ fresh_at place (Some m)
+fresh_row t place m is = ap (fresh_at place) is
+
+length_placed : (t : Messages) (rows : List Row) → length (all_placed t rows) ≡ length rows
+length_placed t rows = length-map rows (placed t)
+
+-- a list that takes the message
+pub with_row_shown : (t : Messages) (place : ℕ) (m : Content) (h : Held) → message_of t place ≡ Some m → shown t (with_row (fresh place m) h) ≡ added place m (shown t h)
+with_row_shown t place m h is = go (is_at_limit h.limit (length h.rows)) refl
+  where
+    go : (b : Bool) → is_at_limit h.limit (length h.rows) ≡ b → shown t (with_row (fresh place m) h) ≡ added place m (shown t h)
+    go true e = rw (length_placed t h.rows, e) refl
+    go false e = rw (length_placed t h.rows, e, map-append (placed t) h.rows (fresh place m ∷ []), fresh_row t place m is) refl
+
+pub with_row_backlog : (t : Messages) (place : ℕ) (m : Content) (h : Held) → message_of t place ≡ Some m → IsBacklog t (place + 1) h → IsBacklog t (place + 1) (with_row (fresh place m) h)
+with_row_backlog t place m h is b = go (is_at_limit h.limit (length h.rows)) refl
+  where
+    own : IsRowOf t (fresh place m)
+    own = record { priority = rw is refl; expiration = rw is refl }
+
+    go : (c : Bool) → is_at_limit h.limit (length h.rows) ≡ c → IsBacklog t (place + 1) (with_row (fresh place m) h)
+    go true e = rw e (record { below = b.below; waiting = b.waiting; own = b.own })
+    go false e = rw e (record {
+      below = All-push (λ (r : Row). r.place < place + 1) h.rows (fresh place m) b.below (omega arith);
+      waiting = All-push (λ (r : Row). is_waiting r ≡ true) h.rows (fresh place m) b.waiting refl;
+      own = record { each = All-push (IsRowOf t) h.rows (fresh place m) b.own.each own };
+    })
+
+-- all lists, once the message is put and offered
+pub offered_backlogs : (old new : Messages) (place : ℕ) (m : Content) (indexes : List ℕ) (lists after : List Held) → ((p : ℕ) → p ≢ place → message_of new p ≡ message_of old p) → message_of new place ≡ Some m → IsOffered indexes (fresh place m) lists after → All (IsBacklog old place) lists → All (IsBacklog new (place + 1)) after
+offered_backlogs old new place m indexes lists after same is o b = λ k d l.
+    let inside : k < length lists = omega (arith, o.number, l) in
+    let here = put_backlog old new place (get_or lists k d) same (b k d inside) in
+    rw (o.each k d inside) (go (is_named indexes k) k d here)
+  where
+    go : (c : Bool) (k : ℕ) (d : Held) → IsBacklog new (place + 1) (get_or lists k d) → IsBacklog new (place + 1) (cond c (with_row (fresh place m) (get_or lists k d)) (get_or lists k d))
+    go true k d here = with_row_backlog new place m (get_or lists k d) is here
+    go false k d here = here
+
+pub offered_shown : (old new : Messages) (place : ℕ) (m : Content) (indexes : List ℕ) (lists after : List Held) (k : ℕ) (d : Held) → k < length lists → ((p : ℕ) → p ≢ place → message_of new p ≡ message_of old p) → message_of new place ≡ Some m → IsOffered indexes (fresh place m) lists after → All (IsBacklog old place) lists
+    → shown new (get_or after k d) ≡ cond (is_named indexes k) (added place m (shown old (get_or lists k d))) (shown old (get_or lists k d))
+offered_shown old new place m indexes lists after k d inside same is o b =
+    let put = put_shown old new place (get_or lists k d) same (b k d inside) in
+    rw (o.each k d inside) (go (is_named indexes k) put)
+  where
+    go : (c : Bool) → shown new (get_or lists k d) ≡ shown old (get_or lists k d) → shown new (cond c (with_row (fresh place m) (get_or lists k d)) (get_or lists k d)) ≡ cond c (added place m (shown old (get_or lists k d))) (shown old (get_or lists k d))
+    go true put = with_row_shown new place m (get_or lists k d) is ∙ ap (added place m) put
+    go false put = put

@@ -1,0 +1,105 @@
+-- What is held under each key, as callers see it.
+use Rattle.std.specs.Prelude.{◌≡◌, ◌≤◌, ◌<◌, ◌^◌, ◌+◌, ◌-◌, ◌↔◌, nat_eq, ℕ, zero, suc, Bool, ◌==◌, List, [], ◌∷◌, ◌++◌, Contains, find, length, min, count_by, sum_by, slice_index_or, Option, Some, None, if◌then◌else◌}
+use Rattle.std.specs.List.{list_any, IsDistinct}
+use Rattle.std.specs.Option.{option_or}
+use Rattle.jm_base.specs.declared.mode.Mode.TheVariants.{Auto}
+use Rattle.jm_header.specs.declared.content.Content.{Content}
+use Rattle.jm_machine.specs.declared.state.PlacedRow.{PlacedRow}
+use Rattle.jm_machine.specs.declared.answer.Answer.{Answer}
+use Rattle.jm_machine.specs.declared.answer.Answer.TheVariants.{Delivered, Nothing}
+use Rattle.jm_machine.specs.Rows.{protected, fresh, live, is_next, left_of, bare, deliver_placed, live_placed}
+use Rattle.jm_pending.specs.declared.held.Taken.{Taken}
+use Rattle.jm_pending.specs.Rows.{is_at_limit}
+
+-- what is held under a key: rows with their messages, by place, the limit of their number, how many publications
+-- were missed at the limit, and for how many more rows there is room
+pub record Backlog : Type 0 where
+  pub rows : List PlacedRow
+  pub limit : Option ℕ
+  pub missed : ℕ
+  pub room : ℕ
+
+-- what is held under all keys, in order of creation, the place of the next publication, and for how many more
+-- messages there is room
+pub record Backlogs : Type 0 where
+  pub list : List Backlog
+  pub next_place : ℕ
+  pub message_room : ℕ
+
+-- nothing is held yet, of which there may be at most so many rows, or any number
+abbrev pub empty : Option ℕ → Backlog
+empty limit = record { rows = []; limit = limit; missed = 0; room = 0 }
+
+-- one of a list is changed
+abbrev pub changed_at : {X : Type 0} → ℕ → (X → X) → List X → List X
+changed_at i f [] = []
+changed_at zero f (x ∷ xs) = f x ∷ xs
+changed_at (suc i) f (x ∷ xs) = x ∷ changed_at i f xs
+
+-- the index is one of those
+abbrev pub is_named : List ℕ → ℕ → Bool
+is_named indexes k = list_any (λ i. i == k) indexes
+
+-- a message comes, at its place; at the limit it is missed
+abbrev pub added : ℕ → Content → Backlog → Backlog
+added place m b =
+    if is_at_limit b.limit (length b.rows)
+    then record b { missed = min (b.missed + 1) (2 ^ 64 - 1) }
+    else record b { rows = b.rows ++ record { place = place; row = fresh m } ∷ []; room = b.room - 1 }
+
+-- each that is named has one message more, and each other is as before
+pub record IsPublished (indexes : List ℕ) (place : ℕ) (m : Content) (old new : List Backlog) : Type 0 where
+  pub number : length new ≡ length old
+  pub each : (k : ℕ) (d : Backlog) → k < length old → slice_index_or new k d ≡ (if is_named indexes k then added place m (slice_index_or old k d) else slice_index_or old k d)
+
+-- expired rows go, and the next one is delivered and settled
+abbrev pub received : ℕ → Backlog → Backlog
+received now b = record b { rows = deliver_placed now (left_of (Some Auto)) b.rows }
+
+-- the row that a delivery takes
+abbrev pub next_placed : ℕ → List PlacedRow → Option PlacedRow
+next_placed now rows = find (λ x. is_next now (live now (bare rows)) x.row) (live_placed now rows)
+
+-- how many rows are at a place
+abbrev pub placed_at : ℕ → List PlacedRow → ℕ
+placed_at p rows = count_by (λ (x : PlacedRow). x.place == p) rows
+
+-- how many rows of all are at a place, each of them a holder of the message there
+abbrev pub holders_at : ℕ → List Backlog → ℕ
+holders_at p list = sum_by (λ (b : Backlog). placed_at p b.rows) list
+
+-- the message of a row that some other row holds too
+abbrev pub shared_message : List Backlog → Option PlacedRow → Option Content
+shared_message list None = None
+shared_message list (Some x) = if holders_at x.place list == 1 then None else Some x.row.message
+
+-- the copy that a delivery wants: of the next row's message, where some other row holds it too
+abbrev pub copy_wanted : ℕ → List Backlog → List PlacedRow → Option Content
+copy_wanted now list rows = shared_message list (next_placed now rows)
+
+-- under each key the same is held, and there is room for as many more rows or for further ones
+pub record HasMoreRoom (old new : List Backlog) : Type 0 where
+  pub number : length new ≡ length old
+  pub same : (k : ℕ) (d : Backlog) → k < length old → slice_index_or new k d ≡ record (slice_index_or old k d) { room = (slice_index_or new k d).room }
+  pub room : (k : ℕ) (d : Backlog) → k < length old → (slice_index_or old k d).room ≤ (slice_index_or new k d).room
+
+-- so many messages are held: as many as places have rows
+pub record IsNumberOfMessages (n : ℕ) (list : List Backlog) : Type 0 where
+  pub places : List ℕ
+  pub once : IsDistinct nat_eq places
+  pub each : (p : ℕ) → (Contains places p) ↔ (0 < holders_at p list)
+  pub number : length places ≡ n
+
+-- what is handed out of a message with its count, where there is one
+abbrev pub told : ℕ → Option Content → Answer
+told count None = Nothing
+told count (Some m) = Delivered (record { message = protected m; count = count })
+
+-- what is handed out of a row that was taken, with the copy where its message stays held
+abbrev pub handed_out : Taken → Option Content → Answer
+handed_out taken copy = told taken.row.count (option_or taken.message copy)
+
+-- the same of a row that may have been taken
+abbrev pub handed_over : Option Taken → Option Content → Answer
+handed_over None copy = Nothing
+handed_over (Some taken) copy = handed_out taken copy

@@ -1,0 +1,80 @@
+-- What is held inside: the rows of each key, over one table of messages.
+use Rattle.std.specs.Prelude.{◌≡◌, ◌≤◌, ◌<◌, ◌^◌, ◌+◌, ◌-◌, ◌==◌, ℕ, Bool, true, List, [], ◌∷◌, ◌++◌, map, filter, length, min, slice_index_or, All, Option, Some, None, option_map, if◌then◌else◌}
+use Rattle.jm_header.specs.declared.content.Content.{Content}
+use Rattle.jm_pending.specs.declared.row.Row.{Row}
+use Rattle.jm_pending.specs.declared.held.Taken.{Taken}
+use Rattle.jm_pending.specs.Rows.{Held, is_waiting, is_at_limit, is_elsewhere, next, stays, counted}
+use Rattle.jm_pending.specs.Holders.{Messages, KeepsMessages, holders_of, message_of, last_message}
+use Rattle.jm_pending.specs.Counts.{IsCounted, all_at}
+use Rattle.jm_pending.specs.Placed.{all_placed, AreRowsOf}
+use Rattle.jm_stations.specs.Backlogs.{Backlog, is_named}
+
+-- the rows of each list
+abbrev pub all_rows : List Held → List (List Row)
+all_rows lists = map (λ (h : Held). h.rows) lists
+
+-- a list of rows, as callers see it
+abbrev pub shown : Messages → Held → Backlog
+shown t h = record { rows = all_placed t h.rows; limit = h.limit; missed = h.missed; room = h.room }
+
+-- all lists, as callers see them
+abbrev pub all_shown : Messages → List Held → List Backlog
+all_shown t lists = map (shown t) lists
+
+-- each row is of a lower place
+abbrev pub AreBelow : ℕ → List Row → Type 0
+AreBelow place rows = All (λ (r : Row). r.place < place) rows
+
+-- what each list keeps: its rows wait, stand below the next place, and have the priority and the expiration of their
+-- messages
+pub record IsBacklog (t : Messages) (next_place : ℕ) (h : Held) : Type 0 where
+  pub below : AreBelow next_place h.rows
+  pub waiting : All (λ (r : Row). is_waiting r ≡ true) h.rows
+  pub own : AreRowsOf t h.rows
+
+-- each place has as many holders as rows of all lists, and each list is in order; places run to 2^63-1
+pub record IsKept (t : Messages) (lists : List Held) (next_place : ℕ) : Type 0 where
+  pub counted : IsCounted t (all_rows lists)
+  pub each : All (IsBacklog t next_place) lists
+  pub places : next_place ≤ 2 ^ 63
+
+-- one row more, or at the limit one publication missed
+abbrev pub with_row : Row → Held → Held
+with_row row h =
+    if is_at_limit h.limit (length h.rows)
+    then record h { missed = min (h.missed + 1) (2 ^ 64 - 1) }
+    else record h { rows = h.rows ++ row ∷ []; room = h.room - 1 }
+
+-- each list that is named has one row more, and each other is as before
+pub record IsOffered (indexes : List ℕ) (row : Row) (old new : List Held) : Type 0 where
+  pub number : length new ≡ length old
+  pub each : (k : ℕ) (d : Held) → k < length old → slice_index_or new k d ≡ (if is_named indexes k then with_row row (slice_index_or old k d) else slice_index_or old k d)
+
+-- the holders follow the rows of all lists
+pub record FollowsAll (old new : Messages) (before after : List (List Row)) : Type 0 where
+  pub holders : (p : ℕ) → holders_of new p + all_at p before ≡ holders_of old p + all_at p after
+  pub messages : KeepsMessages old new
+
+-- a row is not the one that is taken
+abbrev pub is_left : Option Row → Row → Bool
+is_left None r = true
+is_left (Some x) r = is_elsewhere x.place r
+
+-- rows without the expired ones, and without the next one
+abbrev pub settled : ℕ → Held → Held
+settled now h = record h { rows = filter (is_left (next now h.rows)) (filter (stays now) h.rows) }
+
+-- what is taken out: the next row, counted, with its message where no other row holds it
+abbrev pub taken : Messages → Option Row → Option Taken
+taken t next = option_map (λ r. record { row = counted r; message = last_message t r.place }) next
+
+-- each list is the same, and has room for as many more rows or for further ones
+pub record HasMoreRoom (old new : List Held) : Type 0 where
+  pub number : length new ≡ length old
+  pub same : (k : ℕ) (d : Held) → k < length old → slice_index_or new k d ≡ record (slice_index_or old k d) { room = (slice_index_or new k d).room }
+  pub room : (k : ℕ) (d : Held) → k < length old → (slice_index_or old k d).room ≤ (slice_index_or new k d).room
+
+-- the message of a row that some other row holds too
+abbrev pub copied : Messages → Option Row → Option Content
+copied t None = None
+copied t (Some r) = if holders_of t r.place == 1 then None else message_of t r.place

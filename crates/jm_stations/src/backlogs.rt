@@ -1,0 +1,186 @@
+//! The rows and the messages of all keys.
+
+ghost use Rattle.std.specs.Prelude.{◌≡◌, ◌≤◌, ◌<◌, ◌+◌, ◌++◌, [], ◌∷◌, nat_eq, All, length, map, slice_index_or, IfOk, OnOk, OnErr};
+ghost use Rattle.std.specs.List.{IsDistinct};
+ghost use Rattle.jm_machine.specs.Machine.{delivery, places_end};
+ghost use Rattle.jm_machine.specs.Rows as machine;
+ghost use Rattle.jm_stations.specs.Backlogs as spec;
+ghost use Rattle.jm_stations.specs.Backlogs.{Backlog};
+ghost use Rattle.jm_stations.specs.Kept as kept;
+
+use crate::lists;
+use jm_dest::Moment;
+use jm_header::Message;
+use jm_machine::{Answer, Delivery};
+use jm_pending::{Held, Row, Table, Taken};
+use std::alloc::{AllocError, Global};
+use std::marker::Model;
+
+/// What is held under each key: rows by place, with the messages that they hold, of which each stands once
+/// (ours). Contracts see the list of what is held under each key, in order of creation, the place of the next
+/// publication, and for how many more messages there is room.
+#[derive(Drop)]
+pub struct Backlogs {
+    alloc: Global,
+    lists: Vec<Held>,
+    table: Table,
+    next_place: u64,
+}
+
+impl Model for Backlogs {
+    ghost use Rattle.jm_stations.specs.Backlogs.{Backlogs as BacklogsShown};
+    ghost use Rattle.jm_stations.specs.Kept.{IsKept, all_shown};
+
+    ghost Value = { BacklogsShown };
+
+    ghost view = { λ s. record { list = all_shown s.table s.lists.items; next_place = s.next_place; message_room = s.table.spare } };
+
+    ghost invariant = { λ s. IsKept s.table s.lists.items s.next_place };
+}
+
+/// What is handed out of a row that was taken: its message, or the copy where the message stays held.
+fn delivered(taken: Taken, copy: Option<Message>) -> Answer
+    ensures { result ≡ spec.handed_out taken copy }
+{
+    let Taken { row, message } = taken;
+    match message.or(copy) {
+        None => Answer::Nothing,
+        Some(mut message) => {
+            message.protect();
+            Answer::Delivered(Delivery {
+                message,
+                count: row.count,
+            })
+        }
+    }
+}
+
+/// The same of a row that may have been taken.
+fn handed_out(taken: Option<Taken>, copy: Option<Message>) -> Answer
+    ensures { result ≡ spec.handed_over taken copy }
+{
+    match taken {
+        None => Answer::Nothing,
+        Some(taken) => delivered(taken, copy),
+    }
+}
+
+/// A copy of the row's message, where some other row holds it too.
+fn copy_of(table: &Table, row: Option<Row>) -> Result<Option<Message>, AllocError>
+    ensures { IfOk result (λ copy. copy ≡ kept.copied table.now row) }
+{
+    let Some(row) = row else {
+        return Ok(None);
+    };
+    if table.holders(row.place) == 1 {
+        return Ok(None);
+    }
+    match table.get(row.place) {
+        None => Ok(None),
+        Some(message) => Ok(Some(message.copy()?)),
+    }
+}
+
+impl Backlogs {
+    /// Nothing is held, and the first publication will be at place 1. Takes no memory.
+    pub fn new(alloc: Global) -> Backlogs
+        ensures list { result.list ≡ [] }
+        ensures next_place { result.next_place ≡ 1 }
+    {
+        Backlogs {
+            alloc,
+            lists: Vec::new(alloc),
+            table: Table::new(alloc),
+            next_place: 1,
+        }
+    }
+
+    /// How many keys there are.
+    pub fn len(&self) -> usize
+        ensures { result ≡ length self.now.list }
+    {
+        self.lists.len()
+    }
+
+    /// The place of the next publication, from 1.
+    pub fn next_place(&self) -> u64
+        ensures place { result ≡ self.now.next_place }
+        ensures bound { self.now.next_place ≤ places_end }
+    {
+        self.next_place
+    }
+
+    /// How many messages are held, each counted once, however many rows hold it.
+    pub fn kept(&self) -> usize
+        ensures { spec.IsNumberOfMessages result self.now.list }
+    {
+        self.table.len()
+    }
+
+    /// Adds an empty list of rows behind all others, of which there may be at most so many, or any number.
+    /// `AllocError` where a request for memory was refused; then all is as before.
+    pub fn create(&mut self, limit: Option<u32>) -> Result<(), AllocError>
+        ensures ok { OnOk result (self.new ≡ record self.old { list = self.old.list ++ spec.empty limit ∷ [] }) }
+        ensures err { OnErr result (self.new ≡ self.old) }
+    {
+        self.lists.push(Held::new(self.alloc, limit))?;
+        Ok(())
+    }
+
+    /// Makes room for that many more messages, and for as many more rows in each list with one of those indexes.
+    /// `AllocError` where a request for memory was refused. Either way all but the room is as before.
+    pub fn reserve(&mut self, indexes: &[usize], additional: usize) -> Result<(), AllocError>
+        requires within { All (λ i. i < length self.old.list) indexes.now }
+        ensures list { spec.HasMoreRoom self.old.list self.new.list }
+        ensures next_place { self.new.next_place ≡ self.old.next_place }
+        ensures room { self.old.message_room ≤ self.new.message_room }
+        ensures rows { OnOk result (All (λ i. (d : Backlog) → additional ≤ (slice_index_or self.new.list i d).room) indexes.now) }
+        ensures messages { OnOk result (additional ≤ self.new.message_room) }
+    {
+        self.table.reserve(additional)?;
+        lists::reserve_each(&mut self.lists, indexes, additional)
+    }
+
+    /// Publishes a message: it takes the next place, and comes to each list with one of those indexes; at its
+    /// limit a list misses it instead. Takes no memory, since room was reserved.
+    pub fn publish(&mut self, message: Message, indexes: &[usize])
+        requires places { self.old.next_place < places_end }
+        requires messages { 0 < self.old.message_room }
+        requires within { All (λ i. i < length self.old.list) indexes.now }
+        requires once { IsDistinct nat_eq indexes.now }
+        requires rows { All (λ i. (d : Backlog) → 0 < (slice_index_or self.old.list i d).room) indexes.now }
+        ensures list { spec.IsPublished indexes.now self.old.next_place message self.old.list self.new.list }
+        ensures next_place { self.new.next_place ≡ self.old.next_place + 1 }
+        ensures room { self.old.message_room ≤ self.new.message_room + 1 }
+    {
+        let place = self.next_place;
+        let row = Row::new(place, &message);
+        self.table.put(place, message);
+        lists::offer_each(&mut self.lists, &mut self.table, &row, indexes);
+        let _ = self.table.release(place);
+        self.next_place = place + 1;
+    }
+
+    /// The copy that a delivery from the list at that moment wants: of the next row's message, where another row holds
+    /// it too. `AllocError` where a request for memory was refused.
+    pub fn copy_for(&self, index: usize, now: Moment) -> Result<Option<Message>, AllocError>
+        requires within { index < length self.now.list }
+        ensures { (d : Backlog) → IfOk result (λ copy. copy ≡ spec.copy_wanted now self.now.list (slice_index_or self.now.list index d).rows) }
+    {
+        copy_of(&self.table, self.lists[index].next(now))
+    }
+
+    /// Drops the rows of the list that are expired at that moment, and delivers the next one, which is settled. Its
+    /// message is moved out where no other row holds it, and else the copy stands for it. Takes no memory.
+    pub fn receive(&mut self, index: usize, now: Moment, copy: Option<Message>) -> Answer
+        requires within { index < length self.old.list }
+        requires copy { (d : Backlog) → copy ≡ spec.copy_wanted now self.old.list (slice_index_or self.old.list index d).rows }
+        ensures answer { (d : Backlog) → result ≡ delivery (machine.next now (machine.live now (machine.bare (slice_index_or self.old.list index d).rows))) }
+        ensures list { self.new.list ≡ spec.changed_at index (spec.received now) self.old.list }
+        ensures next_place { self.new.next_place ≡ self.old.next_place }
+        ensures room { self.old.message_room ≤ self.new.message_room }
+    {
+        let taken = lists::take(&mut self.lists, &mut self.table, index, now);
+        handed_out(taken, copy)
+    }
+}

@@ -1,0 +1,66 @@
+//! Many lists of rows over one table.
+
+ghost use Rattle.std.specs.Prelude.{◌≡◌, ◌≤◌, ◌<◌, ◌+◌, ◌^◌, ℕ, true, nat_eq, All, length, slice_index_or, map, OnOk};
+ghost use Rattle.std.specs.List.{IsDistinct};
+ghost use Rattle.jm_pending.specs.Rows.{Held, IsRising, is_waiting, next};
+ghost use Rattle.jm_pending.specs.Holders.{Covers, Follows, holders_of};
+ghost use Rattle.jm_stations.specs.Backlogs.{changed_at};
+ghost use Rattle.jm_stations.specs.Kept as kept;
+
+use jm_dest::Moment;
+use jm_pending::{Held, Row, Table, Taken};
+use std::alloc::AllocError;
+
+/// Adds a row to each of the lists with those indexes.
+pub(crate) fn offer_each(lists: &mut Vec<Held>, table: &mut Table, row: &Row, indexes: &[usize])
+    requires place { row.now.place < 2 ^ 63 }
+    requires priority { row.now.priority < 10 }
+    requires waiting { is_waiting row.now ≡ true }
+    requires within { All (λ i. i < length lists.old.items) indexes.now }
+    requires once { IsDistinct nat_eq indexes.now }
+    requires room { All (λ i. (d : Held) → 0 < (slice_index_or lists.old.items i d).room) indexes.now }
+    requires above { All (λ (h : Held). kept.AreBelow row.now.place h.rows) lists.old.items }
+    requires there { holders_of table.old row.now.place ≡ 1 }
+    ensures lists { kept.IsOffered indexes.now row.now lists.old.items lists.new.items }
+    ensures table { kept.FollowsAll table.old table.new (kept.all_rows lists.old.items) (kept.all_rows lists.new.items) }
+{
+    for index in indexes {
+        let held = &mut lists[*index];
+        held.add(table, Row { ..*row });
+    }
+}
+
+/// Drops the expired rows of the list with that index, takes the next one, and settles it.
+pub(crate) fn take(
+    lists: &mut Vec<Held>,
+    table: &mut Table,
+    index: usize,
+    now: Moment,
+) -> Option<Taken>
+    requires within { index < length lists.old.items }
+    requires covers { (d : Held) → Covers table.old (slice_index_or lists.old.items index d).rows }
+    ensures result { (d : Held) → result ≡ kept.taken table.old (next now (slice_index_or lists.old.items index d).rows) }
+    ensures lists { lists.new.items ≡ changed_at index (kept.settled now) lists.old.items }
+    ensures table { (d : Held) → Follows table.old table.new (slice_index_or lists.old.items index d).rows (kept.settled now (slice_index_or lists.old.items index d)).rows }
+    ensures rising { (d : Held) → IsRising (slice_index_or lists.old.items index d).rows }
+{
+    let held = &mut lists[index];
+    held.take_settled(table, now)
+}
+
+/// Makes room for that many more rows in each of the lists with those indexes.
+pub(crate) fn reserve_each(
+    lists: &mut Vec<Held>,
+    indexes: &[usize],
+    additional: usize,
+) -> Result<(), AllocError>
+    requires within { All (λ i. i < length lists.old.items) indexes.now }
+    ensures lists { kept.HasMoreRoom lists.old.items lists.new.items }
+    ensures ok { OnOk result (All (λ i. (d : Held) → additional ≤ (slice_index_or lists.new.items i d).room) indexes.now) }
+{
+    for index in indexes {
+        let held = &mut lists[*index];
+        held.reserve(additional)?;
+    }
+    Ok(())
+}

@@ -1,0 +1,47 @@
+//! The lines of replies.
+
+use crate::told::is_text;
+use jm_base::{Cause, Refusal};
+use jm_machine::Answer;
+use jm_scenario::{write_replies, write_reply};
+use std::alloc::{AllocError, Global};
+
+const SELECTOR: Refusal = Refusal::InvalidSelector {
+    at: 4,
+    cause: Cause::Expected,
+};
+
+/// Numbers of calls, refusals of them, and the lines.
+const REFUSALS: [(usize, Refusal, &str); 4] = [
+    (4, Refusal::IllegalState, "4 refused IllegalState\n"),
+    (50, SELECTOR, "50 refused InvalidSelector Expected 4\n"),
+    (6, Refusal::Memory, "6 refused Memory\n"),
+    (7, Refusal::Store, "7 refused Store\n"),
+];
+
+fn line_of_refusal(alloc: Global, number: usize, refusal: Refusal) -> Result<String, AllocError> {
+    write_reply(alloc, number, &Err(refusal))
+}
+
+#[test]
+fn lines_of_refusals(rt: HostRuntime) {
+    for (number, refusal, wanted) in &REFUSALS {
+        is_text(&rt, wanted, line_of_refusal(rt.alloc(), *number, *refusal));
+    }
+}
+
+/// The lines of an answer of each kind but a delivery.
+fn lines_of_answers(alloc: Global) -> Result<String, AllocError> {
+    let replies = [
+        Ok(Answer::Done),
+        Ok(Answer::Nothing),
+        Ok(Answer::Sent(9223372036854775807)),
+    ];
+    write_replies(alloc, &replies)
+}
+
+#[test]
+fn lines_are_numbered(rt: HostRuntime) {
+    let wanted = "1 ok\n2 none\n3 sent 9223372036854775807\n";
+    is_text(&rt, wanted, lines_of_answers(rt.alloc()));
+}

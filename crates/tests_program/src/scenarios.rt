@@ -1,0 +1,178 @@
+//! Scenarios and the calls that they spell.
+
+use crate::told::{holds, is_text};
+use jm_base::{Mode, Refusal, Str};
+use jm_dest::{ConnectionId, ConsumerId, Destination, Moment, Name, SessionId};
+use jm_header::Draft;
+use jm_machine::{ClientCall, Request, Who};
+use jm_scenario::{Field, read_scenario};
+use std::alloc::{AllocError, Global};
+
+const CALLS: &str = r#"{"calls": [
+  {"op": "open", "c": 1},
+  {"op": "start", "c": 4294967295},
+  {"op": "stop", "c": 2},
+  {"op": "session", "s": [1, 2], "mode": "auto"},
+  {"op": "consumer", "s": [1, 2], "k": 3, "topic": "t", "selector": "x > 0"},
+  {"op": "receive", "s": [1, 2], "k": 3, "now": 9223372036854775807},
+  {"op": "send", "s": [1, 2], "topic": "t", "now": 9223372036854775807, "priority": 9, "text": "a"}
+]}"#;
+
+fn by_connection(connection: u32, request: Request) -> Result<ClientCall, Refusal> {
+    match ConnectionId::new(connection) {
+        Ok(id) => {
+            let who = Who::Connection(id);
+            Ok(ClientCall::Ask { who, request })
+        }
+        Err(refusal) => Err(refusal),
+    }
+}
+
+fn session() -> Result<SessionId, Refusal> {
+    SessionId::new(ConnectionId::new(1)?, 2)
+}
+
+fn by_session(request: Request) -> Result<ClientCall, Refusal> {
+    match session() {
+        Ok(id) => {
+            let who = Who::Session(id);
+            Ok(ClientCall::Ask { who, request })
+        }
+        Err(refusal) => Err(refusal),
+    }
+}
+
+fn create_consumer(alloc: Global) -> Result<Request, Refusal> {
+    let consumer = ConsumerId::new(3)?;
+    let topic = Name::new(alloc, "t")?;
+    let selector = Str::new(String::from_str(alloc, "x > 0")?);
+    Ok(Request::CreateConsumer {
+        consumer,
+        topic,
+        selector: Some(selector),
+    })
+}
+
+fn receive() -> Result<Request, Refusal> {
+    let consumer = ConsumerId::new(3)?;
+    let now = Moment::new(i64::MAX)?;
+    Ok(Request::Receive { consumer, now })
+}
+
+/// A text of priority 9; a want of memory is seen by what is missing.
+fn draft(alloc: Global) -> Draft {
+    let mut draft = Draft::new(alloc);
+    let _ = draft.set_priority(9);
+    let _ = draft.set_text("a");
+    draft
+}
+
+fn send(alloc: Global) -> Result<ClientCall, Refusal> {
+    let session = session()?;
+    let now = Moment::new(i64::MAX)?;
+    let destination = Destination::topic(alloc, "t")?;
+    let draft = draft(alloc);
+    Ok(ClientCall::Send {
+        session,
+        draft,
+        destination,
+        now,
+    })
+}
+
+/// The call of that index.
+fn wanted(alloc: Global, index: usize) -> Result<ClientCall, Refusal> {
+    match index {
+        0 => by_connection(1, Request::Open),
+        1 => by_connection(4294967295, Request::Start),
+        2 => by_connection(2, Request::Stop),
+        3 => by_session(Request::CreateSession { mode: Mode::Auto }),
+        4 => by_session(create_consumer(alloc)?),
+        5 => by_session(receive()?),
+        _ => send(alloc),
+    }
+}
+
+fn is_wanted(alloc: Global, index: usize, call: &ClientCall) -> bool {
+    match wanted(alloc, index) {
+        Ok(wanted) => call.is(&wanted),
+        Err(_) => false,
+    }
+}
+
+/// How many calls of the scenario there are, each as it is wanted.
+fn count(alloc: Global) -> Option<usize> {
+    let calls = read_scenario(alloc, CALLS.as_bytes()).ok()?;
+    for (index, call) in calls.iter().enumerate() {
+        if !is_wanted(alloc, index, call) {
+            return None;
+        }
+    }
+    Some(calls.len())
+}
+
+#[test]
+fn calls_of_a_scenario(rt: HostRuntime) {
+    holds(&rt, "calls", count(rt.alloc()) == Some(7));
+}
+
+/// What is told of bytes that are no scenario.
+fn fault_text(alloc: Global, bytes: &[u8]) -> Result<String, AllocError> {
+    match read_scenario(alloc, bytes) {
+        Ok(_) => String::from_str(alloc, "a scenario"),
+        Err(fault) => format!(in alloc; "{fault:?}"),
+    }
+}
+
+/// Bytes, and their fault.
+const FAULTS: [(&[u8], &str); 5] = [
+    (b"\xff", "Syntax"),
+    (b"{}", "Shape { step: 0, field: Known(Calls) }"),
+    (
+        b"{\"calls\":[],\"held\":0}",
+        "Shape { step: 0, field: Unknown(\"held\") }",
+    ),
+    (
+        b"{\"calls\":[{\"op\":1.5}]}",
+        "Shape { step: 1, field: Known(Operation) }",
+    ),
+    (
+        b"{\"calls\":[{\"op\":\"open\",\"c\":1.5}]}",
+        "Floating { step: 1 }",
+    ),
+];
+
+#[test]
+fn faults_of_scenarios(rt: HostRuntime) {
+    for (bytes, wanted) in &FAULTS {
+        is_text(&rt, wanted, fault_text(rt.alloc(), bytes));
+    }
+}
+
+const FIELDS: [(Field, &str); 18] = [
+    (Field::Calls, "calls"),
+    (Field::Operation, "op"),
+    (Field::Connection, "c"),
+    (Field::Session, "s"),
+    (Field::Mode, "mode"),
+    (Field::Consumer, "k"),
+    (Field::Queue, "queue"),
+    (Field::Topic, "topic"),
+    (Field::Selector, "selector"),
+    (Field::Now, "now"),
+    (Field::Priority, "priority"),
+    (Field::Persistent, "persistent"),
+    (Field::TimeToLive, "ttl"),
+    (Field::Correlation, "correlation"),
+    (Field::Type, "type"),
+    (Field::Properties, "props"),
+    (Field::Text, "text"),
+    (Field::Bytes, "bytes"),
+];
+
+#[test]
+fn names_of_fields(rt: HostRuntime) {
+    for (field, name) in &FIELDS {
+        holds(&rt, name, field.name() == *name);
+    }
+}

@@ -1,0 +1,73 @@
+//! Words of the command line, and what they ask for.
+
+use crate::told::is_text;
+use jm_words::{Words, WordsFault, not_text, read_words};
+use std::alloc::{AllocError, Global};
+
+/// What a fault says: its status, and where it goes.
+fn fault_text(alloc: Global, fault: &WordsFault) -> Result<String, AllocError> {
+    match fault {
+        WordsFault::Refused(error) => {
+            let status = error.exit_code();
+            let stream = if error.use_stderr() {
+                "error"
+            } else {
+                "output"
+            };
+            format!(in alloc; "{stream} {status}")
+        }
+        WordsFault::Memory => String::from_str(alloc, "memory"),
+    }
+}
+
+/// What the words are read as.
+fn read(alloc: Global, words: &[&str]) -> Result<String, AllocError> {
+    match read_words(alloc, words) {
+        Ok(words) => format!(in alloc; "{words:?}"),
+        Err(fault) => fault_text(alloc, &fault),
+    }
+}
+
+/// Words after the program's name, with `|` between them, and what they are read as.
+const WORDS: [(&str, &str); 12] = [
+    ("jmsrun", "Input"),
+    ("jmsrun|run|F", "Run { file: \"F\" }"),
+    ("jmsrun|run|--|-F", "Run { file: \"-F\" }"),
+    (
+        "jmsrun|select|A|F",
+        "Select { selector: \"A\", file: \"F\" }",
+    ),
+    ("jmsrun|select||F", "Select { selector: \"\", file: \"F\" }"),
+    (
+        "jmsrun|select|-x = 1|-F",
+        "Select { selector: \"-x = 1\", file: \"-F\" }",
+    ),
+    (
+        "jmsrun|select|--|-x = 1|F",
+        "Select { selector: \"-x = 1\", file: \"F\" }",
+    ),
+    ("jmsrun|lone|F|K", "Lone { file: \"F\", key: \"K\" }"),
+    ("jmsrun|run", "error 2"),
+    ("jmsrun|F", "error 2"),
+    ("jmsrun|--help", "output 0"),
+    ("jmsrun|-V", "output 0"),
+];
+
+/// What the words between the marks are read as.
+fn told(alloc: Global, line: &str) -> Result<String, AllocError> {
+    let words: Vec<&str> = line.split('|').collect(alloc)?;
+    read(alloc, &words)
+}
+
+#[test]
+fn words_of_a_command_line(rt: HostRuntime) {
+    for (line, wanted) in &WORDS {
+        is_text(&rt, wanted, told(rt.alloc(), line));
+    }
+}
+
+#[test]
+fn words_that_are_no_text(rt: HostRuntime) {
+    let told = fault_text(rt.alloc(), &not_text(rt.alloc()));
+    is_text(&rt, "error 2", told);
+}

@@ -1,0 +1,218 @@
+//! Calls, steps, replies and what is held: a copy is the same, and what differs in a part is not.
+
+use crate::calls::{OPS, Op, call, sent, session};
+use crate::runs::run;
+use crate::told::holds;
+use jm_base::{List, Refusal};
+use jm_core::Core;
+use jm_header::Message;
+use jm_machine::{
+    Answer, Call, ClientCall, Delivery, Reply, Request, Step, Who, copy_reply, same_reply,
+};
+use std::alloc::{AllocError, Global};
+
+/// Whether a copy of the one call is the other.
+fn copy_is(one: &ClientCall, other: &ClientCall) -> bool {
+    match one.copy() {
+        Ok(copy) => copy.is(other),
+        Err(_) => false,
+    }
+}
+
+fn copy_is_that(alloc: Global, one: &ClientCall, other: Op) -> bool {
+    match call(alloc, other) {
+        Ok(other) => copy_is(one, &other),
+        Err(_) => false,
+    }
+}
+
+fn is_call(alloc: Global, one: Op, other: Op) -> bool {
+    match call(alloc, one) {
+        Ok(one) => copy_is_that(alloc, &one, other),
+        Err(_) => false,
+    }
+}
+
+#[test]
+fn calls_are_told_apart(rt: HostRuntime) {
+    for (i, one) in OPS.iter().enumerate() {
+        for (j, other) in OPS.iter().enumerate() {
+            let told = is_call(rt.alloc(), *one, *other);
+            holds(&rt, "calls", told == (i == j));
+        }
+    }
+}
+
+/// Whether a copy of the one step is the other.
+fn copied_step_is(alloc: Global, one: &Step, other: &Step) -> bool {
+    match one.copy(alloc) {
+        Ok(copy) => copy.is(other),
+        Err(_) => false,
+    }
+}
+
+/// Whether a copy of the request is the same, and makes a step whose copy is the same.
+fn is_copied(alloc: Global, who: Who, request: &Request) -> bool {
+    match request.copy() {
+        Ok(copy) => {
+            let is_same = copy.is(request);
+            let call = Call::Ask(copy);
+            let step = Step { who, call };
+            is_same && copied_step_is(alloc, &step, &step)
+        }
+        Err(_) => false,
+    }
+}
+
+fn request_is_copied(alloc: Global, op: Op) -> bool {
+    match call(alloc, op) {
+        Ok(ClientCall::Ask { who, request }) => is_copied(alloc, who, &request),
+        Ok(ClientCall::Send { .. }) => true,
+        Err(_) => false,
+    }
+}
+
+#[test]
+fn requests_are_copied(rt: HostRuntime) {
+    for op in &OPS {
+        holds(&rt, "a request", request_is_copied(rt.alloc(), *op));
+    }
+}
+
+fn more(count: u32, is_one: bool) -> u32 {
+    count.saturating_add(u32::from(is_one))
+}
+
+/// Whether a copy of the reply is that of the other.
+fn copied_reply_is(reply: &Reply, other: &Reply) -> bool {
+    match copy_reply(reply) {
+        Ok(copy) => same_reply(&copy, other),
+        Err(_) => false,
+    }
+}
+
+/// How many replies have equal copies, and how many of these are done.
+fn counts(replies: &[Reply]) -> (u32, u32) {
+    let (mut equal, mut done) = (0, 0);
+    for reply in replies {
+        equal = more(equal, copied_reply_is(reply, reply));
+        done = more(done, copied_reply_is(reply, &Ok(Answer::Done)));
+    }
+    (equal, done)
+}
+
+fn counts_of_a_run(alloc: Global, core: &mut Core) -> (u32, u32) {
+    match run(alloc, core, &OPS) {
+        Ok(replies) => counts(&replies),
+        Err(_) => (0, 0),
+    }
+}
+
+fn copied_replies(alloc: Global) -> (u32, u32) {
+    match Core::new(alloc, 1) {
+        Ok(mut core) => counts_of_a_run(alloc, &mut core),
+        Err(_) => (0, 0),
+    }
+}
+
+#[test]
+fn replies_are_copied(rt: HostRuntime) {
+    let copied = copied_replies(rt.alloc());
+    holds(&rt, "13 replies, 8 of them done", copied == (13, 8));
+}
+
+fn messages(alloc: Global, count: u32) -> Result<List<Message>, Refusal> {
+    let mut messages = List::new(Vec::new(alloc));
+    for _ in 0..count {
+        messages.push(sent(alloc, 1, "t", None)?)?;
+    }
+    Ok(messages)
+}
+
+/// A step that publishes so many messages.
+fn publication(alloc: Global, count: u32) -> Result<Step, Refusal> {
+    let who = Who::Session(session(1)?);
+    let call = Call::Publish(messages(alloc, count)?);
+    Ok(Step { who, call })
+}
+
+fn copy_is_publication(alloc: Global, one: &Step, count: u32) -> bool {
+    match publication(alloc, count) {
+        Ok(other) => copied_step_is(alloc, one, &other),
+        Err(_) => false,
+    }
+}
+
+/// Whether a copy of a publication of so many messages is one of so many others.
+fn is_publication(alloc: Global, one: u32, other: u32) -> bool {
+    match publication(alloc, one) {
+        Ok(one) => copy_is_publication(alloc, &one, other),
+        Err(_) => false,
+    }
+}
+
+#[test]
+fn publications_are_told_apart(rt: HostRuntime) {
+    for one in 0..3 {
+        for other in 0..3 {
+            let told = is_publication(rt.alloc(), one, other);
+            holds(&rt, "publications", told == (one == other));
+        }
+    }
+}
+
+/// Whether a delivery of that count is a redelivery, where a copy of it is the same.
+fn is_redelivery(alloc: Global, count: u32) -> Result<bool, Refusal> {
+    let message = sent(alloc, 1, "t", None)?;
+    let delivery = Delivery { message, count };
+    let is_redelivered = delivery.redelivered();
+    let answer = Answer::Delivered(delivery);
+    if answer.copy()?.is(&answer) {
+        Ok(is_redelivered)
+    } else {
+        Err(Refusal::Store)
+    }
+}
+
+#[test]
+fn first_delivery_is_not_redelivered(rt: HostRuntime) {
+    holds(&rt, "1", is_redelivery(rt.alloc(), 1) == Ok(false));
+    holds(&rt, "2", is_redelivery(rt.alloc(), 2) == Ok(true));
+    holds(
+        &rt,
+        "the last",
+        is_redelivery(rt.alloc(), 2147483647) == Ok(true),
+    );
+}
+
+/// Whether copies of what the core holds are the same.
+fn holds_copies(alloc: Global, core: &Core) -> Result<bool, AllocError> {
+    for station in core.stations() {
+        if station.copy(alloc)? != *station {
+            return Ok(false);
+        }
+    }
+    for consumer in core.consumers() {
+        if consumer.copy()? != *consumer {
+            return Ok(false);
+        }
+    }
+    Ok(true)
+}
+
+fn held_is_copied(alloc: Global, core: &mut Core) -> bool {
+    let _ = run(alloc, core, &OPS);
+    core.stations().len() == 2 && holds_copies(alloc, core) == Ok(true)
+}
+
+fn run_is_copied(alloc: Global) -> bool {
+    match Core::new(alloc, 1) {
+        Ok(mut core) => held_is_copied(alloc, &mut core),
+        Err(_) => false,
+    }
+}
+
+#[test]
+fn what_is_held_is_copied(rt: HostRuntime) {
+    holds(&rt, "two stations", run_is_copied(rt.alloc()));
+}

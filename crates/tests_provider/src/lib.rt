@@ -1,0 +1,19 @@
+//! Tests of the provider of `jm_machine`, `jm_sub`, `jm_session`, `jm_core` and `jm_model`, over tables of calls: that calls
+//! find memory and succeed, what they leave, and that what the clauses say was meant. Runs with their lines are cases, and
+//! stand in `cases`.
+#![tactic(auto)]
+
+#[cfg(test)]
+mod calls;
+#[cfg(test)]
+mod copies;
+#[cfg(test)]
+mod lone;
+#[cfg(test)]
+mod runs;
+#[cfg(test)]
+mod sessions;
+#[cfg(test)]
+mod subscriptions;
+#[cfg(test)]
+mod told;

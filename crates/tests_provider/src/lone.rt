@@ -1,0 +1,160 @@
+//! What one subscription answers alone, over records of runs, also over such as no run gives.
+
+use crate::calls::{OPS, Op, calls, session, shown};
+use crate::runs::run;
+use crate::told::{holds, is_text};
+use jm_base::Refusal;
+use jm_core::Core;
+use jm_dest::{ConsumerId, Key, Name, Number};
+use jm_machine::{Entry, Reply};
+use jm_model::{LoneFault, entries, law_isolation, law_reached, lone_replies};
+use std::alloc::{AllocError, Global};
+
+/// Two connections with a session each, a consumer in the first, and a message that it receives.
+const FIRST_MESSAGE: [Op; 9] = [
+    Op::Open(1),
+    Op::Open(2),
+    Op::Session(1),
+    Op::Session(2),
+    Op::Consumer(1, 1, None),
+    Op::Start(1),
+    Op::Send(2, "a", None),
+    Op::Receive(1, 1),
+    Op::Receive(1, 1),
+];
+
+/// The key of that consumer of session 1.1; of consumer 0, the key of a queue.
+fn key(alloc: Global, consumer: u32) -> Result<Key, Refusal> {
+    match consumer {
+        0 => Ok(Key::Queue(Name::new(alloc, "t")?)),
+        _ => Ok(Key::Own(session(1)?, ConsumerId::new(consumer)?)),
+    }
+}
+
+fn placed_shown(alloc: Global, replies: &[(usize, Reply)]) -> Result<String, AllocError> {
+    let mut text = String::new(alloc);
+    for (place, reply) in replies {
+        let reply = shown(alloc, reply)?;
+        text.push_str(format!(in alloc; "{place} {reply}, ")?.as_str())?;
+    }
+    Ok(text)
+}
+
+/// Puts a refusal in place of the replies at these places.
+fn spoil(replies: &mut [Reply], places: &[usize], refusal: Refusal) {
+    for place in places {
+        if let Some(reply) = replies.get_mut(*place) {
+            *reply = Err(refusal);
+        }
+    }
+}
+
+/// The replies of a run but at these places, where that refusal stands.
+fn spoiled(
+    alloc: Global,
+    core: &mut Core,
+    ops: &[Op],
+    places: &[usize],
+    refusal: Refusal,
+) -> Result<Vec<Reply>, Refusal> {
+    let mut replies = run(alloc, core, ops)?;
+    spoil(&mut replies, places, refusal);
+    Ok(replies)
+}
+
+fn record_of(
+    alloc: Global,
+    opening: Number,
+    ops: &[Op],
+    replies: &[Reply],
+) -> Result<Vec<Entry>, Refusal> {
+    let calls = calls(alloc, ops)?;
+    match entries(alloc, opening, &calls, replies) {
+        Ok(record) => Ok(record),
+        Err(_) => Err(Refusal::Memory),
+    }
+}
+
+/// The record of the calls, with these replies.
+fn record(
+    alloc: Global,
+    ops: &[Op],
+    places: &[usize],
+    refusal: Refusal,
+) -> Result<Vec<Entry>, Refusal> {
+    let mut core = Core::new(alloc, 1)?;
+    match spoiled(alloc, &mut core, ops, places, refusal) {
+        Ok(replies) => record_of(alloc, core.opening(), ops, &replies),
+        Err(refusal) => Err(refusal),
+    }
+}
+
+/// What the key's subscription answers alone over the record, each reply after its place.
+fn alone(alloc: Global, record: &[Entry], key: &Key) -> Result<String, Refusal> {
+    let opening = Core::new(alloc, 1)?;
+    match lone_replies(alloc, &opening, record, key) {
+        Ok(replies) => Ok(placed_shown(alloc, &replies)?),
+        Err(LoneFault::NotUnshared) => Ok(String::from_str(alloc, "not unshared")?),
+        Err(LoneFault::Memory) => Err(Refusal::Memory),
+    }
+}
+
+/// What the subscription of that consumer answers alone in a run of the calls, where the replies at these places are wrong.
+fn told(alloc: Global, ops: &[Op], places: &[usize], consumer: u32) -> Result<String, AllocError> {
+    let Ok(key) = key(alloc, consumer) else {
+        return Err(AllocError);
+    };
+    match record(alloc, ops, places, Refusal::IllegalState) {
+        Ok(record) => match alone(alloc, &record, &key) {
+            Ok(text) => Ok(text),
+            Err(_) => Err(AllocError),
+        },
+        Err(_) => Err(AllocError),
+    }
+}
+
+/// Consumers, and what their subscriptions answer alone; 0 stands for a queue.
+const ALONE: [(u32, &str); 5] = [
+    (0, "not unshared"),
+    (1, "4 ok, 10 a#1, "),
+    (2, "5 ok, "),
+    (3, "6 InvalidSelector Expected 4, 12 IllegalState, "),
+    (4, ""),
+];
+
+#[test]
+fn subscriptions_alone(rt: HostRuntime) {
+    for (consumer, wanted) in &ALONE {
+        is_text(&rt, wanted, told(rt.alloc(), &OPS, &[], *consumer));
+    }
+}
+
+#[test]
+fn wrong_replies_are_not_handed_back(rt: HostRuntime) {
+    let told = told(rt.alloc(), &FIRST_MESSAGE, &[4, 7, 8], 1);
+    is_text(&rt, "4 ok, 7 a#1, 8 none, ", told);
+}
+
+const PLACES: [usize; 9] = [0, 1, 2, 3, 4, 5, 6, 7, 8];
+
+/// How many entries the record has where each reply is that refusal.
+fn count(alloc: Global, refusal: Refusal) -> Result<usize, Refusal> {
+    Ok(record(alloc, &FIRST_MESSAGE, &PLACES, refusal)?.len())
+}
+
+#[test]
+fn a_want_of_memory_leaves_no_entry(rt: HostRuntime) {
+    holds(&rt, "Memory", count(rt.alloc(), Refusal::Memory) == Ok(0));
+    holds(&rt, "Store", count(rt.alloc(), Refusal::Store) == Ok(0));
+    holds(
+        &rt,
+        "IllegalState",
+        count(rt.alloc(), Refusal::IllegalState) == Ok(8),
+    );
+}
+
+#[test]
+fn laws_are_stated() {
+    law_isolation();
+    law_reached();
+}

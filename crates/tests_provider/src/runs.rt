@@ -1,0 +1,123 @@
+//! The core: replies, what is held after them, and stamps of another opening.
+
+use crate::calls::{OPS, Op, calls, sent, session, shown};
+use crate::told::{holds, is_text};
+use jm_base::{List, Refusal};
+use jm_core::{Call, Core, Reply, Step, Who};
+use std::alloc::{AllocError, Global};
+
+/// The replies of the core to those calls.
+pub(crate) fn run(alloc: Global, core: &mut Core, ops: &[Op]) -> Result<Vec<Reply>, Refusal> {
+    Ok(core.run(calls(alloc, ops)?)?)
+}
+
+fn all_shown(alloc: Global, replies: &[Reply]) -> Result<String, AllocError> {
+    let mut text = String::new(alloc);
+    for reply in replies {
+        text.push_str(shown(alloc, reply)?.as_str())?;
+        text.push_str(", ")?;
+    }
+    Ok(text)
+}
+
+fn replies(alloc: Global) -> Result<String, AllocError> {
+    let Ok(mut core) = Core::new(alloc, 1) else {
+        return Err(AllocError);
+    };
+    match run(alloc, &mut core, &OPS) {
+        Ok(replies) => all_shown(alloc, &replies),
+        Err(_) => Err(AllocError),
+    }
+}
+
+const REPLIES: &str =
+    "ok, ok, ok, ok, ok, ok, InvalidSelector Expected 4, ok, sent 1, sent 2, a#1, ok, IllegalState, ";
+
+#[test]
+fn replies_of_a_run(rt: HostRuntime) {
+    is_text(&rt, REPLIES, replies(rt.alloc()));
+}
+
+/// Whether the core holds two connections, two sessions, two consumers, and two subscriptions, one of them with a row, has
+/// used two places, and is of opening 1.
+fn has_run(core: &Core) -> bool {
+    let rows = core
+        .stations()
+        .iter()
+        .filter(|station| !station.rows.as_slice().is_empty());
+    core.connections().len() == 2
+        && core.sessions().len() == 2
+        && core.consumers().len() == 2
+        && core.stations().len() == 2
+        && rows.count() == 2
+        && core.next_place() == 3
+        && core.opening().get() == 1
+}
+
+fn copy_has_run(core: &Core) -> bool {
+    match core.copy() {
+        Ok(copy) => has_run(&copy),
+        Err(_) => false,
+    }
+}
+
+fn leaves(alloc: Global) -> bool {
+    match Core::new(alloc, 1) {
+        Ok(mut core) => {
+            let _ = run(alloc, &mut core, &OPS);
+            has_run(&core) && copy_has_run(&core)
+        }
+        Err(_) => false,
+    }
+}
+
+#[test]
+fn what_a_run_leaves(rt: HostRuntime) {
+    holds(&rt, "a copy", leaves(rt.alloc()));
+}
+
+#[test]
+fn no_opening_is_zero(rt: HostRuntime) {
+    let refusal = Core::new(rt.alloc(), 0).err();
+    holds(&rt, "0", refusal == Some(Refusal::OutOfRange));
+}
+
+/// A step that publishes a message of session 2.1, stamped in that opening.
+fn publication(alloc: Global, opening: u32) -> Result<Step, Refusal> {
+    let who = Who::Session(session(2)?);
+    let mut messages = List::new(Vec::new(alloc));
+    messages.push(sent(alloc, opening, "t", None)?)?;
+    let call = Call::Publish(messages);
+    Ok(Step { who, call })
+}
+
+const SESSION: [Op; 2] = [Op::Open(2), Op::Session(2)];
+
+/// The next place after the step in a core with that session.
+fn next_place_after(alloc: Global, core: &mut Core, step: &Step) -> Result<u64, Refusal> {
+    let _ = run(alloc, core, &SESSION);
+    match core.step(step) {
+        Ok(_) => Ok(core.next_place()),
+        Err(refusal) if core.next_place() == 1 => Err(refusal),
+        Err(_) => Err(Refusal::Store),
+    }
+}
+
+/// The next place after a message of session 2.1 that was stamped in that opening is published in opening 1.
+fn next_place(alloc: Global, opening: u32) -> Result<u64, Refusal> {
+    let step = publication(alloc, opening)?;
+    match Core::new(alloc, 1) {
+        Ok(mut core) => next_place_after(alloc, &mut core, &step),
+        Err(refusal) => Err(refusal),
+    }
+}
+
+#[test]
+fn foreign_stamps(rt: HostRuntime) {
+    holds(&rt, "1", next_place(rt.alloc(), 1) == Ok(2));
+    holds(
+        &rt,
+        "2",
+        next_place(rt.alloc(), 2) == Err(Refusal::IllegalState),
+    );
+}

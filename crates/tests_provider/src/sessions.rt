@@ -1,0 +1,170 @@
+//! Connections, sessions and consumers by number: which calls are refused, and what is known after them.
+
+use crate::told::{holds, is_true};
+use jm_base::{Mode, Refusal};
+use jm_dest::{ConnectionId, ConsumerId, Key, SessionId};
+use jm_session::Sessions;
+use std::alloc::Global;
+
+#[derive(Clone, Copy)]
+enum Op {
+    Open(u32),
+    Start(u32),
+    Stop(u32),
+    Session(u32, u32),
+    Consumer(u32, u32, u32),
+}
+
+fn session(connection: u32, number: u32) -> Result<SessionId, Refusal> {
+    SessionId::new(ConnectionId::new(connection)?, number)
+}
+
+fn consumer(sessions: &mut Sessions, session: SessionId, number: u32) -> Result<(), Refusal> {
+    let id = ConsumerId::new(number)?;
+    let key = Key::Own(session, id);
+    sessions.consumer(&session, id, key)
+}
+
+fn make(sessions: &mut Sessions, op: Op) -> Result<(), Refusal> {
+    match op {
+        Op::Open(c) => sessions.open(ConnectionId::new(c)?),
+        Op::Start(c) => sessions.start(ConnectionId::new(c)?),
+        Op::Stop(c) => sessions.stop(ConnectionId::new(c)?),
+        Op::Session(c, s) => sessions.session(&session(c, s)?, Mode::Auto),
+        Op::Consumer(c, s, k) => consumer(sessions, session(c, s)?, k),
+    }
+}
+
+/// Calls, and whether each is done; the others are refused.
+const CALLS: [(Op, bool); 17] = [
+    (Op::Session(1, 1), false),
+    (Op::Start(1), false),
+    (Op::Open(1), true),
+    (Op::Open(1), false),
+    (Op::Open(2), true),
+    (Op::Session(1, 1), true),
+    (Op::Session(1, 1), false),
+    (Op::Session(1, 2), true),
+    (Op::Session(2, 1), true),
+    (Op::Session(3, 1), false),
+    (Op::Consumer(1, 1, 1), true),
+    (Op::Consumer(1, 1, 1), false),
+    (Op::Consumer(1, 2, 1), true),
+    (Op::Consumer(1, 3, 1), false),
+    (Op::Start(1), true),
+    (Op::Start(2), true),
+    (Op::Stop(2), true),
+];
+
+/// Makes the calls in turn, and gives whether each is answered as wanted.
+fn are_made(sessions: &mut Sessions) -> bool {
+    for (op, is_done) in &CALLS {
+        let wanted = if *is_done {
+            Ok(())
+        } else {
+            Err(Refusal::IllegalState)
+        };
+        if make(sessions, *op) != wanted {
+            return false;
+        }
+    }
+    true
+}
+
+fn has_lists(sessions: &Sessions) -> bool {
+    sessions.connections().len() == 2
+        && sessions.sessions().len() == 3
+        && sessions.consumers().len() == 2
+}
+
+/// Whether the calls are answered as wanted, with room for so many calls.
+fn is_answered(alloc: Global, room: usize) -> Result<bool, Refusal> {
+    let mut sessions = Sessions::new(alloc);
+    sessions.reserve(room)?;
+    Ok(are_made(&mut sessions) && has_lists(&sessions))
+}
+
+#[test]
+fn refused_calls(rt: HostRuntime) {
+    is_true(&rt, "no room", is_answered(rt.alloc(), 0));
+    is_true(&rt, "room for all", is_answered(rt.alloc(), 17));
+}
+
+/// Whether the connection is used and started.
+fn connection_known(sessions: &Sessions, connection: u32) -> Result<(bool, bool), Refusal> {
+    let id = ConnectionId::new(connection)?;
+    let is_used = sessions.is_used(id) && sessions.connection_of(id).is_some();
+    Ok((is_used, sessions.is_started(id)))
+}
+
+/// Connections, and whether each is used and started.
+const CONNECTIONS: [(u32, (bool, bool)); 3] = [
+    (1, (true, true)),
+    (2, (true, false)),
+    (3, (false, false)),
+];
+
+#[test]
+fn connections_by_number(rt: HostRuntime) {
+    let mut sessions = Sessions::new(rt.alloc());
+    let _ = are_made(&mut sessions);
+    for (connection, wanted) in &CONNECTIONS {
+        let known = connection_known(&sessions, *connection);
+        holds(&rt, "a connection", known == Ok(*wanted));
+    }
+}
+
+/// Whether the session is open, and whether it may be opened.
+fn session_known(sessions: &Sessions, c: u32, s: u32) -> Result<(bool, bool), Refusal> {
+    let id = session(c, s)?;
+    let is_open = sessions.is_open(&id)
+        && sessions.mode_of(&id) == Some(Mode::Auto)
+        && sessions.session_of(&id).is_some();
+    Ok((is_open, sessions.is_new_session(&id)))
+}
+
+/// Sessions, and whether each is open, and may be opened.
+const SESSIONS: [(u32, u32, (bool, bool)); 5] = [
+    (1, 1, (true, false)),
+    (1, 2, (true, false)),
+    (2, 1, (true, false)),
+    (2, 2, (false, true)),
+    (3, 1, (false, false)),
+];
+
+#[test]
+fn sessions_by_number(rt: HostRuntime) {
+    let mut sessions = Sessions::new(rt.alloc());
+    let _ = are_made(&mut sessions);
+    for (c, s, wanted) in &SESSIONS {
+        let known = session_known(&sessions, *c, *s);
+        holds(&rt, "a session", known == Ok(*wanted));
+    }
+}
+
+/// Whether that consumer of session 1.s was made, may be made, and may receive.
+fn consumer_known(sessions: &Sessions, s: u32, k: u32) -> Result<[bool; 3], Refusal> {
+    let session = session(1, s)?;
+    let id = ConsumerId::new(k)?;
+    let is_made = sessions.consumer_of(&session, id).is_some();
+    let may_begin = sessions.may_begin(&session, id);
+    Ok([is_made, may_begin, sessions.may_receive(&session, id)])
+}
+
+/// Consumers of sessions of connection 1, and whether each was made, may be made, and may receive.
+const CONSUMERS: [(u32, u32, [bool; 3]); 4] = [
+    (1, 1, [true, false, true]),
+    (1, 2, [false, true, false]),
+    (2, 1, [true, false, true]),
+    (3, 1, [false, false, false]),
+];
+
+#[test]
+fn consumers_by_number(rt: HostRuntime) {
+    let mut sessions = Sessions::new(rt.alloc());
+    let _ = are_made(&mut sessions);
+    for (s, k, wanted) in &CONSUMERS {
+        let known = consumer_known(&sessions, *s, *k);
+        holds(&rt, "a consumer", known == Ok(*wanted));
+    }
+}

@@ -1,0 +1,12 @@
+//! Tests of the selectors of `jm_lexer`, `jm_syntax` and `jm_eval`, over tables: that calls find memory and succeed, and
+//! which tokens, trees and values they give. Selectors with what they select are cases, and stand in `cases`.
+#![tactic(auto)]
+
+#[cfg(test)]
+mod tokens;
+#[cfg(test)]
+mod told;
+#[cfg(test)]
+mod trees;
+#[cfg(test)]
+mod values;

@@ -1,0 +1,312 @@
+//! Drafts and messages: stamps, header fields, expiry, and what is read-only.
+
+use crate::told::{holds, is_true};
+use jm_base::{MessageFault, Refusal, Str};
+use jm_dest::{ConnectionId, Destination, Moment, Number, SessionId};
+use jm_header::{Body, DeliveryMode, Draft, Message, Sender, stamp};
+use jm_property::Property;
+use std::alloc::{AllocError, Global};
+
+/// A send: of a draft, as the session's message of that number, at that moment.
+#[derive(Clone, Copy)]
+struct Send {
+    priority: u8,
+    time_to_live: i64,
+    number: u64,
+    now: i64,
+}
+
+const FIRST: Send = Send {
+    priority: 4,
+    time_to_live: 0,
+    number: 1,
+    now: 1000,
+};
+
+fn sender() -> Result<Sender, Refusal> {
+    Ok(Sender {
+        opening: Number::new(1)?,
+        session: SessionId::new(ConnectionId::new(2)?, 1)?,
+    })
+}
+
+fn set(draft: &mut Draft, send: Send) -> Result<(), Refusal> {
+    draft.set_priority(send.priority)?;
+    draft.set_time_to_live(send.time_to_live)
+}
+
+fn stamped(alloc: Global, draft: Draft, send: Send) -> Result<Message, Refusal> {
+    match (
+        Destination::topic(alloc, "t"),
+        sender(),
+        Moment::new(send.now),
+    ) {
+        (Ok(topic), Ok(sender), Ok(now)) => stamp(draft, topic, sender, send.number, now),
+        _ => Err(Refusal::Memory),
+    }
+}
+
+fn sent(alloc: Global, send: Send) -> Result<Message, Refusal> {
+    let mut draft = Draft::new(alloc);
+    match set(&mut draft, send) {
+        Ok(()) => stamped(alloc, draft, send),
+        Err(refusal) => Err(refusal),
+    }
+}
+
+/// The priority, the number, the timestamp and the expiration.
+fn numbers(message: &Message) -> [u64; 4] {
+    [
+        u64::from(message.priority()),
+        message.number(),
+        message.timestamp().get(),
+        message.expiration().get(),
+    ]
+}
+
+fn numbers_of(alloc: Global, send: Send) -> Result<[u64; 4], Refusal> {
+    match sent(alloc, send) {
+        Ok(message) => Ok(numbers(&message)),
+        Err(refusal) => Err(refusal),
+    }
+}
+
+const LAST: u64 = 9223372036854775807;
+
+/// Sends, and the priority, the number, the timestamp and the expiration of each.
+const SENDS: [(Send, Result<[u64; 4], Refusal>); 10] = [
+    (FIRST, Ok([4, 1, 1000, 0])),
+    (
+        Send {
+            priority: 0,
+            ..FIRST
+        },
+        Ok([0, 1, 1000, 0]),
+    ),
+    (
+        Send {
+            priority: 9,
+            ..FIRST
+        },
+        Ok([9, 1, 1000, 0]),
+    ),
+    (
+        Send {
+            priority: 10,
+            ..FIRST
+        },
+        Err(Refusal::OutOfRange),
+    ),
+    (Send { number: 0, ..FIRST }, Err(Refusal::OutOfRange)),
+    (
+        Send {
+            number: LAST,
+            time_to_live: 5,
+            ..FIRST
+        },
+        Ok([4, LAST, 1000, 1005]),
+    ),
+    (
+        Send {
+            number: 9223372036854775808,
+            ..FIRST
+        },
+        Err(Refusal::OutOfRange),
+    ),
+    (
+        Send {
+            now: i64::MAX,
+            ..FIRST
+        },
+        Ok([4, 1, LAST, 0]),
+    ),
+    (
+        Send {
+            now: i64::MAX,
+            time_to_live: 1,
+            ..FIRST
+        },
+        Err(Refusal::OutOfRange),
+    ),
+    (
+        Send {
+            time_to_live: -1,
+            ..FIRST
+        },
+        Err(Refusal::OutOfRange),
+    ),
+];
+
+#[test]
+fn stamps_at_the_limits(rt: HostRuntime) {
+    for (send, wanted) in &SENDS {
+        holds(&rt, "a send", numbers_of(rt.alloc(), *send) == *wanted);
+    }
+}
+
+/// Whether a message that is sent at 1000 is expired at that moment.
+fn is_expired(alloc: Global, time_to_live: i64, now: i64) -> Result<bool, Refusal> {
+    let now = Moment::new(now)?;
+    match sent(
+        alloc,
+        Send {
+            time_to_live,
+            ..FIRST
+        },
+    ) {
+        Ok(message) => Ok(message.expired(now)),
+        Err(refusal) => Err(refusal),
+    }
+}
+
+#[test]
+fn expiry(rt: HostRuntime) {
+    holds(
+        &rt,
+        "500 at 1499",
+        is_expired(rt.alloc(), 500, 1499) == Ok(false),
+    );
+    holds(
+        &rt,
+        "500 at 1500",
+        is_expired(rt.alloc(), 500, 1500) == Ok(true),
+    );
+    holds(
+        &rt,
+        "500 at 1400",
+        is_expired(rt.alloc(), 500, 1400) == Ok(false),
+    );
+    holds(
+        &rt,
+        "0 at the last",
+        is_expired(rt.alloc(), 0, i64::MAX) == Ok(false),
+    );
+}
+
+fn has_default_fields(message: &Message) -> bool {
+    message.mode() == DeliveryMode::Persistent
+        && message.correlation().is_none()
+        && message.message_type().is_none()
+        && message.properties().is_empty()
+}
+
+#[test]
+fn defaults_are_stamped(rt: HostRuntime) {
+    let has_defaults = match sent(rt.alloc(), FIRST) {
+        Ok(message) => has_default_fields(&message),
+        Err(_) => false,
+    };
+    holds(&rt, "defaults", has_defaults);
+}
+
+/// Sets the fields that a text or bytes make; a want of memory is seen by what is missing.
+fn fill(draft: &mut Draft) {
+    draft.set_mode(DeliveryMode::NonPersistent);
+    let _ = draft.set_correlation("request 1");
+    let _ = draft.set_type("order");
+    let _ = draft.set_bytes(&[0, 255]);
+}
+
+fn add_properties(draft: &mut Draft) {
+    let _ = draft.set_property("x", Property::Long(1));
+    let _ = draft.properties_mut().set("y", Property::Bool(true));
+}
+
+fn order(alloc: Global) -> Result<Message, Refusal> {
+    let mut draft = Draft::new(alloc);
+    fill(&mut draft);
+    add_properties(&mut draft);
+    stamped(alloc, draft, FIRST)
+}
+
+fn is_text(text: Option<&Str>, wanted: &str) -> bool {
+    match text {
+        Some(text) => text.as_str() == wanted,
+        None => false,
+    }
+}
+
+fn is_bytes(body: &Body, wanted: &[u8]) -> bool {
+    match body {
+        Body::Bytes(bytes) => bytes.as_slice() == wanted,
+        _ => false,
+    }
+}
+
+fn is_order(message: &Message) -> bool {
+    is_text(message.correlation(), "request 1")
+        && is_text(message.message_type(), "order")
+        && is_bytes(message.body(), &[0, 255])
+        && message.properties().len() == 2
+}
+
+#[test]
+fn fields_are_as_they_were_set(rt: HostRuntime) {
+    let is_kept = match order(rt.alloc()) {
+        Ok(message) => is_order(&message),
+        Err(_) => false,
+    };
+    holds(&rt, "an order", is_kept);
+}
+
+/// The fault of each kind of write to the message: of a text, of bytes and of a property.
+fn writes(message: &mut Message) -> [Option<MessageFault>; 3] {
+    let text = message.set_text("a").err();
+    let bytes = message.set_bytes(&[1]).err();
+    let property = message.set_property("x", Property::Long(2)).err();
+    [text, bytes, property]
+}
+
+const WRITTEN: [Option<MessageFault>; 3] = [None; 3];
+
+const REFUSED: [Option<MessageFault>; 3] = [Some(MessageFault::NotWriteable); 3];
+
+/// Whether the message can be written, not when it is protected, and again when it is cleared.
+fn is_protected(message: &mut Message) -> bool {
+    let is_written = writes(message) == WRITTEN;
+    message.protect();
+    let is_refused = writes(message) == REFUSED;
+    message.clear_body();
+    message.clear_properties();
+    let is_cleared = *message.body() == Body::None && message.properties().is_empty();
+    is_written && is_refused && is_cleared && writes(message) == WRITTEN
+}
+
+#[test]
+fn properties_and_writes(rt: HostRuntime) {
+    let is_protected = match order(rt.alloc()) {
+        Ok(mut message) => is_protected(&mut message) && is_bytes(message.body(), &[1]),
+        Err(_) => false,
+    };
+    holds(&rt, "an order", is_protected);
+}
+
+/// Whether a copy is the same, and not when it is protected.
+fn is_copied(message: &Message) -> Result<bool, AllocError> {
+    let mut copy = message.copy()?;
+    let is_same = copy.is(message);
+    copy.protect();
+    Ok(is_same && !copy.is(message))
+}
+
+#[test]
+fn copies_are_equal(rt: HostRuntime) {
+    let is_copied = match order(rt.alloc()) {
+        Ok(message) => is_copied(&message) == Ok(true),
+        Err(_) => false,
+    };
+    holds(&rt, "an order", is_copied);
+}
+
+/// Whether a copy of the draft of a message with another text equals it.
+fn draft_is_copied(alloc: Global) -> Result<bool, Refusal> {
+    let mut draft = order(alloc)?.into_draft();
+    let _ = draft.set_text("b");
+    let copy = draft.copy();
+    Ok(copy.is_ok_and(|copy| copy == draft))
+}
+
+#[test]
+fn a_message_becomes_a_draft(rt: HostRuntime) {
+    is_true(&rt, "an order", draft_is_copied(rt.alloc()));
+}

@@ -1,0 +1,59 @@
+"""Tests of tools/gate, with a stand-in for rt ci."""
+from __future__ import annotations
+
+import os
+import subprocess
+import sys
+import tempfile
+import unittest
+
+GATE = f"{os.path.dirname(os.path.abspath(__file__))}/gate"
+
+
+def said(ci: str, *words: str) -> tuple[list[str], int]:
+    """Returns the lines that the gate prints in a repository with no crate's edits, where rt is that script, and its status."""
+    with tempfile.TemporaryDirectory() as top:
+        os.makedirs(f"{top}/crates/low/src")
+        os.makedirs(f"{top}/crates/low/out")
+        os.mkdir(f"{top}/bin")
+        for path, text in {"crates.txt": "low:\n", "crates/low/src/lib.rt": "", "bin/rt": f"#!/bin/sh\n{ci}\n"}.items():
+            with open(f"{top}/{path}", "w", encoding="utf-8") as it:
+                it.write(text)
+        os.chmod(f"{top}/bin/rt", 0o755)
+        how = {"stdin": subprocess.DEVNULL, "stdout": subprocess.PIPE, "stderr": subprocess.DEVNULL}
+        path = f"{top}/bin:{os.environ['PATH']}"
+        ran = subprocess.run([sys.executable, GATE, *words], cwd=top, env={**os.environ, "PATH": path}, **how)
+        return ran.stdout.decode().splitlines(), ran.returncode
+
+
+class Gate(unittest.TestCase):
+    def test_all_that_passes_passes(self) -> None:
+        lines, status = said("echo proved; echo '3 passed, 0 failed'")
+        self.assertEqual((lines[-1], status), ("3 passed, 0 failed", 0))
+        self.assertIn("proved", lines)
+
+    def test_what_fails_is_counted(self) -> None:
+        lines, status = said("echo '3 passed, 2 failed'; exit 1")
+        self.assertEqual((lines[-1], status), ("3 passed, 2 failed", 1))
+
+    def test_a_command_that_fails_with_no_count_is_a_failure(self) -> None:
+        lines, status = said("exit 2")
+        self.assertEqual((lines[-1], status), ("0 passed, 1 failed", 1))
+
+    def test_only_the_last_line_is_a_count(self) -> None:
+        lines, _ = said("echo '3 passed, 0 failed'")
+        self.assertEqual([it for it in lines if it.startswith("3 ")], ["3 passed, 0 failed"])
+        self.assertEqual(lines.index("3 passed, 0 failed"), len(lines) - 1)
+
+    def test_what_earlier_runs_kept_is_not_read(self) -> None:
+        lines, _ = said("ls crates/low; ls -d .git; echo '1 passed, 0 failed'")
+        self.assertEqual(lines[1:3], ["src", ".git"])
+
+    def test_a_crate_that_is_not_there_stops_it(self) -> None:
+        lines, status = said("exit 0", "hole")
+        self.assertNotEqual(status, 0)
+        self.assertEqual(lines, [])
+
+
+if __name__ == "__main__":
+    unittest.main()
