@@ -40,6 +40,14 @@ class Gate(unittest.TestCase):
         lines, status = said("exit 2")
         self.assertEqual((lines[-1], status), ("0 passed, 1 failed", 1))
 
+    def test_what_failed_is_said_at_the_end(self) -> None:
+        lines, _ = said("echo 'low NOT PROVED'; echo proved; echo '3 passed, 1 failed'; exit 1")
+        self.assertEqual(lines[-2:], ["gate: failed: low NOT PROVED", "3 passed, 1 failed"])
+
+    def test_each_part_says_its_processor_minutes(self) -> None:
+        lines, _ = said("echo '3 passed, 0 failed'")
+        self.assertRegex("\n".join(lines), r"(?m)^gate: rt ci: \d+\.\d processor minutes$")
+
     def test_only_the_last_line_is_a_count(self) -> None:
         lines, _ = said("echo '3 passed, 0 failed'")
         self.assertEqual([it for it in lines if it.startswith("3 ")], ["3 passed, 0 failed"])
