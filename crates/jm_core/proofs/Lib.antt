@@ -1,5 +1,9 @@
-mod Rows
-mod Stations
-mod Accepted
+pub mod Stations
+pub mod Publishing
+pub mod Accepted
+pub mod Sound
+pub mod Fits
+pub mod Published
+pub mod Seen
 mod Sends
 mod Reached

@@ -1,9 +1,7 @@
 -- What one call is to a run.
 use Rattle.std.proofs.Common.{◌≡◌, ◌+◌, ℕ, Bool, true, false, cond, List, [], ◌∷◌, ◌++◌, length, refl, ap, sym, ◌∙◌, arith, Option, Some, None, Result, Ok, Err}
-use Rattle.std.specs.Prelude.{is_some, unwrap_or, MatchBool}
+use Rattle.std.specs.Prelude.{is_some, MatchBool}
 use Rattle.std.proofs.lemmas.List.{append-nil}
-use Rattle.std.specs.HashMap.{get, Updates}
-use Rattle.std.specs.Map.{lookup}
 use Rattle.jm_base.specs.declared.refusal.Refusal.{Refusal}
 use Rattle.jm_base.specs.declared.refusal.Refusal.TheVariants.{IllegalState, OutOfRange}
 use Rattle.jm_dest.specs.declared.session.SessionId.{SessionId}
@@ -25,7 +23,9 @@ use Rattle.jm_machine.specs.Machine.{State, publish_refusal, replied, reply, ste
 use Rattle.jm_machine.specs.Wants.{is_want, may_want}
 use Rattle.jm_machine.specs.Client.{Progress, begun, one_more, stamp_of, reply_to, progress_to, call_may_want, CallOwed, RunOwed}
 use Rattle.jm_core.specs.Steps.{StepFits}
-use Rattle.jm_core.specs.Runs.{Sends, sent_of, progress}
+use Rattle.jm_session.specs.declared.sends.Sends.{Sends}
+use Rattle.jm_session.specs.Sends.{sent_of, none_sent}
+use Rattle.jm_core.specs.Runs.{progress}
 
 -- a request is owed what its step is
 pub ask_fits : (state : State) (sends : Sends) (who : Who) (request : Request) (r : Result Answer Refusal) (new : State) →
@@ -66,17 +66,6 @@ number_of p s draft destination now m h = go (is_some (mode_of p.state.life s)) 
     go true false h = cc
     go false b h = cc
 
--- one send more of the session
-pub sent_more : (old new : Sends) (s : SessionId) (n : ℕ) → n ≡ sent_of old s + 1 → Updates session_eq old new s (Some n) → sent_of new ≡ one_more s (sent_of old)
-sent_more old new s n e u = λ i. λ t. each t i
-  where
-    go : (b : Bool) (o : Option ℕ) → unwrap_or (cond b (Some n) o) 0 ≡ cond b (sent_of old s + 1) (unwrap_or o 0)
-    go true o = e
-    go false o = refl
-
-    each : (t : SessionId) → sent_of new t ≡ one_more s (sent_of old) t
-    each t = ap (λ o. unwrap_or o 0) (u.0 t) ∙ go (session_eq s t) (get session_eq old t)
-
 -- a send's reply, from that of its publication
 accepted : (x : Option Refusal) (b : Answer) → Ok Done ≡ replied x Done → Ok b ≡ replied x b
 accepted None b h = refl
@@ -88,32 +77,29 @@ refused (Some f) e b h = h
 
 -- a message that is stamped is published, and has used its number
 pub sent_ok : (state : State) (old new : Sends) (s : SessionId) (draft : Settings) (destination : Destination) (now : ℕ) (m : Content) (next : State) →
-    stamp_of (progress state old) s draft destination now ≡ Ok m → Updates session_eq old new s (Some m.number) → StepFits state (Session s) (Publish (m ∷ [])) (Ok Done) next →
+    stamp_of (progress state old) s draft destination now ≡ Ok m → sent_of new ≡ one_more s (sent_of old) → StepFits state (Session s) (Publish (m ∷ [])) (Ok Done) next →
     CallOwed (progress state old) (Send s draft destination now) (Ok (Sent m.number)) (progress next new)
 unfolding reply reply_to progress_to
 sent_ok state old new s draft destination now m next h u f =
     let n : m.number ≡ sent_of old s + 1 = number_of (progress state old) s draft destination now m h in
     rw h (
       ap (λ k. Ok (Sent k)) n ∙ accepted (publish_refusal state (Session s) (m ∷ [])) (Sent (sent_of old s + 1)) f.0,
-      λ i. record { state = f.1 i; sent = sent_more old new s m.number n u i },
+      λ i. record { state = f.1 i; sent = u i },
     )
 
 pub sent_err : (state : State) (old new : Sends) (s : SessionId) (draft : Settings) (destination : Destination) (now : ℕ) (m : Content) (e : Refusal) (next : State) →
-    stamp_of (progress state old) s draft destination now ≡ Ok m → Updates session_eq old new s (Some m.number) → StepFits state (Session s) (Publish (m ∷ [])) (Err e) next →
+    stamp_of (progress state old) s draft destination now ≡ Ok m → sent_of new ≡ one_more s (sent_of old) → StepFits state (Session s) (Publish (m ∷ [])) (Err e) next →
     CallOwed (progress state old) (Send s draft destination now) (Err e) (progress next new)
 unfolding reply reply_to progress_to call_may_want
 sent_err state old new s draft destination now m e next h u f = rw h (go (is_want (Err e)) f)
   where
-    sent : sent_of new ≡ one_more s (sent_of old)
-    sent = sent_more old new s m.number (number_of (progress state old) s draft destination now m h) u
-
     go : (b : Bool) →
         MatchBool b ((may_want state (Session s) (Publish (m ∷ [])) ≡ true) × (next ≡ state)) ((Err e ≡ replied (publish_refusal state (Session s) (m ∷ [])) Done) × (next ≡ step state (Session s) (Publish (m ∷ [])))) →
         MatchBool b ((may_want state (Session s) (Publish (m ∷ [])) ≡ true) × (progress next new ≡ record { state = state; sent = one_more s (sent_of old) }))
         ((Err e ≡ replied (publish_refusal state (Session s) (m ∷ [])) (Sent (sent_of old s + 1)))
         × (progress next new ≡ record { state = step state (Session s) (Publish (m ∷ [])); sent = one_more s (sent_of old) }))
-    go true f = (f.0, λ i. record { state = f.1 i; sent = sent i })
-    go false f = (refused (publish_refusal state (Session s) (m ∷ [])) e (Sent (sent_of old s + 1)) f.0, λ i. record { state = f.1 i; sent = sent i })
+    go true f = (f.0, λ i. record { state = f.1 i; sent = u i })
+    go false f = (refused (publish_refusal state (Session s) (m ∷ [])) e (Sent (sent_of old s + 1)) f.0, λ i. record { state = f.1 i; sent = u i })
 
 -- one call more
 pub fits_more : (p : Progress) (calls : List ClientCall) (replies : List (Result Answer Refusal)) (mid : Progress) (call : ClientCall) (r : Result Answer Refusal) (end : Progress) →
@@ -136,8 +122,5 @@ pub nothing_left : {A : Type 0} (all done rest : List A) → all ≡ done ++ res
 nothing_left all done rest e h = sym (e ∙ ap (λ xs. done ++ xs) (nothing_in rest h) ∙ append-nil done)
 
 -- a run that begins has sent nothing
-pub begins : (state : State) (sends : Sends) → sends.entries ≡ [] → RunOwed (begun state) [] [] (progress state sends)
-begins state sends e = λ i. record { state = state; sent = none i }
-  where
-    none : sent_of sends ≡ (λ s. 0)
-    none = λ i. λ s. ap (λ es. unwrap_or (lookup (session_eq s) es) 0) e i
+pub begins : (state : State) (sends : Sends) → sent_of sends ≡ none_sent → RunOwed (begun state) [] [] (progress state sends)
+begins state sends e = λ i. record { state = state; sent = e i }

@@ -1,59 +1,162 @@
--- What a step is to the stations.
-use Rattle.std.proofs.Common.{◌≡◌, ◌<◌, ◌≤◌, ◌+◌, ℕ, Bool, true, false, List, [], ◌∷◌, ◌++◌, map, length, take, get_or, set, refl, ap, sym, ◌∙◌, arith, Some, None, add-zero, add-one, zero, suc}
-use Rattle.std.proofs.Math.Seq.{take-suc}
-use Rattle.std.specs.List.{position_or_len}
+-- What callers see of the subscriptions with what is held for each, through each change.
+use Rattle.std.proofs.Common.{◌≡◌, ◌<◌, ◌≤◌, ◌==◌, ℕ, Bool, true, false, cond, List, [], ◌∷◌, ◌++◌, length, get_or, refl, ap, sym, ◌∙◌, arith, Option, Some, None, zero, suc}
+use Rattle.std.specs.Prelude.{◌+◌, not, position, nat_lt, is_some}
+use Rattle.std.specs.List.{All, position_or_len}
+use Rattle.std.proofs.lemmas.Bool.Decides.{nat_tests}
+use Rattle.std.proofs.lemmas.List.Elements.{All-head, All-tail, All-nil, All-cons}
+use Rattle.std.proofs.lemmas.List.Sums.{sum_by-cons}
 use Rattle.jm_dest.specs.declared.key.Key.{Key}
 use Rattle.jm_dest.specs.Keys.{key_eq}
-use Rattle.jm_header.specs.declared.content.Content.{Content}
+use Rattle.jm_machine.specs.declared.state.PlacedRow.{PlacedRow}
 use Rattle.jm_machine.specs.declared.state.Station.{Station}
-use Rattle.jm_machine.specs.Life.{Life}
-use Rattle.jm_machine.specs.Machine.{State, station_of, at_key, publisher_of, offered, with_message, published}
-use Rattle.jm_core.specs.Steps.{published_stations}
+use Rattle.jm_machine.specs.Machine.{station_of, at_key, with_rows, without}
+use Rattle.jm_machine.specs.Wants.{holders_of, placed_rows, is_shared, is_next_shared}
+use Rattle.jm_stations.specs.Backlogs.{Backlog, HasMoreRoom, changed_at, received, holders_at, shared_message, copy_wanted, next_placed, placed_at}
+use Rattle.jm_sub.specs.Subscriptions as subs
+use Rattle.jm_sub.specs.Subscriptions.{Subscription}
+use Rattle.jm_core.specs.State.{station, stations_of, keys_of}
 
--- one element more of a front
-pub one_more : {A : Type 0} (i : ℕ) (xs : List A) (x : A) → i < length xs → x ≡ get_or xs i x → take i xs ++ x ∷ [] ≡ take (i + 1) xs
-one_more i xs x h e = ap (λ y. take i xs ++ y ∷ []) e ∙ sym (rw add-one (take-suc xs i x h))
-
--- the stations after one message more
-pub published_stations-push : (life : Life) (place : ℕ) (ms : List Content) (m : Content) (xs : List Station) →
-    published_stations life place (ms ++ m ∷ []) xs ≡ map (offered (publisher_of life m) m (place + length ms)) (published_stations life place ms xs)
-published_stations-push life place [] m xs = ap (λ n. map (offered (publisher_of life m) m n) xs) (sym (add-zero place))
-published_stations-push life place (l ∷ ms) m xs =
-    published_stations-push life (place + 1) ms m (map (offered (publisher_of life l) l place) xs)
-    ∙ ap (λ n. map (offered (publisher_of life m) m n) (published_stations life (place + 1) ms (map (offered (publisher_of life l) l place) xs))) (omega arith)
-
--- the state after messages is that of its stations, and as many places further
-pub published_is : (state : State) (ms : List Content) → published state ms ≡ record state { stations = published_stations state.life state.next_place ms state.stations; next_place = state.next_place + length ms }
-unfolding published
-published_is state [] = ap (λ n. record state { next_place = n }) (sym (add-zero state.next_place))
-published_is state (m ∷ ms) =
-    published_is (with_message state m) ms
-    ∙ ap (λ n. record state { stations = published_stations state.life (state.next_place + 1) ms (map (offered (publisher_of state.life m) m state.next_place) state.stations); next_place = n }) (omega arith)
-
--- a key that nothing is held under
-pub no_key : (k : Key) (f : Station → Station) (xs : List Station) → length xs ≤ position_or_len (λ x. key_eq x.key k) xs → (at_key k f xs ≡ xs) × (station_of k xs ≡ None)
-no_key k f [] h = (refl, refl)
-no_key k f (x ∷ xs) h = go (no_key k f xs) (key_eq x.key k) refl
+-- what an index that was looked for says
+pub found_at : {A : Type 0} (p : A → Bool) (xs : List A) (i : ℕ) → position p xs ≡ Some i → (position_or_len p xs ≡ i) × (i < length xs)
+found_at {A} p xs i h = go (position_or_len p xs) (length xs) (nat_lt (position_or_len p xs) (length xs)) refl h
   where
-    go : (length xs ≤ position_or_len (λ y. key_eq y.key k) xs → (at_key k f xs ≡ xs) × (station_of k xs ≡ None)) → (b : Bool) → key_eq x.key k ≡ b → (at_key k f (x ∷ xs) ≡ x ∷ xs) × (station_of k (x ∷ xs) ≡ None)
-    go i true e = absurd (omega (arith, rw e at h))
-    go i false e = let k' : length xs ≤ position_or_len (λ y. key_eq y.key k) xs = omega (arith, rw e at h) in let r = i k' in (rw e (ap (λ ys. x ∷ ys) r.0), rw e r.1)
+    go : (n m : ℕ) (b : Bool) → nat_lt n m ≡ b → cond b (Some n) None ≡ Some i → (n ≡ i) × (i < m)
+    go n m true e h = let same : n ≡ i = cc in (same, grind (arith, nat_tests))
+    go n m false e h = cc
 
--- a key's station, where it stands
-pub key_found : (k : Key) (f : Station → Station) (xs : List Station) (d : Station) (i : ℕ) → position_or_len (λ x. key_eq x.key k) xs ≡ i → i < length xs →
-    (at_key k f xs ≡ set xs i (f (get_or xs i d))) × (station_of k xs ≡ Some (get_or xs i d))
-key_found k f [] d i e h = absurd (omega arith)
-key_found k f (x ∷ xs) d zero e h = go (key_eq x.key k) refl
+pub found_none : {A : Type 0} (p : A → Bool) (xs : List A) → position p xs ≡ None → length xs ≤ position_or_len p xs
+found_none {A} p xs h = go (position_or_len p xs) (length xs) (nat_lt (position_or_len p xs) (length xs)) refl h
   where
-    go : (b : Bool) → key_eq x.key k ≡ b → (at_key k f (x ∷ xs) ≡ f x ∷ xs) × (station_of k (x ∷ xs) ≡ Some x)
+    go : (n m : ℕ) (b : Bool) → nat_lt n m ≡ b → cond b (Some n) None ≡ None → m ≤ n
+    go n m true e h = cc
+    go n m false e h = grind (arith, nat_tests)
+
+-- where nothing is found, nothing passes
+pub fails_all : {A : Type 0} (p : A → Bool) (xs : List A) → length xs ≤ position_or_len p xs → All (λ x. p x ≡ false) xs
+fails_all p [] h = All-nil (λ x. p x ≡ false)
+fails_all p (x ∷ xs) h = go (p x) refl (fails_all p xs)
+  where
+    go : (b : Bool) → p x ≡ b → (length xs ≤ position_or_len p xs → All (λ y. p y ≡ false) xs) → All (λ y. p y ≡ false) (x ∷ xs)
+    go true e rest = absurd (omega (arith, rw e at h))
+    go false e rest = All-cons (λ y. p y ≡ false) x xs e (rest (omega (arith, rw e at h)))
+
+pub length-keys : (ss : List Subscription) → length (keys_of ss) ≡ length ss
+length-keys [] = refl
+length-keys (s ∷ ss) = ap suc (length-keys ss)
+
+-- the rows of a backlog, changed
+abbrev pub with : (List PlacedRow → List PlacedRow) → Backlog → Backlog
+with g b = record b { rows = g b.rows }
+
+-- what stands under a key that is found
+pub key_found : (k : Key) (g : List PlacedRow → List PlacedRow) (ss : List Subscription) (bs : List Backlog) (d : Backlog) (i : ℕ) → length bs ≡ length ss → position_or_len (λ x. key_eq x k) (keys_of ss) ≡ i → i < length ss →
+    (at_key k (with_rows g) (stations_of ss bs) ≡ stations_of ss (changed_at i (with g) bs)) × (placed_rows (station_of k (stations_of ss bs)) ≡ (get_or bs i d).rows)
+key_found k g [] bs d i n e h = absurd (omega arith)
+key_found k g (s ∷ ss) [] d i n e h = absurd (omega arith)
+key_found k g (s ∷ ss) (b ∷ bs) d zero n e h = go (key_eq s.key k) refl
+  where
+    go : (t : Bool) → key_eq s.key k ≡ t → (at_key k (with_rows g) (stations_of (s ∷ ss) (b ∷ bs)) ≡ stations_of (s ∷ ss) (with g b ∷ bs)) × (placed_rows (station_of k (stations_of (s ∷ ss) (b ∷ bs))) ≡ b.rows)
     go true t = (rw t refl, rw t refl)
     go false t = absurd (omega (arith, rw t at e))
-key_found k f (x ∷ xs) d (suc i) e h = go (key_found k f xs d i) (key_eq x.key k) refl
+key_found k g (s ∷ ss) (b ∷ bs) d (suc i) n e h = go (key_eq s.key k) refl (key_found k g ss bs d i (omega arith))
   where
-    go : (position_or_len (λ y. key_eq y.key k) xs ≡ i → i < length xs → (at_key k f xs ≡ set xs i (f (get_or xs i d))) × (station_of k xs ≡ Some (get_or xs i d))) →
-        (b : Bool) → key_eq x.key k ≡ b → (at_key k f (x ∷ xs) ≡ x ∷ set xs i (f (get_or xs i d))) × (station_of k (x ∷ xs) ≡ Some (get_or xs i d))
-    go r true t = absurd (omega (arith, rw t at e))
-    go r false t =
-        let j : position_or_len (λ y. key_eq y.key k) xs ≡ i = omega (arith, rw t at e) in
-        let s = r j (omega arith) in
-        (rw t (ap (λ ys. x ∷ ys) s.0), rw t s.1)
+    go : (t : Bool) → key_eq s.key k ≡ t → (position_or_len (λ x. key_eq x k) (keys_of ss) ≡ i → i < length ss → (at_key k (with_rows g) (stations_of ss bs) ≡ stations_of ss (changed_at i (with g) bs)) × (placed_rows (station_of k (stations_of ss bs)) ≡ (get_or bs i d).rows)) →
+        (at_key k (with_rows g) (stations_of (s ∷ ss) (b ∷ bs)) ≡ station s b ∷ stations_of ss (changed_at i (with g) bs)) × (placed_rows (station_of k (stations_of (s ∷ ss) (b ∷ bs))) ≡ (get_or bs i d).rows)
+    go true t rest = absurd (omega (arith, rw t at e))
+    go false t rest =
+        let j : position_or_len (λ x. key_eq x k) (keys_of ss) ≡ i = omega (arith, rw t at e) in
+        let r = rest j (omega arith) in
+        (rw t (ap (λ ys. station s b ∷ ys) r.0), rw t r.1)
+
+-- a key that nothing stands under
+pub key_missing : (k : Key) (g : Station → Station) (ss : List Subscription) (bs : List Backlog) → All (λ x. key_eq x k ≡ false) (keys_of ss) →
+    (at_key k g (stations_of ss bs) ≡ stations_of ss bs) × (station_of k (stations_of ss bs) ≡ None) × (without k (stations_of ss bs) ≡ stations_of ss bs)
+key_missing k g [] bs h = (refl, refl, refl)
+key_missing k g (s ∷ ss) [] h = (refl, refl, refl)
+key_missing k g (s ∷ ss) (b ∷ bs) h =
+    let t : key_eq s.key k ≡ false = All-head (λ x. key_eq x k ≡ false) s.key (keys_of ss) h in
+    let r = key_missing k g ss bs (All-tail (λ x. key_eq x k ≡ false) s.key (keys_of ss) h) in
+    (rw t (ap (λ ys. station s b ∷ ys) r.0), rw t r.1, rw t (ap (λ ys. station s b ∷ ys) r.2))
+
+pub subscription_missing : (k : Key) (ss : List Subscription) → All (λ x. key_eq x k ≡ false) (keys_of ss) → subs.without k ss ≡ ss
+subscription_missing k [] h = refl
+subscription_missing k (s ∷ ss) h =
+    let t : key_eq s.key k ≡ false = All-head (λ x. key_eq x k ≡ false) s.key (keys_of ss) h in
+    rw t (ap (λ ys. s ∷ ys) (subscription_missing k ss (All-tail (λ x. key_eq x k ≡ false) s.key (keys_of ss) h)))
+
+-- a subscription more
+pub stations_push : (ss : List Subscription) (bs : List Backlog) (s : Subscription) (b : Backlog) → length bs ≡ length ss → stations_of (ss ++ s ∷ []) (bs ++ b ∷ []) ≡ stations_of ss bs ++ station s b ∷ []
+stations_push [] [] s b n = refl
+stations_push [] (x ∷ bs) s b n = absurd (omega arith)
+stations_push (y ∷ ss) [] s b n = absurd (omega arith)
+stations_push (y ∷ ss) (x ∷ bs) s b n = ap (λ ys. station y x ∷ ys) (stations_push ss bs s b (omega arith))
+
+-- more room
+room_tail : (x y : Backlog) (xs ys : List Backlog) → HasMoreRoom (x ∷ xs) (y ∷ ys) → HasMoreRoom xs ys
+room_tail x y xs ys h = record { number = omega (arith, h.number); same = λ k d l. h.same (suc k) d (omega (arith, l)); room = λ k d l. h.room (suc k) d (omega (arith, l)) }
+
+pub more_room : (ss : List Subscription) (xs ys : List Backlog) → HasMoreRoom xs ys → stations_of ss ys ≡ stations_of ss xs
+more_room [] xs ys h = refl
+more_room (s ∷ ss) [] [] h = refl
+more_room (s ∷ ss) [] (y ∷ ys) h = absurd (omega (arith, h.number))
+more_room (s ∷ ss) (x ∷ xs) [] h = absurd (omega (arith, h.number))
+more_room (s ∷ ss) (x ∷ xs) (y ∷ ys) h =
+    let rows = ap (λ (b : Backlog). b.rows) (h.same zero x (omega arith)) in
+    let rest = more_room ss xs ys (room_tail x y xs ys h) in
+    λ i. record { key = s.key; definition = s.definition; rows = rows i } ∷ rest i
+
+pub room_same : (xs : List Backlog) → HasMoreRoom xs xs
+room_same xs = record { number = refl; same = λ k d l. refl; room = λ k d l. omega arith }
+
+pub room_again : (xs ys zs : List Backlog) → HasMoreRoom xs ys → HasMoreRoom ys zs → HasMoreRoom xs zs
+room_again xs ys zs h g = record {
+  number = g.number ∙ h.number;
+  same = λ k d l.
+      let within : k < length ys = omega (arith, h.number, l) in
+      g.same k d within ∙ ap (λ (b : Backlog). record b { room = (get_or zs k d).room }) (h.same k d l);
+  room = λ k d l.
+      let within : k < length ys = omega (arith, h.number, l) in
+      let one = h.room k d l in
+      let two = g.room k d within in
+      omega (arith, one, two);
+}
+
+pub room_unlimited : (xs ys : List Backlog) → HasMoreRoom xs ys → All (λ (b : Backlog). b.limit ≡ None) xs → All (λ (b : Backlog). b.limit ≡ None) ys
+room_unlimited xs ys h u = λ k d l. let within : k < length xs = omega (arith, h.number, l) in ap (λ (b : Backlog). b.limit) (h.same k d within) ∙ u k d within
+
+-- a delivery
+pub length-changed : (i : ℕ) (f : Backlog → Backlog) (bs : List Backlog) → length (changed_at i f bs) ≡ length bs
+length-changed i f [] = refl
+length-changed zero f (b ∷ bs) = refl
+length-changed (suc i) f (b ∷ bs) = ap suc (length-changed i f bs)
+
+pub changed_unlimited : (i now : ℕ) (bs : List Backlog) → All (λ (b : Backlog). b.limit ≡ None) bs → All (λ (b : Backlog). b.limit ≡ None) (changed_at i (received now) bs)
+changed_unlimited i now [] u = u
+changed_unlimited zero now (b ∷ bs) u = All-cons (λ (x : Backlog). x.limit ≡ None) (received now b) bs (All-head (λ (x : Backlog). x.limit ≡ None) b bs u) (All-tail (λ (x : Backlog). x.limit ≡ None) b bs u)
+changed_unlimited (suc i) now (b ∷ bs) u = All-cons (λ (x : Backlog). x.limit ≡ None) b (changed_at i (received now) bs) (All-head (λ (x : Backlog). x.limit ≡ None) b bs u) (changed_unlimited i now bs (All-tail (λ (x : Backlog). x.limit ≡ None) b bs u))
+
+-- the rows at a place
+pub holders_same : (place : ℕ) (ss : List Subscription) (bs : List Backlog) → length bs ≡ length ss → holders_at place bs ≡ holders_of place (stations_of ss bs)
+holders_same place [] [] n = refl
+holders_same place [] (b ∷ bs) n = absurd (omega arith)
+holders_same place (s ∷ ss) [] n = absurd (omega arith)
+holders_same place (s ∷ ss) (b ∷ bs) n =
+    sum_by-cons (λ (x : Backlog). placed_at place x.rows) b bs
+    ∙ (λ i. placed_at place b.rows + holders_same place ss bs (omega arith) i)
+    ∙ sym (sum_by-cons (λ (x : Station). placed_at place x.rows) (station s b) (stations_of ss bs))
+
+shared_same : (ss : List Subscription) (bs : List Backlog) (o : Option PlacedRow) → length bs ≡ length ss → is_some (shared_message bs o) ≡ is_shared (stations_of ss bs) o
+shared_same ss bs None n = refl
+shared_same ss bs (Some x) n = go (holders_at x.place bs == 1) ∙ ap (λ h. not (h == 1)) (holders_same x.place ss bs n)
+  where
+    go : (b : Bool) → is_some (cond b None (Some x.row.message)) ≡ not b
+    go true = refl
+    go false = refl
+
+-- where a delivery wants a copy, the next row of the key is not the only one that holds its message
+pub copy_is_shared : (now : ℕ) (k : Key) (ss : List Subscription) (bs : List Backlog) (i : ℕ) (d : Backlog) → length bs ≡ length ss → position (λ x. key_eq x k) (keys_of ss) ≡ Some i →
+    is_some (copy_wanted now bs (get_or bs i d).rows) ≡ is_next_shared now (Some k) (stations_of ss bs)
+copy_is_shared now k ss bs i d n e =
+    let at = found_at (λ x. key_eq x k) (keys_of ss) i e in
+    let found = key_found k (λ rows. rows) ss bs d i n at.0 (omega (arith, at.1, length-keys ss)) in
+    shared_same ss bs (next_placed now (get_or bs i d).rows) n ∙ ap (λ rows. is_shared (stations_of ss bs) (next_placed now rows)) (sym found.1)

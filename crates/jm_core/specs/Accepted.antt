@@ -1,5 +1,5 @@
 -- What is held for a subscription was accepted by it.
-use Rattle.std.specs.Prelude.{◌≡◌, ℕ, ◌≤◌, true, List, [], ◌∷◌, map, Option, Ok}
+use Rattle.std.specs.Prelude.{◌≡◌, true, List, [], ◌∷◌, Option, Ok}
 use Rattle.jm_header.specs.declared.content.Content.{Content}
 use Rattle.jm_tree.specs.declared.tree.Tree.{Tree}
 use Rattle.jm_eval.specs.Evaluation.{Selects}
@@ -7,13 +7,8 @@ use Rattle.jm_eval.specs.Views.{view}
 use Rattle.jm_machine.specs.declared.state.Definition.{Definition}
 use Rattle.jm_machine.specs.declared.state.PlacedRow.{PlacedRow}
 use Rattle.jm_machine.specs.declared.state.Station.{Station}
-use Rattle.jm_machine.specs.Machine.{is_to, places_end}
+use Rattle.jm_machine.specs.Machine.{is_to}
 use Rattle.jm_machine.specs.Selectors.{selector_read}
-use Rattle.jm_sub.specs.Subscriptions.{Subscription}
-
--- a station without its rows
-abbrev pub subscription_of : Station → Subscription
-subscription_of x = record { key = x.key; definition = x.definition }
 
 -- the message goes to the topic, and the tree of the selector is TRUE for it, or there is no tree
 abbrev pub IsAccepted : Definition → Content → Type 0
@@ -28,10 +23,3 @@ AllAccepted d (x ∷ rows) = IsAccepted d x.row.message × AllAccepted d rows
 abbrev pub HoldsAccepted : List Station → Type 0
 HoldsAccepted [] = Unit {0}
 HoldsAccepted (x ∷ stations) = AllAccepted x.definition x.rows × HoldsAccepted stations
-
--- what every core keeps: the subscriptions with their trees are those of the stations, each row is
--- accepted, and the next place is within the limit
-pub record IsSound (subscriptions : List Subscription) (stations : List Station) (next_place : ℕ) : Type 0 where
-  pub same : subscriptions ≡ map subscription_of stations
-  pub accepted : HoldsAccepted stations
-  pub places : next_place ≤ places_end

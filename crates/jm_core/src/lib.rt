@@ -1,10 +1,13 @@
 //! The core of the provider: one state, changed one step at a time. Each step answers what the
-//! machine of `jm_machine` answers, or wants memory and changes nothing.
+//! machine of `jm_machine` answers, or wants memory and changes nothing. A step is prepared, which finds why it
+//! is refused and else takes all memory, and then made, which takes none.
 #![tactic(auto)]
 
-mod deliver;
+mod create;
+mod life;
 mod provider;
 mod publish;
+mod receive;
 mod run;
 mod state;
 
@@ -12,4 +15,4 @@ pub use jm_machine::{
     Answer, Call, ClientCall, ConnectionState, Consumer, Definition, Delivery, PlacedRow, Reply,
     Request, Row, SessionState, Station, Step, Who, copy_reply,
 };
-pub use provider::{Core, law_core_reached};
+pub use provider::{Core, law_core_reached, law_rows_in_order};

@@ -1,14 +1,15 @@
-ghost use Rattle.std.specs.Prelude.{◌≡◌, ◌≤◌, MatchResult, IfOk, OnErr};
+ghost use Rattle.std.specs.Prelude.{◌≡◌, ◌≤◌, length, MatchResult, IfOk, OnErr};
 ghost use Rattle.jm_base.specs.declared.refusal.Refusal.TheVariants.{OutOfRange};
 ghost use Rattle.jm_machine.specs.Machine as machine;
 ghost use Rattle.jm_machine.specs.Client.{Progress, begun, RunOwed};
 ghost use Rattle.jm_machine.specs.Isolation.{Reached};
 ghost use Rattle.jm_core.specs.Accepted.{HoldsAccepted};
+ghost use Rattle.jm_core.specs.Kept.{IsNumberOfMessages};
 ghost use Rattle.jm_core.specs.Steps.{StepFits};
 
 use crate::state::CoreState;
 use jm_base::Refusal;
-use jm_dest::Number;
+use jm_dest::{Key, Number};
 use jm_machine::{
     Answer, ClientCall, ConnectionState, Consumer, Reply, SessionState, Station, Step,
 };
@@ -17,9 +18,16 @@ use std::marker::Model;
 
 /// The provider. Contracts see it as the machine's state, and every core's state is one that the
 /// provider reaches.
-#[derive(Drop)]
 pub struct Core {
     state: CoreState,
+}
+
+// (by hand, so that a caller lets a core go by one call, on each of its ways out)
+impl Drop for Core {
+    fn drop(self) {
+        let Core { state } = self;
+        drop(state);
+    }
 }
 
 impl Model for Core {
@@ -41,6 +49,18 @@ pub fn law_core_reached(core: &Core)
     ensures { Reached core.now }
 {
     let _ = &core.state;
+}
+
+/// The law of what each core holds, proved; the function itself does nothing.
+///
+/// Each row was accepted: its message goes to the subscription's topic, and the tree of the subscription's
+/// selector is TRUE for it, or there is no selector. The rows of each subscription stand by place, below the
+/// next place.
+pub fn law_rows_in_order(core: &Core)
+    ensures accepted { HoldsAccepted core.now.stations }
+    ensures ordered { machine.AllInOrder core.now.next_place core.now.stations }
+{
+    core.state.law_accepted();
 }
 
 impl Core {
@@ -89,15 +109,26 @@ impl Core {
         self.state.consumers()
     }
 
-    /// The subscriptions with their rows, in order of creation. Each row was accepted: its message goes
-    /// to the subscription's topic, and the tree of the subscription's selector is TRUE for it, or there
-    /// is no selector. The rows of each stand by place, below the next place.
-    pub fn stations(&self) -> &[Station]
-        ensures stations { result.now ≡ self.now.stations }
-        ensures accepted { HoldsAccepted self.now.stations }
-        ensures ordered { machine.AllInOrder self.now.next_place self.now.stations }
+    /// How many subscriptions there are.
+    pub fn stations_len(&self) -> usize
+        ensures { result ≡ length self.now.stations }
     {
-        self.state.stations()
+        self.state.stations_len()
+    }
+
+    /// How many messages are held, each counted once, however many rows hold it.
+    pub fn kept(&self) -> usize
+        ensures { IsNumberOfMessages result self.now.stations }
+    {
+        self.state.kept()
+    }
+
+    /// A copy of the subscription of that key with its rows, where there is one. `AllocError` where a request
+    /// for memory was refused.
+    pub fn station(&self, key: &Key) -> Result<Option<Station>, AllocError>
+        ensures { IfOk result (λ station. station ≡ machine.station_of key.now self.now.stations) }
+    {
+        self.state.station(key)
     }
 
     /// The place of the next publication, from 1.
@@ -108,9 +139,10 @@ impl Core {
     }
 
     /// Makes one step. A refusal is the first cause that stands, in the order of `Refusal`, and leaves
-    /// the core as it was; so does `Memory`, which comes only to a call that takes memory: one that opens a
-    /// connection or a session, makes a consumer or publishes, and only where no other cause stands, or in
-    /// place of `InvalidSelector`. `Start`, `Stop` and `Receive` take none.
+    /// the core as it was; so does `Memory`, which comes only to a call that takes memory, and only where no
+    /// other cause stands, or in place of `InvalidSelector`. Memory is taken to open a connection or a session,
+    /// to make a consumer, to publish, and by a `Receive` whose message another subscription holds too, which
+    /// hands out a copy. Any other `Receive` takes none, nor do `Start` and `Stop`.
     pub fn step(&mut self, step: &Step) -> Result<Answer, Refusal>
         ensures { StepFits self.old step.now.who step.now.call result self.new }
     {

@@ -1,81 +1,104 @@
-//! Brings publications to the subscriptions that accept them.
+//! Publishes messages. A publication is prepared first, which finds where the message goes and takes all
+//! room, and then made, which takes no memory.
 
-ghost use Rattle.std.specs.Prelude.{◌≡◌, ◌+◌, ◌≤◌, length, map, slice_get, IfOk, OnOk, Some};
-ghost use Rattle.jm_machine.specs.Life.{Life};
-ghost use Rattle.jm_machine.specs.Machine.{Publisher, offered, places_end};
-ghost use Rattle.jm_core.specs.Accepted.{subscription_of};
-ghost use Rattle.jm_core.specs.Steps.{published_stations};
+ghost use Rattle.std.specs.Prelude.{◌≡◌, ◌≤◌, ◌<◌, ◌+◌, All, map, length, IfOk, IfErr, OnOk};
+ghost use Rattle.std.specs.List.{IsDistinct};
+ghost use Rattle.jm_base.specs.declared.refusal.Refusal.TheVariants.{Memory};
+ghost use Rattle.jm_dest.specs.Keys.{key_eq};
+ghost use Rattle.jm_machine.specs.Machine.{places_end};
+ghost use Rattle.jm_stations.specs.Backlogs.{HasMoreRoom, IsPublished};
+ghost use Rattle.jm_core.specs.State.{keys_of};
+ghost use Rattle.jm_core.specs.Publications.{IsReady, IsReserved, ArePublished};
 
+use jm_base::Refusal;
 use jm_header::Message;
-use jm_machine::{PlacedRow, Row, Station};
+use jm_stations::Stations;
 use jm_sub::Subs;
-use std::alloc::{AllocError, Global};
+use std::alloc::Global;
 
-/// Adds the message to the station, where the subscription that stands there accepts it.
-fn offer(
+/// A message that is to be published, and the indexes of the keys whose subscriptions accept it.
+#[derive(Drop)]
+pub(crate) struct Publication {
+    pub message: Message,
+    pub indexes: Vec<usize>,
+}
+
+/// Finds where the message goes, and makes room for that many more messages there.
+pub(crate) fn prepare_publication(
     subs: &Subs,
-    at: usize,
-    station: &mut Station,
-    message: &Message,
-    place: u64,
-) -> Result<(), AllocError>
-    requires { slice_get subs.now.list at ≡ Some (subscription_of station.old) }
-    ensures { (publisher : Publisher) → OnOk result (station.new ≡ offered publisher message.now place station.old) }
+    stations: &mut Stations,
+    message: Message,
+    additional: usize,
+) -> Result<Publication, Refusal>
+    requires same { keys_of subs.now.list ≡ stations.old.keys }
+    requires number { length stations.old.list ≡ length subs.now.list }
+    requires once { IsDistinct key_eq stations.old.keys }
+    ensures message { IfOk result (λ x. x.message ≡ message) }
+    ensures ready { IfOk result (λ x. IsReady additional subs.now.list stations.new.list x) }
+    ensures messages { OnOk result (additional ≤ stations.new.message_room) }
+    ensures err { IfErr result (λ refusal. refusal ≡ Memory) }
+    ensures keys { stations.new.keys ≡ stations.old.keys }
+    ensures list { HasMoreRoom stations.old.list stations.new.list }
+    ensures next_place { stations.new.next_place ≡ stations.old.next_place }
+    ensures room { stations.old.message_room ≤ stations.new.message_room }
 {
-    if subs.accepts_at(at, message) {
-        let row = Row {
-            message: message.copy()?,
-            count: 0,
-        };
-        station.rows.push(PlacedRow { place, row })?;
-    }
-    Ok(())
+    let keys = subs.accepting(&message)?;
+    let indexes = stations.indexes_of(&keys)?;
+    stations.reserve(&indexes, additional)?;
+    Ok(Publication { message, indexes })
 }
 
-/// Adds the message to each station whose subscription accepts it.
-fn offer_all(
-    subs: &Subs,
-    stations: &mut [Station],
-    message: &Message,
-    place: u64,
-) -> Result<(), AllocError>
-    requires { subs.now.list ≡ map subscription_of stations.old }
-    ensures { (publisher : Publisher) → OnOk result (stations.new ≡ map (offered publisher message.now place) stations.old) }
-{
-    for (at, station) in stations.iter_mut().enumerate() {
-        offer(subs, at, station, message, place)?;
-    }
-    Ok(())
-}
-
-/// Equal stations.
-pub(crate) fn copies(alloc: Global, stations: &[Station]) -> Result<Vec<Station>, AllocError>
-    ensures { IfOk result (λ copies. copies.items ≡ stations.now) }
-{
-    let mut copies = Vec::with_capacity(alloc, stations.len())?;
-    for station in stations {
-        copies.push(station.copy(alloc)?)?;
-    }
-    Ok(copies)
-}
-
-/// The stations after the messages are published, in order, the first at that place.
-pub(crate) fn published(
+/// Finds where copies of the messages go, and makes room for all of them there.
+pub(crate) fn prepare_publications(
     alloc: Global,
     subs: &Subs,
-    stations: &[Station],
+    stations: &mut Stations,
     messages: &[Message],
-    place: u64,
-) -> Result<Vec<Station>, AllocError>
-    requires places { place + length messages.now ≤ places_end }
-    requires same { subs.now.list ≡ map subscription_of stations.now }
-    ensures { (life : Life) → IfOk result (λ after. after.items ≡ published_stations life place messages.now stations.now) }
+) -> Result<Vec<Publication>, Refusal>
+    requires same { keys_of subs.now.list ≡ stations.old.keys }
+    requires number { length stations.old.list ≡ length subs.now.list }
+    requires once { IsDistinct key_eq stations.old.keys }
+    ensures messages { IfOk result (λ xs. map (λ x. x.message) xs.items ≡ messages.now) }
+    ensures ready { IfOk result (λ xs. All (IsReady (length messages.now) subs.now.list stations.new.list) xs.items) }
+    ensures room { OnOk result (length messages.now ≤ stations.new.message_room) }
+    ensures err { IfErr result (λ refusal. refusal ≡ Memory) }
+    ensures keys { stations.new.keys ≡ stations.old.keys }
+    ensures list { HasMoreRoom stations.old.list stations.new.list }
+    ensures next_place { stations.new.next_place ≡ stations.old.next_place }
 {
-    let mut after = copies(alloc, stations)?;
-    let mut at = place;
+    let mut publications = Vec::with_capacity(alloc, messages.len())?;
     for message in messages {
-        offer_all(subs, &mut after, message, at)?;
-        at += 1;
+        let copy = message.copy()?;
+        let publication = prepare_publication(subs, stations, copy, messages.len())?;
+        publications.push_reserved(publication);
     }
-    Ok(after)
+    Ok(publications)
+}
+
+/// Publishes a message: it takes the next place.
+pub(crate) fn make_publication(stations: &mut Stations, publication: Publication)
+    requires places { stations.old.next_place < places_end }
+    requires messages { 0 < stations.old.message_room }
+    requires reserved { IsReserved 1 stations.old.list publication.indexes.items }
+    ensures keys { stations.new.keys ≡ stations.old.keys }
+    ensures list { IsPublished publication.indexes.items stations.old.next_place publication.message stations.old.list stations.new.list }
+    ensures next_place { stations.new.next_place ≡ stations.old.next_place + 1 }
+    ensures room { stations.old.message_room ≤ stations.new.message_room + 1 }
+{
+    let Publication { message, indexes } = publication;
+    stations.publish(message, &indexes);
+}
+
+/// Publishes the messages in turn, each at a place of its own.
+pub(crate) fn make_publications(stations: &mut Stations, publications: Vec<Publication>)
+    requires places { stations.old.next_place + length publications.items ≤ places_end }
+    requires messages { length publications.items ≤ stations.old.message_room }
+    requires reserved { All (λ (x : Publication). IsReserved (length publications.items) stations.old.list x.indexes.items) publications.items }
+    ensures keys { stations.new.keys ≡ stations.old.keys }
+    ensures list { ArePublished publications.items stations.old.next_place stations.old.list stations.new.list }
+    ensures next_place { stations.new.next_place ≡ stations.old.next_place + length publications.items }
+{
+    for publication in publications {
+        make_publication(stations, publication);
+    }
 }

@@ -1,26 +1,17 @@
 //! Runs lists of client calls.
 
 ghost use Rattle.std.specs.Prelude.{◌≡◌, ◌+◌, ◌≤◌, ◌<◌, IfOk, OnErr};
-ghost use Rattle.std.specs.HashMap.{spare};
 ghost use Rattle.jm_machine.specs.Client.{Progress, begun, stamp_of, CallOwed, RunOwed};
-ghost use Rattle.jm_core.specs.Runs.{sent_of, progress};
+ghost use Rattle.jm_session.specs.Sends.{room};
+ghost use Rattle.jm_core.specs.Runs.{progress};
 
 use crate::state::CoreState;
 use jm_base::Refusal;
 use jm_dest::{Destination, Moment, SessionId};
 use jm_header::{Draft, Message, Sender, stamp};
 use jm_machine::{Answer, ClientCall, Reply};
+use jm_session::Sends;
 use std::alloc::AllocError;
-use std::collections::HashMap;
-
-/// The number of each session's newest stamped send.
-type Sends = HashMap<SessionId, u64>;
-
-fn sent_by(sends: &Sends, session: &SessionId) -> u64
-    ensures { result ≡ sent_of sends.now session.now }
-{
-    sends.get(session).copied().unwrap_or(0)
-}
 
 impl CoreState {
     /// The message of the session's next send, or why it is not stamped.
@@ -37,7 +28,7 @@ impl CoreState {
         if !self.is_open_session(session) {
             return Err(Refusal::IllegalState);
         }
-        match sent_by(sends, session).checked_add(1) {
+        match sends.next_number(session) {
             None => Err(Refusal::OutOfRange),
             Some(number) => {
                 let sender = Sender {
@@ -58,32 +49,29 @@ impl CoreState {
         destination: Destination,
         now: Moment,
     ) -> Result<Answer, Refusal>
-        requires { 0 < spare sends.old }
+        requires { 0 < room sends.old }
         ensures owed { CallOwed (progress self.old sends.old) (ClientCall.Send session.now draft destination now) result (progress self.new sends.new) }
-        ensures spare { spare sends.old ≤ spare sends.new + 1 }
+        ensures room { room sends.old ≤ room sends.new + 1 }
     {
         match self.stamp_next(sends, session, draft, destination, now) {
             Err(refusal) => Err(refusal),
             Ok(message) => {
                 let number = message.number();
-                match sends.insert(*session, number) {
+                match sends.count(session) {
                     Err(_) => Err(Refusal::Memory),
-                    Ok(_) => {
-                        let messages = [message];
-                        match self.publish_from(session, &messages) {
-                            Ok(()) => Ok(Answer::Sent(number)),
-                            Err(refusal) => Err(refusal),
-                        }
-                    }
+                    Ok(()) => match self.publish_one_from(session, message) {
+                        Ok(()) => Ok(Answer::Sent(number)),
+                        Err(refusal) => Err(refusal),
+                    },
                 }
             }
         }
     }
 
     fn answer(&mut self, sends: &mut Sends, call: ClientCall) -> Result<Answer, Refusal>
-        requires { 0 < spare sends.old }
+        requires { 0 < room sends.old }
         ensures owed { CallOwed (progress self.old sends.old) call result (progress self.new sends.new) }
-        ensures spare { spare sends.old ≤ spare sends.new + 1 }
+        ensures room { room sends.old ≤ room sends.new + 1 }
     {
         match call {
             ClientCall::Ask { who, request } => self.ask(who, &request),
@@ -104,7 +92,7 @@ impl CoreState {
     {
         let alloc = self.alloc();
         let mut replies = Vec::with_capacity(alloc, calls.len())?;
-        let mut sends = HashMap::with_capacity(alloc, calls.len())?;
+        let mut sends = Sends::with_capacity(alloc, calls.len())?;
         for call in calls {
             replies.push_reserved(self.answer(&mut sends, call));
         }

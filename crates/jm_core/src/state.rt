@@ -1,56 +1,67 @@
-ghost use Rattle.std.specs.Prelude.{◌≡◌, ◌≢◌, ◌+◌, ◌≤◌, ◌==◌, ◌&&◌, is_some, length, map, vec_len, vec_capacity, MatchResult, IfOk, IfErr, OnOk, OnErr, Some, None, if◌then◌else◌};
+//! What the core holds, and each call on it.
+
+ghost use Rattle.std.specs.Prelude.{◌≡◌, ◌≢◌, ◌+◌, ◌≤◌, ◌&&◌, [], ◌∷◌, nat_le, is_some, length, MatchResult, IfOk, IfErr, OnOk, OnErr, Some, None};
 ghost use Rattle.jm_base.specs.declared.refusal.Refusal.TheVariants.{OutOfRange, Memory};
+ghost use Rattle.jm_header.specs.declared.content.Content.{Content};
 ghost use Rattle.jm_machine.specs.Life as life;
 ghost use Rattle.jm_machine.specs.Machine as machine;
-ghost use Rattle.jm_machine.specs.Selectors.{selector_refusal};
-ghost use Rattle.jm_core.specs.Accepted.{HoldsAccepted, subscription_of};
+ghost use Rattle.jm_core.specs.Accepted.{HoldsAccepted};
+ghost use Rattle.jm_core.specs.Kept.{IsNumberOfMessages};
 ghost use Rattle.jm_core.specs.Steps.{StepFits, PublishFits};
 
-use crate::deliver::deliver_from;
-use crate::publish::{copies, published};
+use crate::create::{make_create, prepare_create};
+use crate::life::{make_open, make_session, prepare_open, prepare_session};
+use crate::publish::{
+    make_publication, make_publications, prepare_publication, prepare_publications,
+};
+use crate::receive::{make_delivery, prepare_delivery, receiving_key};
 use jm_base::{List, Mode, Refusal, Str};
 use jm_dest::{ConnectionId, ConsumerId, Key, Moment, Name, Number, SessionId};
 use jm_header::Message;
-use jm_machine::find::{
-    connection_of, consumer_of, is_started, mode_of, same_session, session_of, set_started,
-};
+use jm_machine::find::same_session;
 use jm_machine::{
     Answer, Call, ConnectionState, Consumer, Request, SessionState, Station, Step, Who,
 };
+use jm_session::Sessions;
+use jm_stations::Stations;
 use jm_sub::Subs;
 use std::alloc::{AllocError, Global};
 use std::marker::Model;
 
-/// What the core holds. Contracts see it as the machine's state. The subscriptions of `subs`, each with
-/// the tree of its selector, are those of `stations`, in the same order; and each row is accepted by the
-/// subscription that holds it.
+/// What the core holds. Contracts see it as the machine's state: the stations are the subscriptions, each
+/// with what is held under its key.
 #[derive(Drop)]
 pub(crate) struct CoreState {
     alloc: Global,
     opening: Number,
-    connections: Vec<ConnectionState>,
-    sessions: Vec<SessionState>,
-    consumers: Vec<Consumer>,
+    sessions: Sessions,
     subs: Subs,
-    stations: Vec<Station>,
-    next_place: u64,
+    stations: Stations,
 }
 
 impl Model for CoreState {
     ghost use Rattle.jm_machine.specs.Machine.{State};
-    ghost use Rattle.jm_core.specs.Accepted.{IsSound};
+    ghost use Rattle.jm_core.specs.State.{IsSound, stations_of};
 
     ghost Value = { State };
 
     ghost view = { λ c. record {
       opening = c.opening;
-      life = record { connections = c.connections.items; sessions = c.sessions.items };
-      consumers = c.consumers.items;
-      stations = c.stations.items;
-      next_place = c.next_place;
+      life = c.sessions.life;
+      consumers = c.sessions.consumers;
+      stations = stations_of c.subs.list c.stations.list;
+      next_place = c.stations.next_place;
     } };
 
-    ghost invariant = { λ c. IsSound c.subs.list c.stations.items c.next_place };
+    ghost invariant = { λ c. IsSound c.sessions.consumers c.subs.list c.stations.keys c.stations.list c.stations.next_place };
+}
+
+/// Whether the message was stamped by this session in this opening.
+fn is_stamped_by(opening: Number, session: &SessionId, message: &Message) -> bool
+    ensures { result ≡ machine.is_stamped opening session.now (message.now ∷ []) }
+{
+    let sender = message.sender();
+    sender.opening == opening && same_session(&sender.session, session)
 }
 
 /// Whether each message was stamped by this session in this opening.
@@ -63,25 +74,6 @@ fn is_stamped(opening: Number, session: &SessionId, messages: &[Message]) -> boo
     })
 }
 
-fn copy_consumers(alloc: Global, consumers: &[Consumer]) -> Result<Vec<Consumer>, AllocError>
-    ensures { IfOk result (λ copies. copies.items ≡ consumers.now) }
-{
-    let mut copies = Vec::with_capacity(alloc, consumers.len())?;
-    for consumer in consumers {
-        copies.push(consumer.copy()?)?;
-    }
-    Ok(copies)
-}
-
-/// The stations without what is held under the key.
-fn remove_key(stations: &mut Vec<Station>, key: &Key)
-    ensures stations { stations.new.items ≡ machine.without key.now stations.old.items }
-    ensures bound { vec_len stations.new ≤ vec_len stations.old }
-    ensures capacity { vec_capacity stations.new ≡ vec_capacity stations.old }
-{
-    stations.retain(|station| !station.key.is(key));
-}
-
 impl CoreState {
     /// A core that holds nothing, in that opening of the provider. `OutOfRange` exactly where the
     /// number is 0.
@@ -92,17 +84,12 @@ impl CoreState {
         Ok(CoreState {
             alloc,
             opening,
-            connections: Vec::new(alloc),
-            sessions: Vec::new(alloc),
-            consumers: Vec::new(alloc),
+            sessions: Sessions::new(alloc),
             subs: Subs::new(alloc),
-            stations: Vec::new(alloc),
-            next_place: 1,
+            stations: Stations::new(alloc),
         })
     }
-}
 
-impl CoreState {
     pub(crate) fn alloc(&self) -> Global {
         self.alloc
     }
@@ -118,58 +105,84 @@ impl CoreState {
     pub(crate) fn connections(&self) -> &[ConnectionState]
         ensures { result.now ≡ self.now.life.connections }
     {
-        self.connections.as_slice()
+        self.sessions.connections()
     }
 
     /// The sessions that were opened, in order.
     pub(crate) fn sessions(&self) -> &[SessionState]
         ensures { result.now ≡ self.now.life.sessions }
     {
-        self.sessions.as_slice()
+        self.sessions.sessions()
     }
 
     /// The consumers that were made, in order.
     pub(crate) fn consumers(&self) -> &[Consumer]
         ensures { result.now ≡ self.now.consumers }
     {
-        self.consumers.as_slice()
-    }
-
-    /// The subscriptions with their rows, in order of creation.
-    pub(crate) fn stations(&self) -> &[Station]
-        ensures stations { result.now ≡ self.now.stations }
-        ensures accepted { HoldsAccepted self.now.stations }
-    {
-        self.stations.as_slice()
+        self.sessions.consumers()
     }
 
     /// The place of the next publication, from 1.
     pub(crate) fn next_place(&self) -> u64
         ensures { result ≡ self.now.next_place }
     {
-        self.next_place
+        self.stations.next_place()
     }
 
     /// An equal core. `AllocError` where a request for memory was refused.
     pub(crate) fn copy(&self) -> Result<CoreState, AllocError>
         ensures { IfOk result (λ copy. copy ≡ self.now) }
     {
-        let alloc = self.alloc;
-        let connections = Vec::from_slice(alloc, &self.connections)?;
-        let sessions = Vec::from_slice(alloc, &self.sessions)?;
-        let consumers = copy_consumers(alloc, &self.consumers)?;
+        let sessions = self.sessions.copy()?;
         let subs = self.subs.copy()?;
-        let stations = copies(alloc, &self.stations)?;
+        let stations = self.stations.copy()?;
         Ok(CoreState {
-            alloc,
+            alloc: self.alloc,
             opening: self.opening,
-            connections,
             sessions,
-            consumers,
             subs,
             stations,
-            next_place: self.next_place,
         })
+    }
+
+    /// How many subscriptions there are.
+    pub(crate) fn stations_len(&self) -> usize
+        ensures { result ≡ length self.now.stations }
+    {
+        self.subs.len()
+    }
+
+    /// How many messages are held, each counted once.
+    pub(crate) fn kept(&self) -> usize
+        ensures { IsNumberOfMessages result self.now.stations }
+    {
+        self.stations.kept()
+    }
+
+    /// A copy of the subscription of the key with its rows, where there is one. `AllocError` where a request
+    /// for memory was refused.
+    pub(crate) fn station(&self, key: &Key) -> Result<Option<Station>, AllocError>
+        ensures { IfOk result (λ station. station ≡ machine.station_of key.now self.now.stations) }
+    {
+        match self.stations.index_of(key) {
+            None => Ok(None),
+            Some(index) => {
+                let definition = self.subs.definition_at(index).copy()?;
+                let rows = self.stations.rows_of(index)?;
+                Ok(Some(Station {
+                    key: key.copy()?,
+                    definition,
+                    rows: List::new(rows),
+                }))
+            }
+        }
+    }
+
+    /// Each row is accepted by the subscription that holds it; the function itself does nothing.
+    pub(crate) fn law_accepted(&self)
+        ensures { HoldsAccepted self.now.stations }
+    {
+        let _ = &self.stations;
     }
 
     /// Makes one step, as `Core::step` says.
@@ -207,108 +220,53 @@ impl CoreState {
         }
     }
 
-    fn is_used_connection(&self, id: ConnectionId) -> bool
-        ensures { result ≡ is_some (life.connection_of self.now.life.connections id) }
-    {
-        connection_of(&self.connections, id).is_some()
-    }
-
-    fn is_started(&self, id: ConnectionId) -> bool
-        ensures { result ≡ life.is_started self.now.life id }
-    {
-        is_started(&self.connections, id)
-    }
-
     pub(crate) fn is_open_session(&self, id: &SessionId) -> bool
         ensures { result ≡ is_some (life.mode_of self.now.life id.now) }
     {
-        mode_of(&self.sessions, id).is_some()
+        self.sessions.is_open(id)
     }
 
-    fn is_new_session(&self, id: &SessionId) -> bool
-        ensures { result ≡ life.is_new_session self.now.life id.now }
+    /// Whether places are left for that many messages.
+    fn has_places(&self, number: usize) -> bool
+        ensures { result ≡ nat_le (self.now.next_place + number) machine.places_end }
     {
-        self.is_used_connection(id.connection) && session_of(&self.sessions, id).is_none()
+        number as u64 <= 9_223_372_036_854_775_808 - self.stations.next_place()
     }
 
-    fn has_consumer(&self, session: &SessionId, id: ConsumerId) -> bool
-        ensures { result ≡ is_some (machine.consumer_of self.now.consumers session.now id) }
-    {
-        consumer_of(&self.consumers, session, id).is_some()
-    }
-
-    fn may_begin(&self, session: &SessionId, id: ConsumerId) -> bool
-        ensures { result ≡ machine.may_begin self.now.life self.now.consumers session.now id }
-    {
-        self.is_open_session(session) && !self.has_consumer(session, id)
-    }
-
-    fn may_publish(&self, session: &SessionId, messages: &[Message]) -> bool
-        ensures { result ≡ (is_some (life.mode_of self.now.life session.now) && machine.is_stamped self.now.opening session.now messages.now) }
-    {
-        self.is_open_session(session) && is_stamped(self.opening, session, messages)
-    }
-
-    /// Whether places are left for the messages.
-    fn has_places(&self, messages: &[Message]) -> bool
-        ensures { result ≡ machine.has_places self.now.next_place messages.now }
-    {
-        messages.len() as u64 <= 9_223_372_036_854_775_808 - self.next_place
-    }
-
-    #[tactic(auto, unfolding(jm_machine::specs::Machine::refusal, jm_machine::specs::Machine::reply, jm_machine::specs::Machine::step, jm_machine::specs::Machine::after, jm_machine::specs::Machine::answer, jm_machine::specs::Life::life_after, jm_machine::specs::Wants::may_want))]
+    #[tactic(auto, unfolding(jm_machine::specs::Machine::refusal, jm_machine::specs::Machine::reply, jm_machine::specs::Machine::step, jm_machine::specs::Machine::after, jm_machine::specs::Machine::answer, jm_machine::specs::Wants::may_want))]
     fn open(&mut self, id: ConnectionId) -> Result<Answer, Refusal>
         ensures { StepFits self.old (Who.Connection id) (Call.Ask Request.Open) result self.new }
     {
-        if self.is_used_connection(id) {
-            return Err(Refusal::IllegalState);
-        }
-        let connection = ConnectionState {
-            id,
-            is_started: false,
-        };
-        match self.connections.push(connection) {
-            Ok(()) => Ok(Answer::Done),
-            Err(_) => Err(Refusal::Memory),
-        }
+        prepare_open(&mut self.sessions, id)?;
+        make_open(&mut self.sessions, id);
+        Ok(Answer::Done)
     }
 
-    #[tactic(auto, unfolding(jm_machine::specs::Machine::refusal, jm_machine::specs::Machine::reply, jm_machine::specs::Machine::step, jm_machine::specs::Machine::after, jm_machine::specs::Machine::answer, jm_machine::specs::Life::life_after))]
+    #[tactic(auto, unfolding(jm_machine::specs::Machine::refusal, jm_machine::specs::Machine::reply, jm_machine::specs::Machine::step, jm_machine::specs::Machine::after, jm_machine::specs::Machine::answer))]
     fn start(&mut self, id: ConnectionId) -> Result<Answer, Refusal>
         ensures { StepFits self.old (Who.Connection id) (Call.Ask Request.Start) result self.new }
     {
-        if !self.is_used_connection(id) {
-            return Err(Refusal::IllegalState);
-        }
-        set_started(&mut self.connections, id, true);
+        self.sessions.start(id)?;
         Ok(Answer::Done)
     }
 
-    #[tactic(auto, unfolding(jm_machine::specs::Machine::refusal, jm_machine::specs::Machine::reply, jm_machine::specs::Machine::step, jm_machine::specs::Machine::after, jm_machine::specs::Machine::answer, jm_machine::specs::Life::life_after))]
+    #[tactic(auto, unfolding(jm_machine::specs::Machine::refusal, jm_machine::specs::Machine::reply, jm_machine::specs::Machine::step, jm_machine::specs::Machine::after, jm_machine::specs::Machine::answer))]
     fn stop(&mut self, id: ConnectionId) -> Result<Answer, Refusal>
         ensures { StepFits self.old (Who.Connection id) (Call.Ask Request.Stop) result self.new }
     {
-        if !self.is_used_connection(id) {
-            return Err(Refusal::IllegalState);
-        }
-        set_started(&mut self.connections, id, false);
+        self.sessions.stop(id)?;
         Ok(Answer::Done)
     }
 
-    #[tactic(auto, unfolding(jm_machine::specs::Machine::refusal, jm_machine::specs::Machine::reply, jm_machine::specs::Machine::step, jm_machine::specs::Machine::after, jm_machine::specs::Machine::answer, jm_machine::specs::Life::life_after, jm_machine::specs::Wants::may_want))]
+    #[tactic(auto, unfolding(jm_machine::specs::Machine::refusal, jm_machine::specs::Machine::reply, jm_machine::specs::Machine::step, jm_machine::specs::Machine::after, jm_machine::specs::Machine::answer, jm_machine::specs::Wants::may_want))]
     fn create_session(&mut self, id: &SessionId, mode: Mode) -> Result<Answer, Refusal>
         ensures { StepFits self.old (Who.Session id.now) (Call.Ask (Request.CreateSession mode)) result self.new }
     {
-        if !self.is_new_session(id) {
-            return Err(Refusal::IllegalState);
-        }
-        match self.sessions.push(SessionState { id: *id, mode }) {
-            Ok(()) => Ok(Answer::Done),
-            Err(_) => Err(Refusal::Memory),
-        }
+        prepare_session(&mut self.sessions, id)?;
+        make_session(&mut self.sessions, id, mode);
+        Ok(Answer::Done)
     }
 
-    #[tactic(auto, unfolding(jm_machine::specs::Machine::refusal, jm_machine::specs::Machine::reply, jm_machine::specs::Machine::step, jm_machine::specs::Machine::after, jm_machine::specs::Machine::answer, jm_machine::specs::Life::life_after))]
     fn create_consumer(
         &mut self,
         session: &SessionId,
@@ -318,51 +276,26 @@ impl CoreState {
     ) -> Result<Answer, Refusal>
         ensures { StepFits self.old (Who.Session session.now) (Call.Ask (Request.CreateConsumer id topic.now selector.now)) result self.new }
     {
-        if !self.may_begin(session, id) {
-            return Err(Refusal::IllegalState);
-        }
-        match self.subscribe(session, id, topic, selector) {
-            Ok(()) => Ok(Answer::Done),
-            Err(refusal) => Err(refusal),
-        }
-    }
-
-    /// Adds the consumer with an empty subscription of its own. A refused selector gives its refusal.
-    fn subscribe(
-        &mut self,
-        session: &SessionId,
-        id: ConsumerId,
-        topic: &Name,
-        selector: &Option<Str>,
-    ) -> Result<(), Refusal>
-        ensures ok { OnOk result (self.new ≡ machine.joined session.now id (Key.Own session.now id) (machine.put (Key.Own session.now id) (machine.defined topic.now selector.now) self.old)) }
-        ensures valid { OnOk result (selector_refusal selector.now ≡ None) }
-        ensures refused { IfErr result (λ refusal. refusal ≢ Memory → selector_refusal selector.now ≡ Some refusal) }
-        ensures err { OnErr result (self.new ≡ self.old) }
-    {
-        let decision = self
-            .subs
-            .decide_create(Key::Own(*session, id), topic, selector)?;
-        let definition = decision.definition().copy()?;
-        self.consumers.reserve(1)?;
-        self.stations.reserve(1)?;
-        let key = Key::Own(*session, id);
-        remove_key(&mut self.stations, &key);
-        self.subs.apply(decision);
-        self.stations.push_reserved(Station {
-            key: Key::Own(*session, id),
-            definition,
-            rows: List::new(Vec::new(self.alloc)),
-        });
-        self.consumers.push_reserved(Consumer {
-            session: *session,
+        let decision = prepare_create(
+            &mut self.sessions,
+            &mut self.subs,
+            &mut self.stations,
+            session,
             id,
-            key,
-        });
-        Ok(())
+            topic,
+            selector,
+        )?;
+        make_create(
+            &mut self.sessions,
+            &mut self.subs,
+            &mut self.stations,
+            session,
+            id,
+            decision,
+        );
+        Ok(Answer::Done)
     }
 
-    #[tactic(auto, unfolding(jm_machine::specs::Machine::refusal, jm_machine::specs::Machine::reply, jm_machine::specs::Machine::step, jm_machine::specs::Machine::after, jm_machine::specs::Machine::answer, jm_machine::specs::Life::life_after))]
     fn receive(
         &mut self,
         session: &SessionId,
@@ -371,19 +304,9 @@ impl CoreState {
     ) -> Result<Answer, Refusal>
         ensures { StepFits self.old (Who.Session session.now) (Call.Ask (Request.Receive id now)) result self.new }
     {
-        if !self.is_open_session(session) {
-            return Err(Refusal::IllegalState);
-        }
-        match consumer_of(&self.consumers, session, id) {
-            None => Err(Refusal::IllegalState),
-            Some(consumer) => {
-                if !is_started(&self.connections, session.connection) {
-                    return Ok(Answer::Nothing);
-                }
-                let answer = deliver_from(self.alloc, &mut self.stations, &consumer.key, now);
-                Ok(answer)
-            }
-        }
+        let key = receiving_key(&self.sessions, session, id)?;
+        let taking = prepare_delivery(&self.stations, key, now)?;
+        Ok(make_delivery(&mut self.stations, taking, now))
     }
 
     #[tactic(auto, unfolding(jm_machine::specs::Machine::publish_refusal, jm_machine::specs::Machine::reply, jm_machine::specs::Machine::step))]
@@ -399,42 +322,64 @@ impl CoreState {
         }
     }
 
-    /// Publishes messages that the session stamped.
+    /// Publishes copies of messages that the session stamped.
     #[tactic(auto, unfolding(jm_machine::specs::Machine::publish_refusal, jm_machine::specs::Machine::reply, jm_machine::specs::Machine::step, jm_machine::specs::Wants::may_want))]
-    pub(crate) fn publish_from(
-        &mut self,
-        session: &SessionId,
-        messages: &[Message],
-    ) -> Result<(), Refusal>
+    fn publish_from(&mut self, session: &SessionId, messages: &[Message]) -> Result<(), Refusal>
         ensures { PublishFits self.old session.now messages.now result self.new }
     {
-        if !self.may_publish(session, messages) {
+        if !(self.is_open_session(session) && is_stamped(self.opening, session, messages)) {
             return Err(Refusal::IllegalState);
         }
-        if !self.has_places(messages) {
+        if !self.has_places(messages.len()) {
             return Err(Refusal::Exhausted);
         }
-        match self.publish(messages) {
-            Ok(()) => Ok(()),
-            Err(_) => Err(Refusal::Memory),
-        }
+        self.publish(messages)
     }
 
-    /// Brings the messages to the subscriptions that accept them, each at a place of its own.
-    fn publish(&mut self, messages: &[Message]) -> Result<(), AllocError>
+    /// Publishes a message that the session stamped.
+    #[tactic(auto, unfolding(jm_machine::specs::Machine::publish_refusal, jm_machine::specs::Machine::reply, jm_machine::specs::Machine::step, jm_machine::specs::Wants::may_want))]
+    pub(crate) fn publish_one_from(
+        &mut self,
+        session: &SessionId,
+        message: Message,
+    ) -> Result<(), Refusal>
+        ensures { PublishFits self.old session.now (message ∷ []) result self.new }
+    {
+        if !(self.is_open_session(session) && is_stamped_by(self.opening, session, &message)) {
+            return Err(Refusal::IllegalState);
+        }
+        if !self.has_places(1) {
+            return Err(Refusal::Exhausted);
+        }
+        self.publish_one(message)
+    }
+
+    /// Brings copies of the messages to the subscriptions that accept them, each at a place of its own.
+    fn publish(&mut self, messages: &[Message]) -> Result<(), Refusal>
         requires { self.old.next_place + length messages.now ≤ machine.places_end }
         ensures ok { OnOk result (self.new ≡ machine.published self.old messages.now) }
+        ensures refused { IfErr result (λ refusal. refusal ≡ Memory) }
         ensures err { OnErr result (self.new ≡ self.old) }
     {
-        let stations = published(
+        let publications = prepare_publications(
             self.alloc,
             &self.subs,
-            &self.stations,
+            &mut self.stations,
             messages,
-            self.next_place,
         )?;
-        self.stations = stations;
-        self.next_place += messages.len() as u64;
+        make_publications(&mut self.stations, publications);
+        Ok(())
+    }
+
+    /// Brings the message to the subscriptions that accept it, at the next place.
+    fn publish_one(&mut self, message: Message) -> Result<(), Refusal>
+        requires { self.old.next_place + 1 ≤ machine.places_end }
+        ensures ok { OnOk result (self.new ≡ machine.published self.old (message ∷ [])) }
+        ensures refused { IfErr result (λ refusal. refusal ≡ Memory) }
+        ensures err { OnErr result (self.new ≡ self.old) }
+    {
+        let publication = prepare_publication(&self.subs, &mut self.stations, message, 1)?;
+        make_publication(&mut self.stations, publication);
         Ok(())
     }
 }

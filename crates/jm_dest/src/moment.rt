@@ -1,5 +1,6 @@
-ghost use Rattle.std.specs.Prelude.{◌≡◌, ◌<◌, ◌^◌, ◌<ℤ◌, pos, MatchResult};
+ghost use Rattle.std.specs.Prelude.{◌≡◌, ◌<◌, ◌<ℤ◌, pos, MatchResult};
 ghost use Rattle.jm_base.specs.declared.refusal.Refusal.TheVariants.{OutOfRange};
+ghost use Rattle.jm_dest.specs.Numbers.{long_end};
 
 use jm_base::Refusal;
 use std::marker::Model;
@@ -11,8 +12,9 @@ pub struct Moment {
 }
 
 impl Model for Moment {
-    ghost use Rattle.std.specs.Prelude.{ℕ, ◌<◌, ◌^◌};
+    ghost use Rattle.std.specs.Prelude.{ℕ, ◌<◌};
     ghost use Rattle.std.specs.Coded.{coded_ℕ};
+    ghost use Rattle.jm_dest.specs.Numbers.{long_end};
 
     ghost Value = { ℕ };
 
@@ -20,7 +22,7 @@ impl Model for Moment {
 
     ghost view = { λ m. m.milliseconds };
 
-    ghost invariant = { λ m. m.milliseconds < 2 ^ 63 };
+    ghost invariant = { λ m. m.milliseconds < long_end };
 
     ghost inverse = { λ n. record { milliseconds = n } };
 }
@@ -41,7 +43,7 @@ impl Moment {
     /// The milliseconds.
     pub fn get(self) -> u64
         ensures value { result ≡ self }
-        ensures in_range { result < 2 ^ 63 }
+        ensures in_range { result < long_end }
     {
         self.milliseconds
     }

@@ -8,7 +8,7 @@ use std::alloc::{AllocError, Global};
 use std::marker::Model;
 
 /// A name of 1 to 255 bytes of UTF-8, none below 0x20 and none 0x7F (ours).
-#[derive(Debug, PartialEq, Eq, Drop)]
+#[derive(Debug, PartialEq, Eq, Hash, Drop)]
 pub struct Name {
     text: Str,
 }
@@ -76,7 +76,7 @@ impl Name {
 }
 
 /// The client identifier of a connection (Jakarta Messaging 3.1, section 6.1.2): a name.
-#[derive(Debug, PartialEq, Eq, Drop)]
+#[derive(Debug, PartialEq, Eq, Hash, Drop)]
 pub struct ClientId {
     identifier: Name,
 }
@@ -123,7 +123,7 @@ impl ClientId {
 }
 
 /// The name of a durable or shared subscription (Jakarta Messaging 3.1, section 4.2): a name.
-#[derive(Debug, PartialEq, Eq, Drop)]
+#[derive(Debug, PartialEq, Eq, Hash, Drop)]
 pub struct SubscriptionName {
     name: Name,
 }

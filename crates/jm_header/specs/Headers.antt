@@ -1,10 +1,11 @@
 -- What a draft is at first, what a stamp makes of it, and when a message is expired (Jakarta
 -- Messaging 3.1, section 3.4).
-use Rattle.std.specs.Prelude.{ℕ, ◌≢◌, ◌≤◌, ◌+◌, ◌^◌, ◌&&◌, ◌==◌, nat_le, nat_lt, if◌then◌else◌, Bool, false, None, Result, Ok, Err, List, []}
+use Rattle.std.specs.Prelude.{ℕ, ◌≢◌, ◌≤◌, ◌+◌, ◌&&◌, ◌==◌, nat_le, nat_lt, if◌then◌else◌, Bool, false, None, Result, Ok, Err, List, []}
 use Rattle.jm_base.specs.declared.refusal.Refusal.{Refusal}
 use Rattle.jm_base.specs.declared.refusal.Refusal.TheVariants.{OutOfRange}
 use Rattle.jm_base.specs.declared.refusal.MessageFault.{MessageFault}
 use Rattle.jm_base.specs.declared.refusal.MessageFault.TheVariants.{NotWriteable, Memory}
+use Rattle.jm_dest.specs.Numbers.{long_end}
 use Rattle.jm_dest.specs.declared.destination.Destination.{Destination}
 use Rattle.jm_header.specs.declared.body.Body.TheVariants.{None as no_body}
 use Rattle.jm_header.specs.declared.content.Content.{Content}
@@ -33,7 +34,7 @@ expiration_of time_to_live now = if time_to_live == 0 then 0 else now + time_to_
 -- the number of a send and the moments of its message are within 2^63-1
 abbrev pub is_in_range : ℕ → ℕ → ℕ → Bool
 is_in_range time_to_live number now =
-    nat_le 1 number && nat_lt number (2 ^ 63) && nat_lt (now + time_to_live) (2 ^ 63)
+    nat_le 1 number && nat_lt number long_end && nat_lt (now + time_to_live) long_end
 
 -- the message that a draft becomes when it is sent
 abbrev pub message_of : Settings → Destination → Sender → ℕ → ℕ → Content

@@ -149,7 +149,8 @@ impl Draft {
     /// else `Memory` where a request for memory was refused; then the draft is as before.
     pub fn set_property(&mut self, name: &str, value: Property) -> Result<(), MessageFault>
         ensures { MatchResult result
-            (λ _. (self.new ≡ record self.old { properties = with_property self.old.properties name.now value }) × IsTrue (is_allowed name.now value))
+            (λ _. (self.new ≡ record self.old { properties = with_property self.old.properties name.now value })
+            × IsTrue (is_allowed name.now value))
             (λ fault. (self.new ≡ self.old) × (fault ≡ set_fault name.now value)) }
     {
         self.properties_mut().set(name, value)
@@ -158,7 +159,8 @@ impl Draft {
     /// The properties, which can be written.
     pub fn properties_mut(&mut self) -> &mut Properties
         ensures value { result.now ≡ self.old.properties }
-        ensures* writes_back { sem 𝓛 (Lends draft_row properties_row self.entry result (λ properties. record self.entry.now { properties = properties })) }
+        ensures* writes_back { sem 𝓛 (Lends draft_row properties_row self.entry result
+            (λ properties. record self.entry.now { properties = properties })) }
     {
         &mut self.settings.properties
     }

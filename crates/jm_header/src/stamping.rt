@@ -1,5 +1,6 @@
-ghost use Rattle.std.specs.Prelude.{◌≡◌, ◌+◌, ◌<◌, ◌≤◌, ◌^◌, MatchResult};
+ghost use Rattle.std.specs.Prelude.{◌≡◌, ◌+◌, ◌<◌, ◌≤◌, MatchResult};
 ghost use Rattle.jm_base.specs.declared.refusal.Refusal.TheVariants.{OutOfRange};
+ghost use Rattle.jm_dest.specs.Numbers.{long_end};
 ghost use Rattle.jm_header.specs.Headers.{stamped, expiration_of};
 
 use crate::content::{Content, Sender, Settings};
@@ -13,10 +14,10 @@ const NUMBER_MAX: u64 = 0x7fff_ffff_ffff_ffff;
 /// The expiration of what is sent at that moment. `OutOfRange` exactly where the timestamp and the
 /// time to live together are past 9,223,372,036,854,775,807.
 fn expiration(time_to_live: u64, now: Moment) -> Result<Moment, Refusal>
-    requires { time_to_live < 2 ^ 63 }
+    requires { time_to_live < long_end }
     ensures { MatchResult result
-        (λ moment. (moment ≡ expiration_of time_to_live now) × (now + time_to_live < 2 ^ 63))
-        (λ refusal. (refusal ≡ OutOfRange) × (2 ^ 63 ≤ now + time_to_live)) }
+        (λ moment. (moment ≡ expiration_of time_to_live now) × (now + time_to_live < long_end))
+        (λ refusal. (refusal ≡ OutOfRange) × (long_end ≤ now + time_to_live)) }
 {
     let end = now.get() + time_to_live;
     if end > NUMBER_MAX {

@@ -9,6 +9,7 @@ use Rattle.jm_dest.specs.declared.destination.Destination.TheVariants.{Queue, To
 use Rattle.jm_dest.specs.declared.key.Key.{Key}
 use Rattle.jm_dest.specs.declared.key.Key.TheVariants.{Own}
 use Rattle.jm_dest.specs.Names.{text_eq, session_eq}
+use Rattle.jm_dest.specs.Numbers.{long_end}
 use Rattle.jm_dest.specs.Keys.{key_eq}
 use Rattle.jm_header.specs.declared.content.Content.{Content}
 use Rattle.jm_machine.specs.declared.call.Who.{Who}
@@ -222,7 +223,7 @@ is_stamped opening s messages = list_all (λ m. (m.sender.opening == opening) &&
 
 -- the first number that is no place: places run from 1 to 2^63-1 (ours)
 abbrev pub places_end : ℕ
-places_end = 9223372036854775808
+places_end = long_end
 
 -- places are left for so many messages
 abbrev pub has_places : ℕ → List Content → Bool

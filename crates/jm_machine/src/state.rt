@@ -73,6 +73,14 @@ impl Consumer {
     }
 }
 
+impl Clone for Consumer {
+    ghost is_clone = { λ a b. b ≡ a };
+
+    fn clone(&self) -> Result<Consumer, AllocError> {
+        self.copy()
+    }
+}
+
 impl Definition {
     /// An equal definition. `AllocError` where a request for memory was refused.
     pub fn copy(&self) -> Result<Definition, AllocError>

@@ -1,17 +1,5 @@
-pub mod Same
-pub mod Lists
-pub mod Life
-pub mod Stations
-pub mod Consumers
-pub mod Projection
-pub mod Steps
-pub mod Run
-pub mod Clients
-pub mod Unshared
 pub mod Records
 pub mod Rows
 pub mod Owners
 pub mod Fed
 pub mod Placing
-pub mod EntrySteps
-pub mod Keyed

@@ -23,7 +23,7 @@ use Rattle.jm_machine.specs.Lone.Item.{Called}
 use Rattle.jm_machine.specs.Isolation.{is_unshared, alone}
 use Rattle.jm_model.specs.declared.lone.Owner.{Owner}
 use Rattle.jm_model.specs.Owners.{scope}
-use Rattle.jm_model.proofs.Same.{session_same, session_refl}
+use Rattle.jm_law.proofs.Same.{session_same, session_refl}
 
 pub owner_same : (owner : Owner) (s : SessionId) (c : ℕ) → belongs (scope owner) s c ≡ true → (s ≡ owner.session) × (c ≡ owner.consumer)
 owner_same owner s c h = (grind (arith, nat_tests, session_same s owner.session), grind (arith, nat_tests))

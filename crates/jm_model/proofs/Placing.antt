@@ -9,7 +9,7 @@ use Rattle.jm_machine.specs.Life.{Life}
 use Rattle.jm_machine.specs.Entries.{life_after_entry}
 use Rattle.jm_machine.specs.Lone.{Scope, Lone, lone_replies, lone_end, fed, at_place, feed, placed}
 use Rattle.jm_model.specs.Answers.{Answers}
-use Rattle.jm_model.proofs.Steps.{lone_replies-append}
+use Rattle.jm_law.proofs.Steps.{lone_replies-append}
 
 -- what is still to be answered
 abbrev pub to_answer : Scope → ℕ → Life → List Entry → Lone → List Entry → List (ℕ × Result Answer Refusal)

@@ -1,33 +1,7 @@
-ghost use Rattle.jm_machine.specs.Isolation.{Isolation, IsolationFrom, RunsFit, RunsReach};
+ghost use Rattle.jm_machine.specs.Isolation.{IsolationFrom};
 
 use jm_core::{Core, law_core_reached};
-
-/// The law of isolation, proved; the function itself does nothing.
-///
-/// Take any state that the provider reaches, any list of calls of any sessions, and any replies that fit
-/// it: each the machine's, or a want of memory that leaves the state as it was. Then the replies to the
-/// calls of an unshared topic subscription, each at its place, are those that this subscription answers
-/// alone, fed with the calls of its own session, with the accepted calls of that session's connection,
-/// and with the committed publications that it accepts. Nothing else in the run has any part in them.
-pub fn law_isolation()
-    ensures { Isolation }
-{}
-
-/// The law that runs lead on, proved; the function itself does nothing.
-///
-/// Replies that fit a list of calls lead from a state that the provider reaches to one that it reaches. So
-/// the law of isolation holds of a list that is run on the end of another.
-pub fn law_reached()
-    ensures { RunsReach }
-{}
-
-/// The law that runs fit, proved; the function itself does nothing.
-///
-/// What `Core::run` owes to a list of calls are replies that fit it. So the laws of isolation and of runs
-/// that lead on hold of it.
-pub fn law_runs_fit()
-    ensures { RunsFit }
-{}
+use jm_law::law_isolation;
 
 /// The law of isolation on a core that a caller holds, proved; the function itself does nothing.
 ///

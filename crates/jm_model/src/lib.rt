@@ -1,4 +1,4 @@
-//! The lone subscription, executable, and the law of isolation.
+//! The lone subscription, executable, and the law of isolation on a core; the laws of the definitions are given out again.
 #![tactic(auto)]
 
 mod delivery;
@@ -10,6 +10,7 @@ mod replies;
 mod subscription;
 
 pub use fault::LoneFault;
-pub use law::{law_core_isolation, law_isolation, law_reached, law_runs_fit};
+pub use jm_law::{law_isolation, law_reached, law_runs_fit};
+pub use law::law_core_isolation;
 pub use recorded::entries;
 pub use replies::lone_replies;

@@ -1,6 +1,6 @@
 //! One subscription alone: what it holds, and what it answers to what it is fed.
 
-ghost use Rattle.std.specs.Prelude.{◌≡◌, ◌&&◌, ◌==◌, ◌++◌, [], ◌∷◌, is_some, is_none, filter, IfOk, OnOk, Some, option_copied, option_and_then, if◌then◌else◌};
+ghost use Rattle.std.specs.Prelude.{◌≡◌, ◌&&◌, ◌==◌, ◌++◌, [], ◌∷◌, is_some, is_none, filter, IfOk, OnOk, Some, option_and_then, if◌then◌else◌};
 ghost use Rattle.jm_dest.specs.Names.{session_eq};
 ghost use Rattle.jm_machine.specs.Owns as owns;
 ghost use Rattle.jm_machine.specs.Life as life;
@@ -21,7 +21,6 @@ use jm_dest::{ConnectionId, ConsumerId, Key, Moment, Name, SessionId};
 use jm_header::Message;
 use jm_machine::find::{
     connection_of, consumer_of, is_started, mode_of, same_session, session_of, set_started,
-    station_of,
 };
 use jm_machine::{
     Answer, ConnectionState, Consumer, Entry, PlacedRow, Reply, Request, Row, SessionState,
@@ -155,34 +154,26 @@ fn own_consumers(
 }
 
 /// Rows without their places.
-fn bare(alloc: Global, rows: &[PlacedRow]) -> Result<Vec<Row>, AllocError>
-    ensures { IfOk result (λ bare. bare.items ≡ rows_spec.bare rows.now) }
+fn bare(alloc: Global, rows: Vec<PlacedRow>) -> Result<Vec<Row>, AllocError>
+    ensures { IfOk result (λ bare. bare.items ≡ rows_spec.bare rows.items) }
 {
-    let mut bare = Vec::with_capacity(alloc, rows.len())?;
-    for placed in rows {
-        bare.push(placed.row.copy()?)?;
-    }
-    Ok(bare)
+    rows.into_iter().map(|placed| placed.row).collect(alloc)
 }
 
-fn subscription_of(
+/// The subscription that stands there, where there is one, and its rows without their places.
+fn parts_of(
     alloc: Global,
-    station: Option<&Station>,
-) -> Result<Option<Subscription>, AllocError>
-    ensures { IfOk result (λ subscription. subscription ≡ machine.definition_of (option_copied station.entry)) }
+    station: Option<Station>,
+) -> Result<(Option<Subscription>, Vec<Row>), AllocError>
+    ensures subscription { IfOk result (λ parts. parts.0 ≡ machine.definition_of station) }
+    ensures rows { IfOk result (λ parts. parts.1.items ≡ machine.rows_of station) }
 {
     match station {
-        None => Ok(None),
-        Some(station) => Ok(Some(Subscription::of(alloc, station.definition.copy()?)?)),
-    }
-}
-
-fn rows_of(alloc: Global, station: Option<&Station>) -> Result<Vec<Row>, AllocError>
-    ensures { IfOk result (λ rows. rows.items ≡ machine.rows_of (option_copied station.entry)) }
-{
-    match station {
-        None => Ok(Vec::new(alloc)),
-        Some(station) => bare(alloc, station.rows.as_slice()),
+        None => Ok((None, Vec::new(alloc))),
+        Some(station) => {
+            let rows = bare(alloc, station.rows.into_inner())?;
+            Ok((Some(Subscription::of(alloc, station.definition)?), rows))
+        }
     }
 }
 
@@ -196,8 +187,7 @@ impl Lone {
         let connections = own_connections(alloc, owner, opening.connections())?;
         let sessions = own_sessions(alloc, owner, opening.sessions())?;
         let consumers = own_consumers(alloc, &key, opening.consumers())?;
-        let subscription = subscription_of(alloc, station_of(opening.stations(), &key))?;
-        let rows = rows_of(alloc, station_of(opening.stations(), &key))?;
+        let (subscription, rows) = parts_of(alloc, opening.station(&key)?)?;
         Ok(Lone {
             connections,
             sessions,

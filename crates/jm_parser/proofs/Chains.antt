@@ -1,5 +1,5 @@
 -- A turn of a loop that counts up beside a chain.
-use Rattle.std.proofs.Common.{◌≡◌, ℕ, suc, Bool, true, false, if◌then◌else◌, List, [], ◌∷◌, ◌++◌, Option, Some, None, Ok, Err, refl, ap, ◌∙◌, ◌+◌, ◌-◌, ◌<◌, ◌≤◌}
+use Rattle.std.proofs.Common.{◌≡◌, ℕ, Bool, true, false, if◌then◌else◌, List, [], ◌∷◌, ◌++◌, Option, Some, None, Result, Ok, Err, refl, ap, ◌∙◌, ◌+◌, ◌-◌, ◌<◌, ◌≤◌}
 use Rattle.jm_lexer.proofs.Turns.{one_more}
 use Rattle.jm_parser.proofs.Turns.{no_more}
 use Rattle.jm_lexer.specs.declared.fault.SyntaxFault.{SyntaxFault}
@@ -9,10 +9,14 @@ use Rattle.jm_lexer.specs.declared.token.Kind.{Kind}
 use Rattle.jm_lexer.specs.declared.token.Kind.TheVariants as kinds
 use Rattle.jm_tree.specs.declared.tree.Tree.{Tree}
 use Rattle.jm_lexer.specs.Words.{if_some}
-use Rattle.jm_tree.specs.Input.{Input, Outcome, Parser, start, kind, next, sees, after, is_mark, operator_at, after_operator, or_else, unless}
+use Rattle.jm_tree.specs.Input.{Input, Outcome, Parser, Reads, start, kind, next, sees, after, is_mark, operator_at, after_operator, or_else, unless}
 use Rattle.jm_tree.specs.Operators.{operator_in, and_of, or_of}
 use Rattle.jm_tree.specs.FaultOrder.{settle, chain_from}
 use Rattle.jm_tree.proofs.Chains.{chain_stop, chain_step, chain_fail}
+
+-- what reads as one rule reads as an equal one
+pub reads_same : {A : Type 0} (x y : Outcome A) (r : Result A SyntaxFault) (i : Input) → x ≡ y → Reads y r i → Reads x r i
+reads_same x y r i e h = rw e h
 
 module _ {O I : Type 0} (operators : Mark → Option O) (item : O → Tree → I) (fits : Tree → Bool) (make : Tree → List I → Tree) (part : Parser Tree)
     (x : Outcome Tree) (end turn : ℕ) where

@@ -3,3 +3,4 @@ pub mod Single
 pub mod Levels
 pub mod Chains
 pub mod Primaries
+pub mod Tails

@@ -1,5 +1,5 @@
 -- A primary is a leaf, or begins with a parenthesis.
-use Rattle.std.proofs.Common.{◌≡◌, ℕ, ◌==◌, Bool, true, false, if◌then◌else◌, Option, Some, None, refl}
+use Rattle.std.proofs.Common.{◌≡◌, ℕ, ◌==◌, true, false, if◌then◌else◌, Option, Some, None, refl}
 use Rattle.jm_base.specs.declared.refusal.Cause.TheVariants as causes
 use Rattle.jm_lexer.specs.declared.token.Mark.TheVariants as m
 use Rattle.jm_lexer.specs.declared.token.Kind.{Kind}

@@ -6,9 +6,10 @@ ghost use Rattle.jm_tree.specs.Operators as operators;
 ghost use Rattle.jm_tree.specs.Answer as answer;
 ghost use Rattle.jm_tree.specs.Input.{Reads};
 
+use crate::operand::Operand;
 use jm_base::{Cause, Str};
 use jm_lexer::{Kind, Mark, SyntaxFault, Token};
-use jm_tree::{Additive, Multiplicative, Tree};
+use jm_tree::{Additive, Comparison, Multiplicative, Tree};
 use std::marker::Model;
 
 /// The tokens that are left, the length of the text, and the place of the first operand of a wrong
@@ -60,6 +61,21 @@ fn multiplicative_of(mark: Mark) -> Option<Multiplicative>
     match mark {
         Mark::Times => Some(Multiplicative::Times),
         Mark::Divide => Some(Multiplicative::Divide),
+        _ => None,
+    }
+}
+
+/// The comparison that the mark stands for, if it does.
+pub(crate) fn comparison_of(mark: Mark) -> Option<Comparison>
+    ensures { result ≡ operators.comparison_of mark }
+{
+    match mark {
+        Mark::Equal => Some(Comparison::Equal),
+        Mark::NotEqual => Some(Comparison::NotEqual),
+        Mark::Less => Some(Comparison::Less),
+        Mark::LessOrEqual => Some(Comparison::LessOrEqual),
+        Mark::Greater => Some(Comparison::Greater),
+        Mark::GreaterOrEqual => Some(Comparison::GreaterOrEqual),
         _ => None,
     }
 }
@@ -222,11 +238,11 @@ impl<'a> Cursor<'a> {
 
     /// The tree. Kind where an operand of a wrong kind was noted.
     #[tactic(auto, unfolding(jm_tree::specs::Answer::settled))]
-    pub(crate) fn settled(&self, tree: Tree) -> Result<Tree, SyntaxFault>
-        ensures { Reads (answer.settled tree self.now) result self.now }
+    pub(crate) fn settled(&self, whole: Operand) -> Result<Tree, SyntaxFault>
+        ensures { Reads (answer.settled whole.tree self.now) result self.now }
     {
         match self.wrong {
-            None => Ok(tree),
+            None => Ok(whole.into_tree()),
             Some(at) => Err(SyntaxFault {
                 at,
                 cause: Cause::Kind,

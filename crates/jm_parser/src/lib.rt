@@ -6,6 +6,8 @@ mod cursor;
 mod growth;
 mod kinds;
 mod leaves;
+mod nodes;
+mod operand;
 mod predicates;
 mod rules;
 mod selector;

@@ -1,28 +1,22 @@
 ghost use Rattle.std.specs.Prelude.{◌≡◌};
 ghost use Rattle.jm_tree.specs.FaultOrder as spec;
-ghost use Rattle.jm_tree.specs.Input as input;
 ghost use Rattle.jm_tree.specs.Input.{Reads};
 ghost use Rattle.jm_tree.specs.Sorts as sorts;
 
 use crate::cursor::Cursor;
 use crate::growth::push;
+use crate::operand::{Operand, unless};
 use jm_base::{List, Str};
 use jm_lexer::{Mark, SyntaxFault};
 use jm_tree::Tree;
 use std::alloc::Global;
 
-/// The place, if the operand does not fit.
-pub(crate) fn unless(fits: bool, at: usize) -> Option<usize>
-    ensures { result ≡ input.unless fits at }
-{
-    if fits { None } else { Some(at) }
-}
-
 #[tactic(auto, unfolding(jm_tree::specs::FaultOrder::named))]
-fn is_null(tokens: &mut Cursor<'_>, negated: bool, operand: Tree, at: usize) -> Tree
-    ensures { spec.named (Tree.IsNull negated) operand at tokens.old ≡ Ok (result, tokens.new) }
+fn is_null(tokens: &mut Cursor<'_>, negated: bool, operand: Operand) -> Tree
+    ensures { spec.named (Tree.IsNull negated) operand.tree operand.at tokens.old ≡ Ok (result, tokens.new) }
 {
-    match operand {
+    let at = operand.at;
+    match operand.into_tree() {
         Tree::Name(name) => Tree::IsNull { negated, name },
         other => {
             tokens.note(Some(at));
@@ -32,10 +26,11 @@ fn is_null(tokens: &mut Cursor<'_>, negated: bool, operand: Tree, at: usize) -> 
 }
 
 #[tactic(auto, unfolding(jm_tree::specs::FaultOrder::named, jm_tree::specs::FaultOrder::in_of))]
-fn is_in(tokens: &mut Cursor<'_>, negated: bool, operand: Tree, at: usize, list: List<Str>) -> Tree
-    ensures { spec.named (spec.in_of negated list) operand at tokens.old ≡ Ok (result, tokens.new) }
+fn is_in(tokens: &mut Cursor<'_>, negated: bool, operand: Operand, list: List<Str>) -> Tree
+    ensures { spec.named (spec.in_of negated list) operand.tree operand.at tokens.old ≡ Ok (result, tokens.new) }
 {
-    match operand {
+    let at = operand.at;
+    match operand.into_tree() {
         Tree::Name(name) => Tree::In {
             negated,
             name,
@@ -52,14 +47,14 @@ fn is_in(tokens: &mut Cursor<'_>, negated: bool, operand: Tree, at: usize, list:
 fn is_like(
     tokens: &mut Cursor<'_>,
     negated: bool,
-    operand: Tree,
-    at: usize,
+    operand: Operand,
     pattern: Str,
     escape: Option<char>,
 ) -> Tree
-    ensures { spec.named (spec.like_of negated pattern escape) operand at tokens.old ≡ Ok (result, tokens.new) }
+    ensures { spec.named (spec.like_of negated pattern escape) operand.tree operand.at tokens.old ≡ Ok (result, tokens.new) }
 {
-    match operand {
+    let at = operand.at;
+    match operand.into_tree() {
         Tree::Name(name) => Tree::Like {
             negated,
             name,
@@ -73,19 +68,15 @@ fn is_like(
     }
 }
 
-/// `IS [NOT] NULL`, after the operand that began at `at`.
+/// `IS [NOT] NULL`, after the operand.
 #[tactic(auto, unfolding(jm_tree::specs::FaultOrder::null_test))]
-pub(crate) fn null_test(
-    tokens: &mut Cursor<'_>,
-    operand: Tree,
-    at: usize,
-) -> Result<Tree, SyntaxFault>
-    ensures { Reads (spec.null_test operand at tokens.old) result tokens.new }
+pub(crate) fn null_test(tokens: &mut Cursor<'_>, operand: Operand) -> Result<Tree, SyntaxFault>
+    ensures { Reads (spec.null_test operand.tree operand.at tokens.old) result tokens.new }
 {
     tokens.pass();
     let negated = tokens.eat(Mark::Not);
     tokens.expect(Mark::Null)?;
-    Ok(is_null(tokens, negated, operand, at))
+    Ok(is_null(tokens, negated, operand))
 }
 
 /// `text { , text }`.
@@ -104,22 +95,21 @@ fn texts(alloc: Global, tokens: &mut Cursor<'_>) -> Result<List<Str>, SyntaxFaul
     Ok(List::new(found))
 }
 
-/// `[NOT] IN ( text { , text } )`, after the operand that began at `at`.
+/// `[NOT] IN ( text { , text } )`, after the operand.
 #[tactic(auto, unfolding(jm_tree::specs::FaultOrder::membership))]
 pub(crate) fn membership(
     alloc: Global,
     tokens: &mut Cursor<'_>,
     negated: bool,
-    operand: Tree,
-    at: usize,
+    operand: Operand,
 ) -> Result<Tree, SyntaxFault>
-    ensures { Reads (spec.membership negated operand at tokens.old) result tokens.new }
+    ensures { Reads (spec.membership negated operand.tree operand.at tokens.old) result tokens.new }
 {
     tokens.pass();
     tokens.expect(Mark::Open)?;
     let list = texts(alloc, tokens)?;
     tokens.expect(Mark::Close)?;
-    Ok(is_in(tokens, negated, operand, at, list))
+    Ok(is_in(tokens, negated, operand, list))
 }
 
 /// The character of a text that is one Unicode scalar value.
@@ -140,34 +130,32 @@ fn single(text: &str) -> Option<char>
 fn escaped(
     tokens: &mut Cursor<'_>,
     negated: bool,
-    operand: Tree,
-    at: usize,
+    operand: Operand,
     pattern: Str,
 ) -> Result<Tree, SyntaxFault>
-    ensures { Reads (spec.escaped negated operand at pattern tokens.old) result tokens.new }
+    ensures { Reads (spec.escaped negated operand.tree operand.at pattern tokens.old) result tokens.new }
 {
     let place = tokens.start();
     let text = tokens.text()?;
     let escape = single(text.as_str());
-    let tree = is_like(tokens, negated, operand, at, pattern, escape);
+    let tree = is_like(tokens, negated, operand, pattern, escape);
     tokens.note(unless(escape.is_some(), place));
     Ok(tree)
 }
 
-/// `[NOT] LIKE text [ ESCAPE text ]`, after the operand that began at `at`.
+/// `[NOT] LIKE text [ ESCAPE text ]`, after the operand.
 #[tactic(auto, unfolding(jm_tree::specs::FaultOrder::likeness))]
 pub(crate) fn likeness(
     tokens: &mut Cursor<'_>,
     negated: bool,
-    operand: Tree,
-    at: usize,
+    operand: Operand,
 ) -> Result<Tree, SyntaxFault>
-    ensures { Reads (spec.likeness negated operand at tokens.old) result tokens.new }
+    ensures { Reads (spec.likeness negated operand.tree operand.at tokens.old) result tokens.new }
 {
     tokens.pass();
     let pattern = tokens.text()?;
     if tokens.eat(Mark::Escape) {
-        return escaped(tokens, negated, operand, at, pattern);
+        return escaped(tokens, negated, operand, pattern);
     }
-    Ok(is_like(tokens, negated, operand, at, pattern, None))
+    Ok(is_like(tokens, negated, operand, pattern, None))
 }

@@ -1,172 +1,25 @@
-ghost use Rattle.std.specs.Prelude.{◌≡◌, ◌<◌, ◌∷◌, IfOk};
+ghost use Rattle.std.specs.Prelude.{◌<◌};
 ghost use Rattle.jm_parser.specs.Leaves as leaves;
 ghost use Rattle.jm_tree.specs.FaultOrder as spec;
-ghost use Rattle.jm_tree.specs.Input as input;
 ghost use Rattle.jm_tree.specs.Input.{Reads};
 
-use crate::cursor::Cursor;
+use crate::cursor::{Cursor, comparison_of};
 use crate::growth::push;
-use crate::kinds::{fits_comparison, fits_number, fits_truth};
 use crate::leaves::{LIMIT, leaf};
-use crate::predicates::{likeness, membership, null_test, unless};
-use jm_base::{Boxed, Cause, List};
+use crate::nodes::{
+    compared_node, denied_node, ranged_node, settle_all, settle_any, settle_product, settle_sum,
+    signed_node,
+};
+use crate::operand::{Operand, or_else};
+use crate::predicates::{likeness, membership, null_test};
+use jm_base::Cause;
 use jm_lexer::{Kind, Mark, SyntaxFault};
-use jm_tree::{Additive, Comparison, Multiplicative, Tree};
-use std::alloc::{AllocError, Global};
-
-fn or_else(early: Option<usize>, late: Option<usize>) -> Option<usize>
-    ensures { result ≡ input.or_else early late }
-{
-    match early {
-        None => late,
-        Some(at) => Some(at),
-    }
-}
-
-fn range(
-    alloc: Global,
-    negated: bool,
-    operand: Tree,
-    low: Tree,
-    high: Tree,
-) -> Result<Tree, AllocError>
-    ensures { IfOk result (λ tree. tree ≡ Tree.Between negated operand low high) }
-{
-    Ok(Tree::Between {
-        negated,
-        operand: Boxed::new(alloc, operand)?,
-        low: Boxed::new(alloc, low)?,
-        high: Boxed::new(alloc, high)?,
-    })
-}
-
-fn comparison(alloc: Global, op: Comparison, left: Tree, right: Tree) -> Result<Tree, AllocError>
-    ensures { IfOk result (λ tree. tree ≡ Tree.Compare op left right) }
-{
-    Ok(Tree::Compare {
-        op,
-        left: Boxed::new(alloc, left)?,
-        right: Boxed::new(alloc, right)?,
-    })
-}
-
-fn sign_of(alloc: Global, sign: Additive, operand: Tree) -> Result<Tree, AllocError>
-    ensures { IfOk result (λ tree. tree ≡ leaves.signed_by sign operand) }
-{
-    let operand = Boxed::new(alloc, operand)?;
-    Ok(match sign {
-        Additive::Plus => Tree::Plus(operand),
-        Additive::Minus => Tree::Neg(operand),
-    })
-}
-
-fn denial(alloc: Global, operand: Tree) -> Result<Tree, AllocError>
-    ensures { IfOk result (λ tree. tree ≡ Tree.Not operand) }
-{
-    Ok(Tree::Not(Boxed::new(alloc, operand)?))
-}
-
-/// One operand stands for itself.
-#[tactic(auto, unfolding(jm_tree::specs::FaultOrder::settle))]
-fn settle_product(
-    alloc: Global,
-    tokens: &mut Cursor<'_>,
-    first: Tree,
-    rest: Vec<(Multiplicative, Tree)>,
-    own: Option<usize>,
-) -> Result<Tree, AllocError>
-    ensures { IfOk result (λ tree. spec.settle Tree.Product first rest.items own tokens.old ≡ Ok (tree, tokens.new)) }
-{
-    if rest.is_empty() {
-        return Ok(first);
-    }
-    tokens.note(own);
-    Ok(Tree::Product {
-        first: Boxed::new(alloc, first)?,
-        rest: List::new(rest),
-    })
-}
-
-/// One operand stands for itself.
-#[tactic(auto, unfolding(jm_tree::specs::FaultOrder::settle))]
-fn settle_sum(
-    alloc: Global,
-    tokens: &mut Cursor<'_>,
-    first: Tree,
-    rest: Vec<(Additive, Tree)>,
-    own: Option<usize>,
-) -> Result<Tree, AllocError>
-    ensures { IfOk result (λ tree. spec.settle Tree.Sum first rest.items own tokens.old ≡ Ok (tree, tokens.new)) }
-{
-    if rest.is_empty() {
-        return Ok(first);
-    }
-    tokens.note(own);
-    Ok(Tree::Sum {
-        first: Boxed::new(alloc, first)?,
-        rest: List::new(rest),
-    })
-}
-
-/// The members of a chain, `first` in front.
-fn members(first: Tree, rest: Vec<Tree>) -> Result<List<Tree>, AllocError>
-    ensures { IfOk result (λ members. members ≡ first ∷ rest.items) }
-{
-    let mut members = rest;
-    members.insert(0, first)?;
-    Ok(List::new(members))
-}
-
-/// One operand stands for itself.
-#[tactic(auto, unfolding(jm_tree::specs::FaultOrder::settle))]
-fn settle_all(
-    tokens: &mut Cursor<'_>,
-    first: Tree,
-    rest: Vec<Tree>,
-    own: Option<usize>,
-) -> Result<Tree, AllocError>
-    ensures { IfOk result (λ tree. spec.settle (λ x xs. Tree.All (x ∷ xs)) first rest.items own tokens.old ≡ Ok (tree, tokens.new)) }
-{
-    if rest.is_empty() {
-        return Ok(first);
-    }
-    tokens.note(own);
-    Ok(Tree::All(members(first, rest)?))
-}
-
-/// One operand stands for itself.
-#[tactic(auto, unfolding(jm_tree::specs::FaultOrder::settle))]
-fn settle_any(
-    tokens: &mut Cursor<'_>,
-    first: Tree,
-    rest: Vec<Tree>,
-    own: Option<usize>,
-) -> Result<Tree, AllocError>
-    ensures { IfOk result (λ tree. spec.settle (λ x xs. Tree.AnyOf (x ∷ xs)) first rest.items own tokens.old ≡ Ok (tree, tokens.new)) }
-{
-    if rest.is_empty() {
-        return Ok(first);
-    }
-    tokens.note(own);
-    Ok(Tree::AnyOf(members(first, rest)?))
-}
-
-/// `( or )`.
-#[cycle(rules)]
-#[tactic(auto, using(crate::proofs::Levels::below_ors), unfolding(jm_tree::specs::FaultOrder::opened))]
-fn opened(alloc: Global, tokens: &mut Cursor<'_>, levels: usize) -> Result<Tree, SyntaxFault>
-    requires { 0 < levels }
-    ensures { Reads (spec.opened levels (spec.below levels) tokens.old) result tokens.new }
-{
-    tokens.pass();
-    let inner = either(alloc, tokens, levels - 1)?;
-    tokens.expect(Mark::Close)?;
-    Ok(inner)
-}
+use jm_tree::{Additive, Comparison, Tree};
+use std::alloc::Global;
 
 /// `number | text | TRUE | FALSE | identifier | ( or )`.
 #[cycle(rules)]
-#[tactic(auto, using(crate::proofs::Primaries::primary_leaf, crate::proofs::Primaries::primary_open))]
+#[tactic(auto, using(crate::proofs::Primaries::primary_leaf, crate::proofs::Primaries::primary_open, crate::proofs::Levels::below_ors), unfolding(jm_tree::specs::FaultOrder::opened))]
 fn primary(alloc: Global, tokens: &mut Cursor<'_>, levels: usize) -> Result<Tree, SyntaxFault>
     ensures { Reads (spec.primary levels (spec.below levels) tokens.old) result tokens.new }
 {
@@ -176,12 +29,17 @@ fn primary(alloc: Global, tokens: &mut Cursor<'_>, levels: usize) -> Result<Tree
     if levels == 0 {
         return Err(tokens.stop(Cause::TooDeep));
     }
-    opened(alloc, tokens, levels)
+    tokens.pass();
+    let at = tokens.start();
+    let tree = either(alloc, tokens, levels - 1)?;
+    let inner = Operand { tree, at };
+    tokens.expect(Mark::Close)?;
+    Ok(inner.into_tree())
 }
 
 /// The operand of a sign that was passed.
 #[cycle(rules)]
-#[tactic(auto, using(crate::proofs::Levels::below_signs), unfolding(jm_tree::specs::FaultOrder::signed))]
+#[tactic(auto, using(crate::proofs::Levels::below_signs), unfolding(jm_tree::specs::FaultOrder::signed, crate::specs::Nodes::signed))]
 fn signed(
     alloc: Global,
     tokens: &mut Cursor<'_>,
@@ -192,9 +50,8 @@ fn signed(
     ensures { Reads (spec.signed levels (spec.below levels) (leaves.signed_by sign) tokens.old) result tokens.new }
 {
     let at = tokens.start();
-    let operand = unary(alloc, tokens, levels - 1)?;
-    tokens.note(unless(fits_number(&operand), at));
-    Ok(sign_of(alloc, sign, operand)?)
+    let tree = unary(alloc, tokens, levels - 1)?;
+    signed_node(alloc, tokens, sign, Operand { tree, at })
 }
 
 #[cycle(rules)]
@@ -240,19 +97,21 @@ fn product(alloc: Global, tokens: &mut Cursor<'_>, levels: usize) -> Result<Tree
     ensures { Reads (spec.product levels (spec.below levels) tokens.old) result tokens.new }
 {
     let at = tokens.start();
-    let first = unary(alloc, tokens, levels)?;
-    let mut own = unless(fits_number(&first), at);
+    let tree = unary(alloc, tokens, levels)?;
+    let first = Operand { tree, at };
+    let mut own = first.no_number();
     let mut rest = Vec::new(alloc);
     for _turn in 0..tokens.left() {
         let Some(operator) = tokens.eat_multiplicative() else {
-            return Ok(settle_product(alloc, tokens, first, rest, own)?);
+            return settle_product(alloc, tokens, first, rest, own);
         };
         let at = tokens.start();
-        let operand = unary(alloc, tokens, levels)?;
-        own = or_else(own, unless(fits_number(&operand), at));
-        push(&mut rest, (operator, operand))?;
+        let tree = unary(alloc, tokens, levels)?;
+        let operand = Operand { tree, at };
+        own = or_else(own, operand.no_number());
+        push(&mut rest, (operator, operand.into_tree()))?;
     }
-    Ok(settle_product(alloc, tokens, first, rest, own)?)
+    settle_product(alloc, tokens, first, rest, own)
 }
 
 /// `product { ( + | - ) product }`.
@@ -262,122 +121,104 @@ fn sum(alloc: Global, tokens: &mut Cursor<'_>, levels: usize) -> Result<Tree, Sy
     ensures { Reads (spec.sum levels (spec.below levels) tokens.old) result tokens.new }
 {
     let at = tokens.start();
-    let first = product(alloc, tokens, levels)?;
-    let mut own = unless(fits_number(&first), at);
+    let tree = product(alloc, tokens, levels)?;
+    let first = Operand { tree, at };
+    let mut own = first.no_number();
     let mut rest = Vec::new(alloc);
     for _turn in 0..tokens.left() {
         let Some(operator) = tokens.eat_additive() else {
-            return Ok(settle_sum(alloc, tokens, first, rest, own)?);
+            return settle_sum(alloc, tokens, first, rest, own);
         };
         let at = tokens.start();
-        let operand = product(alloc, tokens, levels)?;
-        own = or_else(own, unless(fits_number(&operand), at));
-        push(&mut rest, (operator, operand))?;
+        let tree = product(alloc, tokens, levels)?;
+        let operand = Operand { tree, at };
+        own = or_else(own, operand.no_number());
+        push(&mut rest, (operator, operand.into_tree()))?;
     }
-    Ok(settle_sum(alloc, tokens, first, rest, own)?)
+    settle_sum(alloc, tokens, first, rest, own)
 }
 
-/// `BETWEEN sum AND sum`, after the operand that began at `at`.
+/// `BETWEEN sum AND sum`, after the operand.
 #[cycle(rules)]
-#[tactic(auto, unfolding(jm_tree::specs::FaultOrder::between))]
+#[tactic(auto, unfolding(jm_tree::specs::FaultOrder::between, crate::specs::Nodes::ranged))]
 fn between(
     alloc: Global,
     tokens: &mut Cursor<'_>,
     levels: usize,
     negated: bool,
-    operand: Tree,
-    at: usize,
+    operand: Operand,
 ) -> Result<Tree, SyntaxFault>
-    ensures { Reads (spec.between levels (spec.below levels) negated operand at tokens.old) result tokens.new }
+    ensures { Reads (spec.between levels (spec.below levels) negated operand.tree operand.at tokens.old) result tokens.new }
 {
     tokens.pass();
-    let low_at = tokens.start();
-    let low = sum(alloc, tokens, levels)?;
+    let at = tokens.start();
+    let tree = sum(alloc, tokens, levels)?;
+    let low = Operand { tree, at };
     tokens.expect(Mark::And)?;
-    let high_at = tokens.start();
-    let high = sum(alloc, tokens, levels)?;
-    tokens.note(unless(fits_number(&operand), at));
-    tokens.note(unless(fits_number(&low), low_at));
-    tokens.note(unless(fits_number(&high), high_at));
-    Ok(range(alloc, negated, operand, low, high)?)
+    let at = tokens.start();
+    let tree = sum(alloc, tokens, levels)?;
+    ranged_node(alloc, tokens, negated, operand, low, Operand { tree, at })
 }
 
-/// A comparison, after its left operand, which began at `at`.
+/// A comparison, after its left operand.
 #[cycle(rules)]
-#[tactic(auto, unfolding(jm_tree::specs::FaultOrder::compared))]
+#[tactic(auto, unfolding(jm_tree::specs::FaultOrder::compared, crate::specs::Nodes::compared))]
 fn compared(
     alloc: Global,
     tokens: &mut Cursor<'_>,
     levels: usize,
     op: Comparison,
-    operand: Tree,
-    at: usize,
+    operand: Operand,
 ) -> Result<Tree, SyntaxFault>
-    ensures { Reads (spec.compared levels (spec.below levels) op operand at tokens.old) result tokens.new }
+    ensures { Reads (spec.compared levels (spec.below levels) op operand.tree operand.at tokens.old) result tokens.new }
 {
     tokens.pass();
-    let right_at = tokens.start();
-    let right = sum(alloc, tokens, levels)?;
-    tokens.note(unless(fits_comparison(op, &operand), at));
-    tokens.note(unless(fits_comparison(op, &right), right_at));
-    Ok(comparison(alloc, op, operand, right)?)
+    let at = tokens.start();
+    let tree = sum(alloc, tokens, levels)?;
+    compared_node(alloc, tokens, op, operand, Operand { tree, at })
 }
 
-/// `NOT` with what may follow it, after the operand that began at `at`.
+/// `NOT` with what may follow it, after the operand.
 #[cycle(rules)]
 #[tactic(auto, unfolding(jm_tree::specs::FaultOrder::negated_tail))]
 fn negated_tail(
     alloc: Global,
     tokens: &mut Cursor<'_>,
     levels: usize,
-    operand: Tree,
-    at: usize,
+    operand: Operand,
 ) -> Result<Tree, SyntaxFault>
-    ensures { Reads (spec.negated_tail levels (spec.below levels) operand at tokens.old) result tokens.new }
+    ensures { Reads (spec.negated_tail levels (spec.below levels) operand.tree operand.at tokens.old) result tokens.new }
 {
     tokens.pass();
     match tokens.kind() {
-        Some(Kind::Mark(Mark::Between)) => between(alloc, tokens, levels, true, operand, at),
-        Some(Kind::Mark(Mark::In)) => membership(alloc, tokens, true, operand, at),
-        Some(Kind::Mark(Mark::Like)) => likeness(tokens, true, operand, at),
+        Some(Kind::Mark(Mark::Between)) => between(alloc, tokens, levels, true, operand),
+        Some(Kind::Mark(Mark::In)) => membership(alloc, tokens, true, operand),
+        Some(Kind::Mark(Mark::Like)) => likeness(tokens, true, operand),
         _ => Err(tokens.stop(Cause::Expected)),
     }
 }
 
-/// What may follow the operand that began at `at`, where this mark does.
+/// What may follow the operand, where this mark does.
 #[cycle(rules)]
 fn tail(
     alloc: Global,
     tokens: &mut Cursor<'_>,
     levels: usize,
-    operand: Tree,
-    at: usize,
+    operand: Operand,
     mark: Mark,
 ) -> Result<Tree, SyntaxFault>
-    ensures { Reads (spec.tail levels (spec.below levels) operand at mark tokens.old) result tokens.new }
+    ensures { Reads (spec.tail levels (spec.below levels) operand.tree operand.at mark tokens.old) result tokens.new }
 {
+    if let Some(op) = comparison_of(mark) {
+        return compared(alloc, tokens, levels, op, operand);
+    }
     match mark {
-        Mark::Equal => compared(alloc, tokens, levels, Comparison::Equal, operand, at),
-        Mark::NotEqual => compared(alloc, tokens, levels, Comparison::NotEqual, operand, at),
-        Mark::Less => compared(alloc, tokens, levels, Comparison::Less, operand, at),
-        Mark::LessOrEqual => compared(alloc, tokens, levels, Comparison::LessOrEqual, operand, at),
-        Mark::Greater => compared(alloc, tokens, levels, Comparison::Greater, operand, at),
-        Mark::GreaterOrEqual => {
-            compared(
-                alloc,
-                tokens,
-                levels,
-                Comparison::GreaterOrEqual,
-                operand,
-                at,
-            )
-        }
-        Mark::Between => between(alloc, tokens, levels, false, operand, at),
-        Mark::In => membership(alloc, tokens, false, operand, at),
-        Mark::Like => likeness(tokens, false, operand, at),
-        Mark::Is => null_test(tokens, operand, at),
-        Mark::Not => negated_tail(alloc, tokens, levels, operand, at),
-        _ => Ok(operand),
+        Mark::Between => between(alloc, tokens, levels, false, operand),
+        Mark::In => membership(alloc, tokens, false, operand),
+        Mark::Like => likeness(tokens, false, operand),
+        Mark::Is => null_test(tokens, operand),
+        Mark::Not => negated_tail(alloc, tokens, levels, operand),
+        _ => Ok(operand.into_tree()),
     }
 }
 
@@ -388,16 +229,17 @@ fn tested(alloc: Global, tokens: &mut Cursor<'_>, levels: usize) -> Result<Tree,
     ensures { Reads (spec.tested levels (spec.below levels) tokens.old) result tokens.new }
 {
     let at = tokens.start();
-    let operand = sum(alloc, tokens, levels)?;
+    let tree = sum(alloc, tokens, levels)?;
+    let operand = Operand { tree, at };
     match tokens.kind() {
-        Some(Kind::Mark(mark)) => tail(alloc, tokens, levels, operand, at, *mark),
-        _ => Ok(operand),
+        Some(Kind::Mark(mark)) => tail(alloc, tokens, levels, operand, *mark),
+        _ => Ok(operand.into_tree()),
     }
 }
 
 /// `NOT condition | tested`.
 #[cycle(rules)]
-#[tactic(auto, using(crate::proofs::Levels::below_nots), unfolding(jm_tree::specs::FaultOrder::condition, jm_tree::specs::FaultOrder::denied))]
+#[tactic(auto, using(crate::proofs::Levels::below_nots), unfolding(jm_tree::specs::FaultOrder::condition, jm_tree::specs::FaultOrder::denied, crate::specs::Nodes::denied))]
 fn condition(alloc: Global, tokens: &mut Cursor<'_>, levels: usize) -> Result<Tree, SyntaxFault>
     ensures { Reads (spec.condition levels (spec.below levels) tokens.old) result tokens.new }
 {
@@ -409,9 +251,8 @@ fn condition(alloc: Global, tokens: &mut Cursor<'_>, levels: usize) -> Result<Tr
     }
     tokens.pass();
     let at = tokens.start();
-    let operand = condition(alloc, tokens, levels - 1)?;
-    tokens.note(unless(fits_truth(&operand), at));
-    Ok(denial(alloc, operand)?)
+    let tree = condition(alloc, tokens, levels - 1)?;
+    denied_node(alloc, tokens, Operand { tree, at })
 }
 
 /// `condition { AND condition }`.
@@ -421,19 +262,21 @@ fn both(alloc: Global, tokens: &mut Cursor<'_>, levels: usize) -> Result<Tree, S
     ensures { Reads (spec.both levels (spec.below levels) tokens.old) result tokens.new }
 {
     let at = tokens.start();
-    let first = condition(alloc, tokens, levels)?;
-    let mut own = unless(fits_truth(&first), at);
+    let tree = condition(alloc, tokens, levels)?;
+    let first = Operand { tree, at };
+    let mut own = first.no_truth();
     let mut rest = Vec::new(alloc);
     for _turn in 0..tokens.left() {
         if !tokens.eat(Mark::And) {
-            return Ok(settle_all(tokens, first, rest, own)?);
+            return settle_all(tokens, first, rest, own);
         }
         let at = tokens.start();
-        let operand = condition(alloc, tokens, levels)?;
-        own = or_else(own, unless(fits_truth(&operand), at));
-        push(&mut rest, operand)?;
+        let tree = condition(alloc, tokens, levels)?;
+        let operand = Operand { tree, at };
+        own = or_else(own, operand.no_truth());
+        push(&mut rest, operand.into_tree())?;
     }
-    Ok(settle_all(tokens, first, rest, own)?)
+    settle_all(tokens, first, rest, own)
 }
 
 /// `both { OR both }`.
@@ -447,17 +290,19 @@ pub(crate) fn either(
     ensures { Reads (spec.either levels (spec.below levels) tokens.old) result tokens.new }
 {
     let at = tokens.start();
-    let first = both(alloc, tokens, levels)?;
-    let mut own = unless(fits_truth(&first), at);
+    let tree = both(alloc, tokens, levels)?;
+    let first = Operand { tree, at };
+    let mut own = first.no_truth();
     let mut rest = Vec::new(alloc);
     for _turn in 0..tokens.left() {
         if !tokens.eat(Mark::Or) {
-            return Ok(settle_any(tokens, first, rest, own)?);
+            return settle_any(tokens, first, rest, own);
         }
         let at = tokens.start();
-        let operand = both(alloc, tokens, levels)?;
-        own = or_else(own, unless(fits_truth(&operand), at));
-        push(&mut rest, operand)?;
+        let tree = both(alloc, tokens, levels)?;
+        let operand = Operand { tree, at };
+        own = or_else(own, operand.no_truth());
+        push(&mut rest, operand.into_tree())?;
     }
-    Ok(settle_any(tokens, first, rest, own)?)
+    settle_any(tokens, first, rest, own)
 }

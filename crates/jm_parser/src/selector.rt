@@ -4,8 +4,7 @@ ghost use Rattle.jm_tree.specs.Answer as spec;
 ghost use Rattle.jm_tree.specs.Input.{Reads};
 
 use crate::cursor::Cursor;
-use crate::kinds::fits_truth;
-use crate::predicates::unless;
+use crate::operand::Operand;
 use crate::rules::either;
 use jm_base::Cause;
 use jm_lexer::{SyntaxFault, Token};
@@ -15,16 +14,16 @@ use std::alloc::Global;
 /// How many levels a selector may open.
 const MAX_LEVELS: usize = 64;
 
-/// The tree, where the tokens end after it and it is a condition; it began at `at`.
+/// The tree, where the tokens end after it and it is a condition.
 #[tactic(auto, unfolding(jm_tree::specs::Answer::finished))]
-fn finished(tokens: &mut Cursor<'_>, tree: Tree, at: usize) -> Result<Tree, SyntaxFault>
-    ensures { Reads (spec.finished tree at tokens.old) result tokens.new }
+fn finished(tokens: &mut Cursor<'_>, whole: Operand) -> Result<Tree, SyntaxFault>
+    ensures { Reads (spec.finished whole.tree whole.at tokens.old) result tokens.new }
 {
     if !tokens.is_end() {
         return Err(tokens.stop(Cause::Expected));
     }
-    tokens.note(unless(fits_truth(&tree), at));
-    tokens.settled(tree)
+    tokens.note(whole.no_truth());
+    tokens.settled(whole)
 }
 
 #[tactic(auto, unfolding(jm_tree::specs::Answer::whole))]
@@ -33,7 +32,7 @@ fn whole(alloc: Global, tokens: &mut Cursor<'_>) -> Result<Tree, SyntaxFault>
 {
     let at = tokens.start();
     let tree = either(alloc, tokens, MAX_LEVELS)?;
-    finished(tokens, tree, at)
+    finished(tokens, Operand { tree, at })
 }
 
 /// The tree that the tokens of a text of `end` bytes spell as a selector, or the first fault

@@ -33,14 +33,14 @@ pub rolled_count : (p : ℕ) (ys : List Row) (d : Row) → 0 < length ys → row
 rolled_count p [] d l = absurd (omega arith)
 rolled_count p (y ∷ ys) d l = omega (arith, rows_both p ys (y ∷ []), row_first p y ys, row_first p y [])
 
-pub follows_same : (t0 t : Messages) (init xs ys : List Row) → ((p : ℕ) → rows_at p ys ≡ rows_at p xs) → Follows t0 t init xs → Follows t0 t init ys
-follows_same t0 t init xs ys e f = record { holders = λ p. omega (arith, e p, f.holders p); messages = f.messages }
+pub follows_same : (origin t : Messages) (init xs ys : List Row) → ((p : ℕ) → rows_at p ys ≡ rows_at p xs) → Follows origin t init xs → Follows origin t init ys
+follows_same origin t init xs ys e f = record { holders = λ p. omega (arith, e p, f.holders p); messages = f.messages }
 
 pub covers_same : (t : Messages) (xs ys : List Row) → ((p : ℕ) → rows_at p ys ≡ rows_at p xs) → Covers t xs → Covers t ys
 covers_same t xs ys e c = record { held = λ p. omega (arith, e p, c.held p) }
 
-pub first_gone : (t0 t t' : Messages) (init ys : List Row) (row : Row) → 0 < length ys → row ≡ get_or ys 0 row → Follows t0 t init ys → Covers t ys → LosesHolder t t' row.place → KeepsMessages t t' → Follows t0 t' init (drop 1 ys) × Covers t' (drop 1 ys)
-first_gone t0 t t' init ys row l is f c released kept = rw (← remove_first ys) (row_gone t0 t t' init ys 0 row l is f c released kept)
+pub first_gone : (origin t t' : Messages) (init ys : List Row) (row : Row) → 0 < length ys → row ≡ get_or ys 0 row → Follows origin t init ys → Covers t ys → LosesHolder t t' row.place → KeepsMessages t t' → Follows origin t' init (drop 1 ys) × Covers t' (drop 1 ys)
+first_gone origin t t' init ys row l is f c released kept = rw (← remove_first ys) (row_gone origin t t' init ys 0 row l is f c released kept)
 
 put_count : (p : ℕ) (x : Row) (l : List Row) → rows_at p (put is_lower x l) ≡ rows_at p (x ∷ l)
 put_count p x [] = refl
@@ -73,8 +73,8 @@ set_count p [] i lane d l = absurd (omega arith)
 set_count p (x ∷ xs) zero lane d l = omega (arith, rows_both p x.rows (all_rows xs), rows_both p lane.rows (all_rows xs))
 set_count p (x ∷ xs) (suc i) lane d l = omega (arith, rows_both p x.rows (all_rows (set xs i lane)), rows_both p x.rows (all_rows xs), set_count p xs i lane d (omega arith))
 
-pub record IsLet (t0 t : Messages) (init lanes : List Lane) : Type 0 where
-  pub follows : Follows t0 t (all_rows init) (all_rows lanes)
+pub record IsLet (origin t : Messages) (init lanes : List Lane) : Type 0 where
+  pub follows : Follows origin t (all_rows init) (all_rows lanes)
   pub covers : Covers t (all_rows lanes)
 
 pub let_none : (t : Messages) (init : List Lane) → Covers t (all_rows init) → IsLet t t init init
@@ -88,8 +88,8 @@ lane_part p (x ∷ xs) (suc i) d l = omega (arith, rows_both p x.rows (all_rows 
 pub covers_lane : (t : Messages) (lanes : List Lane) (i : ℕ) (d : Lane) → Covers t (all_rows lanes) → i < length lanes → Covers t (get_or lanes i d).rows
 covers_lane t lanes i d c l = record { held = λ p. omega (arith, lane_part p lanes i d l, c.held p) }
 
-pub let_more : (q : Row → Bool) (t0 t t' : Messages) (init lanes : List Lane) (i : ℕ) (d lane : Lane) → IsLet t0 t init lanes → i < length lanes → lane.rows ≡ filter q (get_or lanes i d).rows → Follows t t' (get_or lanes i d).rows lane.rows → IsLet t0 t' init (set lanes i lane)
-let_more q t0 t t' init lanes i d lane w l is f =
+pub let_more : (q : Row → Bool) (origin t t' : Messages) (init lanes : List Lane) (i : ℕ) (d lane : Lane) → IsLet origin t init lanes → i < length lanes → lane.rows ≡ filter q (get_or lanes i d).rows → Follows t t' (get_or lanes i d).rows lane.rows → IsLet origin t' init (set lanes i lane)
+let_more q origin t t' init lanes i d lane w l is f =
     let fewer : (p : ℕ) → rows_at p lane.rows ≤ rows_at p (get_or lanes i d).rows = λ p. rw is (filter_count q p (get_or lanes i d).rows) in
     record {
       follows = record {
@@ -100,8 +100,8 @@ let_more q t0 t t' init lanes i d lane w l is f =
     }
 
 -- by place, of all lanes
-pub follows_shown : (t0 t : Messages) (xs ys : List Lane) (us vs : List Row) → ((p : ℕ) → rows_at p us ≡ rows_at p (all_rows xs)) → ((p : ℕ) → rows_at p vs ≡ rows_at p (all_rows ys)) → Follows t0 t (all_rows xs) (all_rows ys) → Follows t0 t us vs
-follows_shown t0 t xs ys us vs a b f = record { holders = λ p. omega (arith, a p, b p, f.holders p); messages = f.messages }
+pub follows_shown : (origin t : Messages) (xs ys : List Lane) (us vs : List Row) → ((p : ℕ) → rows_at p us ≡ rows_at p (all_rows xs)) → ((p : ℕ) → rows_at p vs ≡ rows_at p (all_rows ys)) → Follows origin t (all_rows xs) (all_rows ys) → Follows origin t us vs
+follows_shown origin t xs ys us vs a b f = record { holders = λ p. omega (arith, a p, b p, f.holders p); messages = f.messages }
 
 pub shown_count : (p : ℕ) (xs : List Lane) → rows_at p (rows_of xs) ≡ rows_at p (all_rows xs)
 shown_count p xs = sorted_count p (all_rows xs)
@@ -109,20 +109,20 @@ shown_count p xs = sorted_count p (all_rows xs)
 pub covers_all : (t : Messages) (xs : List Lane) → Covers t (rows_of xs) → Covers t (all_rows xs)
 covers_all t xs c = covers_same t (rows_of xs) (all_rows xs) (λ p. sym (shown_count p xs)) c
 
-pub follows_all : (t0 t : Messages) (xs ys : List Lane) → Follows t0 t (all_rows xs) (all_rows ys) → Follows t0 t (rows_of xs) (rows_of ys)
-follows_all t0 t xs ys f = follows_shown t0 t xs ys (rows_of xs) (rows_of ys) (λ p. shown_count p xs) (λ p. shown_count p ys) f
+pub follows_all : (origin t : Messages) (xs ys : List Lane) → Follows origin t (all_rows xs) (all_rows ys) → Follows origin t (rows_of xs) (rows_of ys)
+follows_all origin t xs ys f = follows_shown origin t xs ys (rows_of xs) (rows_of ys) (λ p. shown_count p xs) (λ p. shown_count p ys) f
 
 taken_count : (s : SessionId) (c : ℕ) (ys zs : List Lane) (res o : Option Row) → MatchOption o ((res ≡ None) × (zs ≡ ys)) (λ r. (res ≡ Some (sent s c r)) × EachBecomes (map (sent_at r.place s c)) ys zs) → (p : ℕ) → rows_at p (all_rows zs) ≡ rows_at p (all_rows ys)
 taken_count s c ys zs res None m p = ap (λ ls. rows_at p (all_rows ls)) m.1
 taken_count s c ys zs res (Some r) m p =
     ap (rows_at p) (all_rows_each (map (sent_at r.place s c)) refl (map-append (sent_at r.place s c)) ys zs m.1) ∙ map_count (sent_at r.place s c) (sent_at_place r.place s c) p (all_rows ys)
 
-pub follows_taken : (t0 t : Messages) (s : SessionId) (c : ℕ) (xs ys zs : List Lane) (res : Option Row) → MatchOption (find is_waiting (all_rows ys)) ((res ≡ None) × (zs ≡ ys)) (λ r. (res ≡ Some (sent s c r)) × EachBecomes (map (sent_at r.place s c)) ys zs) → Follows t0 t (all_rows xs) (all_rows ys) → Follows t0 t (rows_of xs) (rows_of zs)
-follows_taken t0 t s c xs ys zs res m f =
-    follows_shown t0 t xs ys (rows_of xs) (rows_of zs) (λ p. shown_count p xs) (λ p. shown_count p zs ∙ taken_count s c ys zs res (find is_waiting (all_rows ys)) m p) f
+pub follows_taken : (origin t : Messages) (s : SessionId) (c : ℕ) (xs ys zs : List Lane) (res : Option Row) → MatchOption (find is_waiting (all_rows ys)) ((res ≡ None) × (zs ≡ ys)) (λ r. (res ≡ Some (sent s c r)) × EachBecomes (map (sent_at r.place s c)) ys zs) → Follows origin t (all_rows xs) (all_rows ys) → Follows origin t (rows_of xs) (rows_of zs)
+follows_taken origin t s c xs ys zs res m f =
+    follows_shown origin t xs ys (rows_of xs) (rows_of zs) (λ p. shown_count p xs) (λ p. shown_count p zs ∙ taken_count s c ys zs res (find is_waiting (all_rows ys)) m p) f
 
-pub follows_held : (t0 t : Messages) (xs : List Row) (row : Row) → GainsHolder t0 t row.place → KeepsMessages t0 t → Follows t0 t xs (xs ++ row ∷ [])
-follows_held t0 t xs row h k =
+pub follows_held : (origin t : Messages) (xs : List Row) (row : Row) → GainsHolder origin t row.place → KeepsMessages origin t → Follows origin t xs (xs ++ row ∷ [])
+follows_held origin t xs row h k =
     record { holders = λ p. omega (arith, h.holders p, same_test p row.place, rows_both p xs (row ∷ []), row_first p row []); messages = k }
 
 pub edited_one : (q : Row → Bool) (init lanes : List Lane) (i : ℕ) (d lane : Lane) → IsEdited (filter q) init lanes i → i < length init → lane.priority ≡ (get_or lanes i d).priority → lane.rows ≡ filter q (get_or lanes i d).rows → (get_or lanes i d).spare ≤ lane.spare → IsEdited (filter q) init (set lanes i lane) (i + 1)
@@ -175,8 +175,8 @@ pub covers_after : (old new : Messages) (before after : List Row) → Covers old
 covers_after old new before after c f = record { held = λ p. omega (arith, c.held p, f.holders p) }
 
 -- one step after another
-pub follows_then : (t0 t1 t2 : Messages) (us vs ws : List Row) → ((p : ℕ) → rows_at p ws ≤ rows_at p vs) → Follows t0 t1 us vs → Follows t1 t2 vs ws → Follows t0 t2 us ws
-follows_then t0 t1 t2 us vs ws fewer f g = record {
+pub follows_then : (origin second third : Messages) (us vs ws : List Row) → ((p : ℕ) → rows_at p ws ≤ rows_at p vs) → Follows origin second us vs → Follows second third vs ws → Follows origin third us ws
+follows_then origin second third us vs ws fewer f g = record {
   holders = λ p. omega (arith, f.holders p, g.holders p);
   messages = record { same = λ p h. g.messages.same p h ∙ f.messages.same p (omega (arith, h, g.holders p, fewer p)); room = omega (arith, g.messages.room, f.messages.room) };
 }
@@ -193,11 +193,11 @@ first_holder t ys r apart found c =
     omega (arith, one, elsewhere_count r.place ys r apart found, c.held r.place)
 
 -- and what was dropped before changes neither its holders nor its message
-pub first_message : (t0 t1 : Messages) (xs : List Row) (p : Row → Bool) (r : Row) → IsApart xs → IsApart (filter p xs) → find is_waiting (filter p xs) ≡ Some r → Covers t0 xs → Follows t0 t1 xs (filter p xs) → last_message t1 r.place ≡ last_message t0 r.place
-first_message t0 t1 xs p r apart apart' found c f =
-    let there : 0 < holders_of t1 r.place = first_holder t1 (filter p xs) r apart' found (covers_after t0 t1 xs (filter p xs) c f) in
+pub first_message : (origin second : Messages) (xs : List Row) (p : Row → Bool) (r : Row) → IsApart xs → IsApart (filter p xs) → find is_waiting (filter p xs) ≡ Some r → Covers origin xs → Follows origin second xs (filter p xs) → last_message second r.place ≡ last_message origin r.place
+first_message origin second xs p r apart apart' found c f =
+    let there : 0 < holders_of second r.place = first_holder second (filter p xs) r apart' found (covers_after origin second xs (filter p xs) c f) in
     let one : cond {A = ℕ} (r.place == r.place) 1 0 ≡ 1 = rw (eq-eqb r.place r.place refl) refl in
-    let same : holders_of t1 r.place ≡ holders_of t0 r.place = omega (arith, one, f.holders r.place, apart_once r.place xs apart, filter_count p r.place xs, elsewhere_count r.place (filter p xs) r apart' found) in
+    let same : holders_of second r.place ≡ holders_of origin r.place = omega (arith, one, f.holders r.place, apart_once r.place xs apart, filter_count p r.place xs, elsewhere_count r.place (filter p xs) r apart' found) in
     rw (same, f.messages.same r.place there) refl
 
 -- rows that rise have no two of one place

@@ -1,12 +1,12 @@
 -- What all lanes keep through each call.
-use Rattle.std.proofs.Common.{◌≡◌, ℕ, ◌+◌, ◌^◌, ◌<◌, ◌≤◌, List, [], ◌∷◌, length, get_or, map, true, false, Bool, not, ◌&&◌, ◌||◌, cond, Some, refl, ap, ◌∙◌, arith}
+use Rattle.std.proofs.Common.{◌≡◌, ℕ, ◌+◌, ◌^◌, ◌<◌, ◌≤◌, List, [], ◌∷◌, length, get_or, map, true, false, Bool, not, ◌&&◌, ◌||◌, cond, Some, refl, ap, ◌∙◌, arith, suc}
 use Rattle.std.specs.List.{filter, find, All}
 use Rattle.std.proofs.lemmas.List.{map-append}
 use Rattle.std.proofs.lemmas.List.Elements.{filter-append, All-filter, All-map, All-weaker}
 use Rattle.jm_pending.specs.declared.row.Row.{Row}
 use Rattle.jm_pending.specs.Lists.{sorted}
 use Rattle.jm_pending.specs.Rows.{is_waiting, is_ready, is_expired, stays}
-use Rattle.jm_pending.specs.Lanes.{Lane, EachBecomes, all_rows, rows_of, is_sooner, is_lower, IsInOrder, IsHeld}
+use Rattle.jm_pending.specs.Lanes.{Lane, EachBecomes, IsCopied, all_rows, rows_of, is_sooner, is_lower, IsInOrder, IsHeld}
 use Rattle.jm_pending.proofs.Rising.{rising-filter, rising-map}
 use Rattle.jm_pending.proofs.Places.{sorted-filter, sorted-map}
 use Rattle.jm_pending.proofs.Edited.{all_rows_each}
@@ -105,3 +105,26 @@ find_ready now (x ∷ xs) = go (is_waiting x) (is_expired now x) refl refl (find
     go true true p q rec = rec
     go true false p q rec = rw p refl
     go false e p q rec = rw p rec
+
+-- lanes with the same rows
+all_rows_copied : (xs ys : List Lane) → length ys ≡ length xs → ((k : ℕ) (d : Lane) → k < length xs → IsCopied (get_or xs k d) (get_or ys k d)) → all_rows ys ≡ all_rows xs
+all_rows_copied [] [] n e = refl
+all_rows_copied [] (y ∷ ys) n e = absurd (omega (arith, n))
+all_rows_copied (x ∷ xs) [] n e = absurd (omega (arith, n))
+all_rows_copied (x ∷ xs) (y ∷ ys) n e =
+    rw ((e 0 x (omega arith)).rows, all_rows_copied xs ys (omega (arith, n)) (λ k d l. e (suc k) d (omega (arith, l)))) refl
+
+pub held_copied : (xs ys : List Lane) (room : ℕ) → IsHeld xs room → length ys ≡ length xs → ((k : ℕ) (d : Lane) → k < length xs → IsCopied (get_or xs k d) (get_or ys k d)) → IsHeld ys 0 × (rows_of ys ≡ rows_of xs)
+held_copied xs ys room h n e =
+    let all : all_rows ys ≡ all_rows xs = all_rows_copied xs ys n e in (
+      record {
+        ten = n ∙ h.ten;
+        priorities = λ k d l. rw (e k d (omega (arith, n, l))).priority (h.priorities k d (omega (arith, n, l)));
+        same = λ k d l. rw ((e k d (omega (arith, n, l))).rows, (e k d (omega (arith, n, l))).priority) (h.same k d (omega (arith, n, l)));
+        ordered = rw all h.ordered;
+        rising = rw all h.rising;
+        bounded = rw all h.bounded;
+        spare = λ k d l. omega arith;
+      },
+      ap (sorted is_lower) all,
+    )

@@ -15,8 +15,8 @@ same_test a b = grind (arith, nat_tests)
 pub follows_none : (t : Messages) (rows : List Row) → Follows t t rows rows
 follows_none t rows = record { holders = λ p. refl; messages = record { same = λ p h. refl; room = omega arith } }
 
-pub row_gone : (t0 t t' : Messages) (init ys : List Row) (at : ℕ) (row : Row) → at < length ys → row ≡ get_or ys at row → Follows t0 t init ys → Covers t ys → LosesHolder t t' row.place → KeepsMessages t t' → Follows t0 t' init (remove ys at) × Covers t' (remove ys at)
-row_gone t0 t t' init ys at row l is f c released kept =
+pub row_gone : (origin t t' : Messages) (init ys : List Row) (at : ℕ) (row : Row) → at < length ys → row ≡ get_or ys at row → Follows origin t init ys → Covers t ys → LosesHolder t t' row.place → KeepsMessages t t' → Follows origin t' init (remove ys at) × Covers t' (remove ys at)
+row_gone origin t t' init ys at row l is f c released kept =
     let count : (p : ℕ) → rows_at p (remove ys at) + cond (p == row.place) 1 0 ≡ rows_at p ys = λ p.
     rw (same_test p row.place, ap {B = ℕ} (λ (r : Row). cond {A = ℕ} (r.place == p) 1 0) is) (count_remove (λ (r : Row). r.place == p) ys at row l) in (
       record {

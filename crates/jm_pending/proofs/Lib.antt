@@ -12,4 +12,7 @@ mod Pushing
 mod Letting
 pub mod Holding
 mod Ranks
+mod Shown
+mod Standing
 pub mod Counting
+pub mod From

@@ -1,7 +1,8 @@
 -- How rows stand in lanes: one lane for each priority, from 9 down, each by place.
-use Rattle.std.specs.Prelude.{◌≡◌, ◌≢◌, ℕ, ◌+◌, ◌++◌, ◌≤◌, ◌<◌, ◌^◌, ◌==◌, nat_lt, nat_le, Bool, true, false, not, ◌&&◌, ◌||◌, List, [], ◌∷◌, All, take, drop, length, slice_index_or}
+use Rattle.std.specs.Prelude.{◌≡◌, ◌≢◌, ℕ, ◌+◌, ◌++◌, ◌≤◌, ◌<◌, ◌==◌, nat_lt, nat_le, Bool, true, false, not, ◌&&◌, ◌||◌, List, [], ◌∷◌, All, find, IsSome, take, drop, length, slice_index_or}
 use Rattle.std.specs.List.{flat_map}
 use Rattle.jm_pending.specs.Lists.{sorted}
+use Rattle.jm_dest.specs.Numbers.{long_end}
 use Rattle.jm_pending.specs.declared.row.Row.{Row}
 use Rattle.jm_pending.specs.Rows.{is_waiting, IsRising}
 
@@ -81,7 +82,7 @@ pub record IsHeld (lanes : List Lane) (room : ℕ) : Type 0 where
   pub same : All (λ (l : Lane). All (λ (r : Row). r.priority ≡ l.priority) l.rows) lanes
   pub ordered : IsInOrder (all_rows lanes)
   pub rising : IsRising (rows_of lanes)
-  pub bounded : All (λ (r : Row). r.place < 2 ^ 63) (all_rows lanes)
+  pub bounded : All (λ (r : Row). r.place < long_end) (all_rows lanes)
   pub spare : All (λ (l : Lane). room ≤ l.spare) lanes
 
 -- a lane after an edit of its rows
@@ -100,3 +101,14 @@ pub record IsPushed (row : Row) (a b : Lane) : Type 0 where
   pub priority : b.priority ≡ a.priority
   pub rows : b.rows ≡ a.rows ++ row ∷ []
   pub room : a.spare ≡ b.spare + 1
+
+-- a lane with the same rows; the room may differ
+pub record IsCopied (a b : Lane) : Type 0 where
+  pub priority : b.priority ≡ a.priority
+  pub rows : b.rows ≡ a.rows
+
+-- the least place of the rows from a place on, or one that is past all places where there is none
+pub record IsPlaceFrom (place least : ℕ) (rows : List Row) : Type 0 where
+  pub from : place ≤ least
+  pub none : All (λ (r : Row). place ≤ r.place → least ≤ r.place) rows
+  pub there : least < long_end → IsSome (find (is_at least) rows)

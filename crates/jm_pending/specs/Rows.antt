@@ -91,6 +91,10 @@ sent_at place session consumer r = if r.place == place then sent session consume
 abbrev pub is_elsewhere : ℕ → Row → Bool
 is_elsewhere place r = not (r.place == place)
 
+-- the row is at that place or at a higher one
+abbrev pub is_from : ℕ → Row → Bool
+is_from place r = nat_le place r.place
+
 -- a row that passes waits again, at its place and with its count
 abbrev pub back : (Row → Bool) → Row → Row
 back passes r = if passes r then record r { state = Waiting } else r

@@ -1,6 +1,7 @@
 //! The rows of one subscription.
 
-ghost use Rattle.std.specs.Prelude.{◌≡◌, ℕ, ◌+◌, ◌-◌, ◌^◌, ◌<◌, ◌≤◌, [], ◌∷◌, ◌++◌, length, slice_get, All, filter, map, min, not, true, false, None, Some, OnOk, MatchOption};
+ghost use Rattle.std.specs.Prelude.{◌≡◌, ℕ, ◌+◌, ◌-◌, ◌^◌, ◌<◌, ◌≤◌, [], ◌∷◌, ◌++◌, length, slice_get, All, find, filter, map, min, not, true, false, None, Some, IfSome, IfOk, OnOk, MatchOption};
+ghost use Rattle.jm_dest.specs.Numbers.{long_end};
 ghost use Rattle.jm_pending.specs.declared.row.Row.{Row};
 ghost use Rattle.jm_pending.specs.Rows as spec;
 ghost use Rattle.jm_pending.specs.Holders.{Covers, Follows, holders_of, last_message};
@@ -66,7 +67,21 @@ impl Held {
         }
     }
 
+    /// The same rows, with the same limit and as many publications missed, and no room. `AllocError` where a request
+    /// for memory was refused.
+    pub fn copy(&self) -> Result<Held, AllocError>
+        ensures { IfOk result (λ copy. copy ≡ record self.now { room = 0 }) }
+    {
+        Ok(Held {
+            lanes: self.lanes.clone()?,
+            limit: self.limit,
+            missed: self.missed,
+            room: 0,
+        })
+    }
+
     /// How many rows there are.
+    #[tactic(auto, using(crate::proofs::Shown::length_shown))]
     pub fn len(&self) -> usize
         ensures len { result ≡ length self.now.rows }
         ensures rising { spec.IsRising self.now.rows }
@@ -86,6 +101,17 @@ impl Held {
         ensures { result ≡ slice_get self.now.rows index }
     {
         lanes::row_at(&self.lanes, index)
+    }
+
+    /// The first row by place of those from that place on. All rows are met in turn from 0 on, each looked for from the
+    /// place after the one before.
+    pub fn row_from(&self, place: u64) -> Option<Row>
+        requires { place ≤ long_end }
+        ensures row { result ≡ find (spec.is_from place) self.now.rows }
+        ensures place { IfSome result (λ r. r.place < long_end) }
+        ensures rising { spec.IsRising self.now.rows }
+    {
+        lanes::row_from(&self.lanes, place)
     }
 
     /// Whether one more publication would be missed.
@@ -114,7 +140,7 @@ impl Held {
     /// instead. Takes no memory, since room was reserved.
     pub fn add(&mut self, table: &mut Table, row: Row)
         requires room { 0 < self.old.room }
-        requires place { row.place < 2 ^ 63 }
+        requires place { row.place < long_end }
         requires priority { row.priority < 10 }
         requires waiting { spec.is_waiting row ≡ true }
         requires above { All (λ (r : Row). r.place < row.place) self.old.rows }
@@ -137,6 +163,7 @@ impl Held {
 
     /// The row that a delivery at that moment would take: of those that wait and are not expired the
     /// one of highest priority, then of least place.
+    #[tactic(auto, using(crate::proofs::Order::next_in_order))]
     pub fn next(&self, now: Moment) -> Option<Row>
         ensures next { result ≡ spec.next now self.now.rows }
         ensures rising { spec.IsRising self.now.rows }
@@ -203,6 +230,7 @@ impl Held {
 
     /// The row at that place goes, where it is out through that consumer of the session. Takes no
     /// memory.
+    #[tactic(auto, using(crate::proofs::Shown::filter_shown))]
     pub fn settle_one(
         &mut self,
         table: &mut Table,
@@ -234,6 +262,7 @@ impl Held {
 
     /// The row at that place waits again, where it is out through that consumer of the session. Takes
     /// no memory.
+    #[tactic(auto, using(crate::proofs::Shown::back_shown))]
     pub fn give_back_one(&mut self, session: SessionId, consumer: ConsumerId, place: u64)
         ensures { self.new ≡ record self.old {
           rows =

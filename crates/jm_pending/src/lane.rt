@@ -2,8 +2,10 @@
 
 ghost use Rattle.std.specs.Prelude.{◌≡◌, ℕ, ◌+◌, ◌<◌, ◌≤◌, [], ◌∷◌, ◌++◌, length, All, find, filter, map, true, false, OnOk, MatchOption, option_map, slice_get};
 ghost use Rattle.jm_pending.specs.declared.row.Row.{Row};
-ghost use Rattle.jm_pending.specs.Rows.{IsRising, back, is_among, is_elsewhere, is_ready, is_waiting, keeps, sent as sent_lem, sent_at, stays};
-ghost use Rattle.jm_pending.specs.Lanes.{is_at, is_below};
+ghost use Rattle.jm_pending.specs.Rows.{IsRising, back, is_among, is_elsewhere, is_ready, is_waiting, keeps, sent_at, stays};
+ghost use Rattle.jm_pending.specs.Rows as spec;
+ghost use Rattle.jm_dest.specs.Numbers.{long_end};
+ghost use Rattle.jm_pending.specs.Lanes.{IsCopied, IsPlaceFrom, is_at, is_below};
 ghost use Rattle.jm_pending.specs.Holders.{Covers, Follows};
 
 use crate::row::{Outs, Row};
@@ -38,6 +40,22 @@ impl Model for Lane {
     ghost view = { λ a. record { priority = a.priority; rows = a.rows.items; spare = deque_capacity a.rows - deque_len a.rows } };
 
     ghost invariant = { λ a. IsSteadyLane a.rows.items a.priority a.low a.high a.least a.steady };
+}
+
+impl Clone for Lane {
+    ghost is_clone = { λ a b. IsCopied a b };
+
+    // The room may differ.
+    fn clone(&self) -> Result<Lane, AllocError> {
+        Ok(Lane {
+            rows: self.rows.clone()?,
+            priority: self.priority,
+            low: self.low,
+            high: self.high,
+            least: self.least,
+            steady: self.steady,
+        })
+    }
 }
 
 impl Lane {
@@ -77,6 +95,7 @@ impl Lane {
     }
 
     /// The row at that place.
+    #[tactic(auto, using(crate::proofs::Ranks::found_at))]
     pub(crate) fn at(&self, place: u64) -> Option<Row>
         ensures { result ≡ find (is_at place) self.now.rows }
     {
@@ -85,6 +104,17 @@ impl Lane {
             Some(Row { ..row })
         } else {
             None
+        }
+    }
+
+    /// The least place of the rows from that place on, or 2^63 where there is none.
+    pub(crate) fn place_from(&self, place: u64) -> u64
+        requires { place ≤ long_end }
+        ensures { IsPlaceFrom place result self.now.rows }
+    {
+        match self.get(self.below(place)) {
+            Some(row) => row.place,
+            None => 1 << 63,
         }
     }
 
@@ -152,7 +182,7 @@ impl Lane {
     /// Sends the first row that waits.
     pub(crate) fn take_first(&mut self, session: SessionId, consumer: ConsumerId) -> Option<Row>
         ensures priority { self.new.priority ≡ self.old.priority }
-        ensures result { result ≡ option_map (sent_lem session consumer) (find is_waiting self.old.rows) }
+        ensures result { result ≡ option_map (spec.sent session consumer) (find is_waiting self.old.rows) }
         ensures rows { MatchOption (find is_waiting self.old.rows)
             (self.new.rows ≡ self.old.rows)
             (λ r. self.new.rows ≡ map (sent_at r.place session consumer) self.old.rows) }

@@ -1,9 +1,11 @@
 //! The lanes of one subscription, from the highest priority on.
 
-ghost use Rattle.std.specs.Prelude.{◌≡◌, ℕ, ◌+◌, ◌-◌, ◌^◌, ◌<◌, ◌≤◌, length, All, find, filter, map, take, true, false, None, Some, OnOk, IsSome, MatchOption, slice_get, slice_index_or, slice_set};
+ghost use Rattle.std.specs.Prelude.{◌≡◌, ℕ, ◌+◌, ◌-◌, ◌^◌, ◌<◌, ◌≤◌, [], length, All, find, filter, map, take, true, false, None, Some, OnOk, IsSome, MatchOption, slice_get, slice_index_or, slice_set};
+ghost use Rattle.jm_dest.specs.Numbers.{long_end};
 ghost use Rattle.jm_pending.specs.declared.row.Row.{Row};
-ghost use Rattle.jm_pending.specs.Rows.{IsRising, back, is_among, is_elsewhere, is_ready, is_waiting, keeps, sent as sent_lem, sent_at, stays};
-ghost use Rattle.jm_pending.specs.Lanes.{EachBecomes, IsApart, IsPushed, Lane, all_rows, is_at, is_below, rows_of};
+ghost use Rattle.jm_pending.specs.Rows.{IsRising, back, is_among, is_elsewhere, is_ready, is_waiting, keeps, sent_at, stays};
+ghost use Rattle.jm_pending.specs.Rows as spec;
+ghost use Rattle.jm_pending.specs.Lanes.{EachBecomes, IsApart, IsPlaceFrom, IsPushed, Lane, all_rows, is_at, is_below, rows_of};
 ghost use Rattle.jm_pending.specs.Holders.{Covers, Follows};
 
 use crate::lane::Lane;
@@ -53,7 +55,7 @@ fn at(lanes: &[Lane], place: u64) -> Option<Row>
 fn place_after(lanes: &[Lane], count: usize) -> u64
     requires few { length (all_rows lanes.now) < 2 ^ 64 }
     requires some { count < length (all_rows lanes.now) }
-    requires bounded { All (λ (r : Row). r.place < 2 ^ 63) (all_rows lanes.now) }
+    requires bounded { All (λ (r : Row). r.place < long_end) (all_rows lanes.now) }
     ensures low { length (filter (is_below result) (all_rows lanes.now)) ≤ count }
     ensures high { count < length (filter (is_below (result + 1)) (all_rows lanes.now)) }
 {
@@ -73,7 +75,7 @@ fn place_after(lanes: &[Lane], count: usize) -> u64
 /// The row that so many stand before by place.
 pub(crate) fn row_at(lanes: &[Lane], index: usize) -> Option<Row>
     requires few { length (all_rows lanes.now) < 2 ^ 64 }
-    requires bounded { All (λ (r : Row). r.place < 2 ^ 63) (all_rows lanes.now) }
+    requires bounded { All (λ (r : Row). r.place < long_end) (all_rows lanes.now) }
     requires rising { IsRising (rows_of lanes.now) }
     ensures { result ≡ slice_get (rows_of lanes.now) index }
 {
@@ -82,6 +84,28 @@ pub(crate) fn row_at(lanes: &[Lane], index: usize) -> Option<Row>
     } else {
         None
     }
+}
+
+/// The least place of the rows from that place on, or 2^63 where there is none.
+fn place_from(lanes: &[Lane], place: u64) -> u64
+    requires { place ≤ long_end }
+    ensures { IsPlaceFrom place result (all_rows lanes.now) }
+{
+    let mut least = 1 << 63;
+    for lane in lanes.iter() {
+        least = least.min(lane.place_from(place));
+    }
+    least
+}
+
+/// The first row by place of those from that place on.
+pub(crate) fn row_from(lanes: &[Lane], place: u64) -> Option<Row>
+    requires place { place ≤ long_end }
+    requires bounded { All (λ (r : Row). r.place < long_end) (all_rows lanes.now) }
+    requires rising { IsRising (rows_of lanes.now) }
+    ensures { result ≡ find (spec.is_from place) (rows_of lanes.now) }
+{
+    at(lanes, place_from(lanes, place))
 }
 
 pub(crate) fn reserve(lanes: &mut [Lane], additional: usize) -> Result<(), AllocError>
@@ -157,7 +181,7 @@ pub(crate) fn take_first(
     requires { IsApart (all_rows lanes.old) }
     ensures { MatchOption (find is_waiting (all_rows lanes.old))
         ((result ≡ None) × (lanes.new ≡ lanes.old))
-        (λ r. (result ≡ Some (sent_lem session consumer r)) ×
+        (λ r. (result ≡ Some (spec.sent session consumer r)) ×
         EachBecomes (map (sent_at r.place session consumer)) lanes.old lanes.new) }
 {
     let at = first_lane(lanes);
@@ -209,6 +233,7 @@ pub(crate) fn give_back(lanes: &mut [Lane], outs: &Outs)
 pub(crate) fn clear(lanes: &mut [Lane], table: &mut Table)
     requires { Covers table.old (all_rows lanes.old) }
     ensures rows { EachBecomes (filter (λ r. false)) lanes.old lanes.new }
+    ensures gone { all_rows lanes.new ≡ [] }
     ensures table { Follows table.old table.new (all_rows lanes.old) (all_rows lanes.new) }
 {
     for lane in lanes.iter_mut() {

@@ -3,7 +3,8 @@
 ghost use Rattle.std.specs.Prelude.{◌≡◌, ◌<◌, ◌≤◌};
 ghost use Rattle.jm_dest.specs.Names.{session_eq};
 ghost use Rattle.jm_pending.specs.Rows as spec;
-ghost use Rattle.jm_pending.specs.Lanes.{IsBound, in_turn as in_turn_lem};
+ghost use Rattle.jm_pending.specs.Lanes as by_lane;
+ghost use Rattle.jm_pending.specs.Lanes.{IsBound};
 
 use jm_dest::{ConsumerId, Moment, SessionId};
 use jm_header::Message;
@@ -137,7 +138,7 @@ impl Row {
 
     /// Whether the row does not expire before the other.
     pub(crate) fn expires_after(&self, other: &Row) -> bool
-        ensures { result ≡ in_turn_lem other.now self.now }
+        ensures { result ≡ by_lane.in_turn other.now self.now }
     {
         let expiration = self.expiration.get();
         let first = other.expiration.get();

@@ -1,6 +1,6 @@
 //! The table of messages.
 
-ghost use Rattle.std.specs.Prelude.{◌≡◌, ◌≢◌, ℕ, ◌+◌, ◌-◌, ◌<◌, ◌≤◌, ◌^◌, None, Some, OnOk};
+ghost use Rattle.std.specs.Prelude.{◌≡◌, ◌≢◌, ℕ, ◌+◌, ◌-◌, ◌<◌, ◌≤◌, ◌^◌, None, Some, IfOk, OnOk};
 ghost use Rattle.std.specs.Option.{option_copied};
 ghost use Rattle.jm_pending.specs.Holders.{GainsHolder, IsNumberOfPlaces, KeepsMessages, LosesHolder, holders_of, last_message, message_of};
 
@@ -14,6 +14,17 @@ use std::marker::Model;
 pub(crate) struct Stored {
     pub message: Message,
     pub holders: u64,
+}
+
+impl Clone for Stored {
+    ghost is_clone = { λ a b. b ≡ a };
+
+    fn clone(&self) -> Result<Stored, AllocError> {
+        Ok(Stored {
+            message: self.message.copy()?,
+            holders: self.holders,
+        })
+    }
 }
 
 /// Messages by the places of their publications (ours). Each stands once, beside the number of its
@@ -43,6 +54,16 @@ impl Table {
         Table {
             messages: IndexMap::new(alloc),
         }
+    }
+
+    /// The same messages with as many holders each; the room may differ. `AllocError` where a request for memory was
+    /// refused.
+    pub fn copy(&self) -> Result<Table, AllocError>
+        ensures { IfOk result (λ copy. copy ≡ record self.now { spare = copy.spare }) }
+    {
+        Ok(Table {
+            messages: self.messages.clone()?,
+        })
     }
 
     /// Makes room for that many more messages. `AllocError` where a request for memory was refused.
@@ -93,6 +114,7 @@ impl Table {
     }
 
     /// How many messages the table has.
+    #[tactic(auto, using(crate::proofs::Standing::number_of_places))]
     pub fn len(&self) -> usize
         ensures { IsNumberOfPlaces result self.now }
     {

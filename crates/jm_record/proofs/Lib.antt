@@ -1,9 +1,2 @@
-pub mod Texts
 pub mod Loop
-pub mod Codec
-pub mod FieldLaws
-pub mod PartLaws
-pub mod Tables
-pub mod PropertyLaws
 pub mod MessageLaws
-pub mod Written

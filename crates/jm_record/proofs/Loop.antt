@@ -3,7 +3,8 @@ use Rattle.std.proofs.Common.{◌≡◌, ℕ, suc, ◌+◌, ◌-◌, ◌<◌, �
 use Rattle.jm_property.specs.Properties.{Table}
 use Rattle.jm_record.specs.declared.fault.Fault.{Fault}
 use Rattle.jm_record.specs.declared.fault.Fault.TheVariants as faults
-use Rattle.jm_record.specs.Reading.{Outcome, Reads, one_more, properties_after}
+use Rattle.jm_record.specs.Faults.{Reads}
+use Rattle.jm_format.specs.Reading.{Outcome, one_more, properties_after}
 
 pub goes_on : (count i : ℕ) (before after : Table) (bytes rest : List ℕ) (total : Outcome Table) → i < count → one_more before bytes ≡ Ok (after, rest) → properties_after (count - i) before bytes ≡ total → properties_after (count - (i + 1)) after rest ≡ total
 unfolding properties_after

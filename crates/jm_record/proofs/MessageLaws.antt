@@ -1,105 +1,74 @@
 -- The rule of a message reads exactly the messages, by their fields.
-use Rattle.std.proofs.Common.{◌≡◌, ℕ, ◌+◌, ◌-◌, ◌^◌, ◌<◌, ◌≤◌, false, List, [], ◌∷◌, ◌++◌, length, take, drop, Ok, Err, refl, sym, ◌∙◌, ap, subst, arith}
-use Rattle.std.specs.Int.{w64}
+use Rattle.std.proofs.Common.{◌≡◌, ℕ, ◌+◌, ◌-◌, ◌<◌, ◌≤◌, false, List, [], ◌∷◌, ◌++◌, length, take, drop, Ok, Err, refl, sym, ◌∙◌, ap, subst, arith}
+use Rattle.std.specs.Int.{w32, w64, to_be_bytes}
 use Rattle.std.specs.List.{concat}
 use Rattle.std.proofs.lemmas.List.{append-nil, length-append, take_all}
+use Rattle.jm_dest.specs.Numbers.{long_end}
 use Rattle.jm_header.specs.declared.content.Content.{Content}
-use Rattle.jm_record.specs.Format as format
-use Rattle.jm_record.specs.Format.{«record»}
-use Rattle.jm_record.specs.Messages.{AreBytes, IsMessage, IsWriteable, writeable}
+use Rattle.jm_format.specs.Limits.{length_end}
+use Rattle.jm_format.specs.Format as format
+use Rattle.jm_format.specs.Format.{«record»}
+use Rattle.jm_format.specs.Messages.{AreBytes, IsSender, IsMessage, IsWriteable, writeable}
 use Rattle.jm_record.specs.Damage.{Begins, IsDamaged}
 use Rattle.jm_record.specs.declared.fault.Fault.{Fault}
 use Rattle.jm_record.specs.declared.fault.Fault.TheVariants.{Damaged, Memory}
-use Rattle.jm_record.specs.Reading.{Outcome, Reads, and_then, end, message, whole}
-use Rattle.jm_record.proofs.Codec.{IsRead, IsRead-pure, reads_then, left_of, same_read, same_stop, read_is_no_stop}
-use Rattle.jm_record.proofs.FieldLaws.{wide64}
-use Rattle.jm_record.proofs.PartLaws.{Expires, reads_byte, reads_number, reads_moment, reads_expiration, reads_sender, reads_mode, reads_destination, reads_optional_text, reads_body}
-use Rattle.jm_record.proofs.PropertyLaws.{reads_properties}
+use Rattle.jm_record.specs.Faults.{Reads}
+use Rattle.jm_format.specs.Reading.{Outcome, Head, and_then, end, head, message, whole}
+use Rattle.jm_reading.specs.Exact.{left_of, IsRead}
+use Rattle.jm_reading.proofs.Codec.{IsRead-pure, reads_then, same_read, same_stop, read_is_no_stop}
+use Rattle.jm_reading.proofs.FieldLaws.{wide64}
+use Rattle.jm_reading.proofs.PartLaws.{Expires, reads_byte, reads_number, reads_moment, reads_expiration, reads_sender, reads_mode, reads_destination, reads_optional_text, reads_body}
+use Rattle.jm_reading.proofs.PropertyLaws.{reads_properties}
 
 -- a message that may be written
 pub record IsRest (m : Content) : Type 0 where
   pub message : IsMessage m
   pub writeable : IsWriteable m
 
-expires_with : (m : Content) (sent : ℕ) → IsMessage m → m.timestamp ≡ sent → Expires sent m.expiration
-expires_with m sent is same = record { below = is.expiration; after = λ some. subst (λ (n : ℕ). n < m.expiration) same (is.valid.expires some) }
+-- the fields of a message up to JMSPriority
+abbrev head_of : Content → Head
+head_of m = record {
+  sender = m.sender;
+  number = m.number;
+  timestamp = m.timestamp;
+  expiration = m.expiration;
+  mode = m.mode;
+  priority = m.priority;
+}
 
--- the fields from the correlation on
-abbrev from_type : Content → List (List ℕ)
-from_type m = format.message_type m ++ (format.body m ++ format.property_count m ∷ format.properties m)
+abbrev head_fields : Head → List (List ℕ)
+head_fields h =
+    format.byte 1 ∷ to_be_bytes w32 h.sender.opening ∷ to_be_bytes w32 h.sender.session.connection ∷ to_be_bytes w32 h.sender.session.number
+    ∷ to_be_bytes w64 h.number ∷ to_be_bytes w64 h.timestamp ∷ to_be_bytes w64 h.expiration
+    ∷ format.byte (format.mode_byte h.mode) ∷ format.byte h.priority ∷ []
 
-abbrev from_body : Content → List (List ℕ)
-from_body m = format.body m ++ format.property_count m ∷ format.properties m
+pub record IsHead (h : Head) : Type 0 where
+  pub sender : IsSender h.sender
+  pub counted : 1 ≤ h.number
+  pub numbered : h.number < long_end
+  pub timestamp : h.timestamp < long_end
+  pub expires : Expires h.timestamp h.expiration
+  pub priority : h.priority ≤ 9
 
-abbrev from_count : Content → List (List ℕ)
-from_count m = format.property_count m ∷ format.properties m
-
-pub reads_message : IsRead IsRest format.fields message
-unfolding message
-reads_message =
-    reads_then (λ m. 1) (λ m. drop 1 (format.fields m)) (λ m is. record { low = omega arith; high = omega arith }) (λ m is. refl) (reads_byte 1 1 (omega arith)) (λ v v_is.
-    reads_then (λ m. m.sender) (λ m. drop 4 (format.fields m)) (λ m is. is.0.message.sender) (λ m is. refl) reads_sender (λ by by_is.
-    reads_then (λ m. m.number) (λ m. drop 5 (format.fields m)) (λ m is. record { low = is.0.0.message.valid.counted; high = omega (arith, is.0.0.message.valid.numbered) }) (λ m is. refl) (reads_number w64 (2 ^ 64) wide64 1 (2 ^ 63 - 1) (omega arith) (omega arith)) (λ n n_is.
-    reads_then (λ m. m.timestamp) (λ m. drop 6 (format.fields m)) (λ m is. is.0.0.0.message.timestamp) (λ m is. refl) reads_moment (λ sent sent_is.
-    reads_then (λ m. m.expiration) (λ m. drop 7 (format.fields m)) (λ m is. expires_with m sent is.0.0.0.0.message is.1) (λ m is. refl) (reads_expiration sent) (λ ends ends_is.
-    reads_then (λ m. m.mode) (λ m. drop 8 (format.fields m)) (λ m is. tt) (λ m is. refl) reads_mode (λ how how_is.
-    reads_then (λ m. m.priority) (λ m. drop 9 (format.fields m)) (λ m is. record { low = omega arith; high = is.0.0.0.0.0.0.message.valid.priority }) (λ m is. refl) (reads_byte 0 9 (omega arith)) (λ rank rank_is.
-    reads_then (λ m. m.destination) (λ m. drop 11 (format.fields m)) (λ m is. is.0.0.0.0.0.0.0.message.destination) (λ m is. refl) reads_destination (λ to to_is.
-    reads_then (λ m. m.correlation) from_type (λ m is. is.0.0.0.0.0.0.0.0.message.correlation) (λ m is. refl) reads_optional_text (λ correlation correlation_is.
-    reads_then (λ m. m.message_type) from_body (λ m is. is.0.0.0.0.0.0.0.0.0.message.message_type) (λ m is. refl) reads_optional_text (λ message_type type_is.
-    reads_then (λ m. m.body) from_count (λ m is. is.0.0.0.0.0.0.0.0.0.0.message.body) (λ m is. refl) reads_body (λ content content_is.
-    reads_then (λ m. m.properties) (λ m. []) (λ m is. is.0.0.0.0.0.0.0.0.0.0.0.message.properties) (λ m is. sym (append-nil (from_count m))) reads_properties (λ table table_is.
-    IsRead-pure _ _ (record {
-      sender = by;
-      number = n;
-      destination = to;
-      mode = how;
-      priority = rank;
-      timestamp = sent;
-      expiration = ends;
-      correlation = correlation;
-      message_type = message_type;
-      body = content;
-      properties = table;
-      is_body_read_only = false;
-      are_properties_read_only = false;
-    }) (
+reads_head : IsRead IsHead head_fields head
+unfolding head
+reads_head =
+    reads_then (λ h. 1) (λ h. drop 1 (head_fields h)) (λ h is. record { low = omega arith; high = omega arith }) (λ h is. refl) (reads_byte 1 1 (omega arith)) (λ v v_is.
+    reads_then (λ h. h.sender) (λ h. drop 4 (head_fields h)) (λ h is. is.0.sender) (λ h is. refl) reads_sender (λ by by_is.
+    reads_then (λ h. h.number) (λ h. drop 5 (head_fields h)) (λ h is. record { low = is.0.0.counted; high = omega (arith, is.0.0.numbered) }) (λ h is. refl) (reads_number w64 length_end wide64 1 (long_end - 1) (omega arith) (omega arith)) (λ n n_is.
+    reads_then (λ h. h.timestamp) (λ h. drop 6 (head_fields h)) (λ h is. is.0.0.0.timestamp) (λ h is. refl) reads_moment (λ sent sent_is.
+    reads_then (λ h. h.expiration) (λ h. drop 7 (head_fields h)) (λ h is. subst (λ (n : ℕ). Expires n h.expiration) is.1 is.0.0.0.0.expires) (λ h is. refl) (reads_expiration sent) (λ ends ends_is.
+    reads_then (λ h. h.mode) (λ h. drop 8 (head_fields h)) (λ h is. tt) (λ h is. refl) reads_mode (λ how how_is.
+    reads_then (λ h. h.priority) (λ h. []) (λ h is. record { low = omega arith; high = is.0.0.0.0.0.0.priority }) (λ h is. refl) (reads_byte 0 9 (omega arith)) (λ rank rank_is.
+    IsRead-pure _ _ (record { sender = by; number = n; timestamp = sent; expiration = ends; mode = how; priority = rank }) (
       (
         (
           (
             (
               (
                 (
-                  (
-                    (
-                      (
-                        (
-                          (
-                            record {
-                              message = record {
-                                valid = record { counted = n_is.low; numbered = omega (arith, n_is.high); priority = rank_is.high; expires = ends_is.after };
-                                sender = by_is;
-                                timestamp = sent_is;
-                                expiration = ends_is.below;
-                                destination = to_is;
-                                correlation = correlation_is;
-                                message_type = type_is;
-                                body = content_is;
-                                properties = table_is;
-                              };
-                              writeable = record { body = refl; properties = refl };
-                            },
-                            let only : 1 ≡ v = omega (arith, v_is.low, v_is.high) in only,
-                          ),
-                          refl,
-                        ),
-                        refl,
-                      ),
-                      refl,
-                    ),
-                    refl,
-                  ),
-                  refl,
+                  record { sender = by_is; counted = n_is.low; numbered = omega (arith, n_is.high); timestamp = sent_is; expires = ends_is; priority = rank_is.high },
+                  let only : 1 ≡ v = omega (arith, v_is.low, v_is.high) in only,
                 ),
                 refl,
               ),
@@ -113,22 +82,107 @@ reads_message =
       ),
       refl,
     )
+    (λ h is. λ i. record {
+      sender = is.0.0.0.0.0.1 i;
+      number = is.0.0.0.0.1 i;
+      timestamp = is.0.0.0.1 i;
+      expiration = is.0.0.1 i;
+      mode = is.0.1 i;
+      priority = is.1 i;
+    })
+    (λ h is. refl))))))))
+
+head_is : (m : Content) → IsMessage m → IsHead (head_of m)
+head_is m is = record {
+  sender = is.sender;
+  counted = is.valid.counted;
+  numbered = is.valid.numbered;
+  timestamp = is.timestamp;
+  expires = record { below = is.expiration; after = is.valid.expires };
+  priority = is.valid.priority;
+}
+
+-- the fields from the type on
+abbrev from_type : Content → List (List ℕ)
+from_type m = format.message_type m ++ (format.body m ++ format.property_count m ∷ format.properties m)
+
+abbrev from_body : Content → List (List ℕ)
+from_body m = format.body m ++ format.property_count m ∷ format.properties m
+
+abbrev from_count : Content → List (List ℕ)
+from_count m = format.property_count m ∷ format.properties m
+
+pub reads_message : IsRead IsRest format.fields message
+unfolding message
+reads_message =
+    reads_then head_of (λ m. drop 9 (format.fields m)) (λ m is. head_is m is.message) (λ m is. refl) reads_head (λ h h_is.
+    reads_then (λ m. m.destination) (λ m. drop 11 (format.fields m)) (λ m is. is.0.message.destination) (λ m is. refl) reads_destination (λ to to_is.
+    reads_then (λ m. m.correlation) from_type (λ m is. is.0.0.message.correlation) (λ m is. refl) reads_optional_text (λ correlation correlation_is.
+    reads_then (λ m. m.message_type) from_body (λ m is. is.0.0.0.message.message_type) (λ m is. refl) reads_optional_text (λ message_type type_is.
+    reads_then (λ m. m.body) from_count (λ m is. is.0.0.0.0.message.body) (λ m is. refl) reads_body (λ content content_is.
+    reads_then (λ m. m.properties) (λ m. []) (λ m is. is.0.0.0.0.0.message.properties) (λ m is. sym (append-nil (from_count m))) reads_properties (λ table table_is.
+    IsRead-pure _ _ (record {
+      sender = h.sender;
+      number = h.number;
+      destination = to;
+      mode = h.mode;
+      priority = h.priority;
+      timestamp = h.timestamp;
+      expiration = h.expiration;
+      correlation = correlation;
+      message_type = message_type;
+      body = content;
+      properties = table;
+      is_body_read_only = false;
+      are_properties_read_only = false;
+    }) (
+      (
+        (
+          (
+            (
+              (
+                record {
+                  message = record {
+                    valid = record { counted = h_is.counted; numbered = h_is.numbered; priority = h_is.priority; expires = h_is.expires.after };
+                    sender = h_is.sender;
+                    timestamp = h_is.timestamp;
+                    expiration = h_is.expires.below;
+                    destination = to_is;
+                    correlation = correlation_is;
+                    message_type = type_is;
+                    body = content_is;
+                    properties = table_is;
+                  };
+                  writeable = record { body = refl; properties = refl };
+                },
+                refl,
+              ),
+              refl,
+            ),
+            refl,
+          ),
+          refl,
+        ),
+        refl,
+      ),
+      refl,
+    )
     (λ m is. λ i. record {
-      sender = is.0.0.0.0.0.0.0.0.0.0.1 i;
-      number = is.0.0.0.0.0.0.0.0.0.1 i;
+      sender = (is.0.0.0.0.0.1 i).sender;
+      number = (is.0.0.0.0.0.1 i).number;
       destination = is.0.0.0.0.1 i;
-      mode = is.0.0.0.0.0.0.1 i;
-      priority = is.0.0.0.0.0.1 i;
-      timestamp = is.0.0.0.0.0.0.0.0.1 i;
-      expiration = is.0.0.0.0.0.0.0.1 i;
+      mode = (is.0.0.0.0.0.1 i).mode;
+      priority = (is.0.0.0.0.0.1 i).priority;
+      timestamp = (is.0.0.0.0.0.1 i).timestamp;
+      expiration = (is.0.0.0.0.0.1 i).expiration;
       correlation = is.0.0.0.1 i;
       message_type = is.0.0.1 i;
       body = is.0.1 i;
       properties = is.1 i;
-      is_body_read_only = is.0.0.0.0.0.0.0.0.0.0.0.0.writeable.body i;
-      are_properties_read_only = is.0.0.0.0.0.0.0.0.0.0.0.0.writeable.properties i;
+      is_body_read_only = is.0.0.0.0.0.0.writeable.body i;
+      are_properties_read_only = is.0.0.0.0.0.0.writeable.properties i;
     })
-    (λ m is. refl)))))))))))))
+    (λ m is. refl)))))))
 
 -- ---- whole records
 

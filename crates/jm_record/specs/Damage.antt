@@ -4,8 +4,8 @@ use Rattle.std.specs.List.{concat}
 use Rattle.jm_header.specs.declared.content.Content.{Content}
 use Rattle.jm_record.specs.declared.fault.RecordFault.{RecordFault}
 use Rattle.jm_record.specs.declared.fault.RecordFault.TheVariants.{Damaged, Memory}
-use Rattle.jm_record.specs.Format.{fields, «record»}
-use Rattle.jm_record.specs.Messages.{IsMessage}
+use Rattle.jm_format.specs.Format.{fields, «record»}
+use Rattle.jm_format.specs.Messages.{IsMessage}
 
 -- the first so many bytes are the first fields of some message's record, each of them whole
 pub record Begins (bytes : List ℕ) (at : ℕ) : Type 0 where

@@ -1,8 +1,8 @@
 -- What the records of all messages obey.
 use Rattle.std.specs.Prelude.{◌≡◌, ℕ, List, [], ◌++◌}
 use Rattle.jm_header.specs.declared.content.Content.{Content}
-use Rattle.jm_record.specs.Format as format
-use Rattle.jm_record.specs.Messages.{IsMessage, writeable}
+use Rattle.jm_format.specs.Format as format
+use Rattle.jm_format.specs.Messages.{IsMessage, writeable}
 
 -- no record is a proper prefix of another
 abbrev pub NoPrefix : Type 0

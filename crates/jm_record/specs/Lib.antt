@@ -1,6 +1,4 @@
-pub mod Format
-pub mod Messages
 pub mod Damage
-pub mod Reading
 pub mod Faults
+pub mod Heads
 pub mod Laws

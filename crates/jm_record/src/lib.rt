@@ -1,16 +1,15 @@
-//! The record of a message: the bytes that a store keeps of it, version 1 (ours).
+//! The record of a message: the bytes that a store keeps of it, version 1 (ours), written and read. The writing
+//! is given out again.
 #![tactic(auto)]
 
 mod fault;
-mod fields;
+mod head;
 mod laws;
-mod length;
 mod parts;
 mod reader;
 mod reading;
-mod writing;
 
 pub use fault::RecordFault;
+pub use jm_format::write_record;
 pub use laws::{law_no_prefix, law_one_message};
 pub use reading::read_record;
-pub use writing::write_record;

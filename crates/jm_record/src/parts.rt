@@ -1,12 +1,14 @@
-ghost use Rattle.std.specs.Prelude.{◌≡◌, ◌-◌, ◌^◌, []};
-ghost use Rattle.jm_record.specs.Reading as spec;
-ghost use Rattle.jm_record.specs.Reading.{Reads};
+ghost use Rattle.std.specs.Prelude.{◌≡◌, []};
+ghost use Rattle.jm_format.specs.Reading as spec;
+ghost use Rattle.jm_record.specs.Faults.{Reads};
+ghost use Rattle.jm_record.specs.Heads.{seen_head};
 
 use crate::fault::Fault;
-use crate::fields::VERSION;
+use crate::head::Head;
 use crate::reader::Reader;
 use jm_base::{List, Str};
 use jm_dest::{ConnectionId, Destination, Number, SessionId};
+use jm_format::VERSION;
 use jm_header::{Body, Content, DeliveryMode, Sender};
 use jm_property::{Properties, Property};
 use std::alloc::Global;
@@ -27,7 +29,7 @@ fn tags_of(name: &str) -> (u8, u8)
 
 impl<'a> Reader<'a> {
     /// The session that sent the message.
-    #[tactic(auto, unfolding(crate::specs::Reading::sender))]
+    #[tactic(auto, unfolding(jm_format::specs::Reading::sender))]
     fn sender(&mut self) -> Result<Sender, Fault>
         ensures { Reads (λ sender. sender) (spec.sender self.old) result self.new }
     {
@@ -38,7 +40,7 @@ impl<'a> Reader<'a> {
     }
 
     /// JMSDeliveryMode.
-    #[tactic(auto, unfolding(crate::specs::Reading::mode))]
+    #[tactic(auto, unfolding(jm_format::specs::Reading::mode))]
     fn mode(&mut self) -> Result<DeliveryMode, Fault>
         ensures { Reads (λ mode. mode) (spec.mode self.old) result self.new }
     {
@@ -58,7 +60,7 @@ impl<'a> Reader<'a> {
     }
 
     /// A mark and, where it is 1, a text.
-    #[tactic(auto, unfolding(crate::specs::Reading::optional_text, crate::specs::Reading::marked_text))]
+    #[tactic(auto, unfolding(jm_format::specs::Reading::optional_text, jm_format::specs::Reading::marked_text))]
     fn optional_text(&mut self, alloc: Global) -> Result<Option<Str>, Fault>
         ensures { Reads (λ text. text) (spec.optional_text self.old) result self.new }
     {
@@ -70,7 +72,7 @@ impl<'a> Reader<'a> {
     }
 
     /// A tag and the body. The body is copied once.
-    #[tactic(auto, unfolding(crate::specs::Reading::body, crate::specs::Reading::tagged_body))]
+    #[tactic(auto, unfolding(jm_format::specs::Reading::body, jm_format::specs::Reading::tagged_body))]
     fn body(&mut self, alloc: Global) -> Result<Body, Fault>
         ensures { Reads (λ body. body) (spec.body self.old) result self.new }
     {
@@ -86,7 +88,7 @@ impl<'a> Reader<'a> {
     }
 
     /// JMSDestination.
-    #[tactic(auto, unfolding(crate::specs::Reading::destination))]
+    #[tactic(auto, unfolding(jm_format::specs::Reading::destination))]
     fn destination(&mut self, alloc: Global) -> Result<Destination, Fault>
         ensures { Reads (λ destination. destination) (spec.destination self.old) result self.new }
     {
@@ -98,7 +100,7 @@ impl<'a> Reader<'a> {
     }
 
     /// The value of a property of that tag.
-    #[tactic(auto, unfolding(crate::specs::Reading::value))]
+    #[tactic(auto, unfolding(jm_format::specs::Reading::value))]
     fn value(&mut self, alloc: Global, tag: u8) -> Result<Property, Fault>
         ensures { Reads (λ value. value) (spec.value tag self.old) result self.new }
     {
@@ -113,7 +115,7 @@ impl<'a> Reader<'a> {
     }
 
     /// A property, which is set after those before it.
-    #[tactic(auto, using(crate::proofs::Tables::appended), unfolding(crate::specs::Reading::property, crate::specs::Reading::one_more))]
+    #[tactic(auto, using(jm_reading::proofs::Tables::appended), unfolding(jm_format::specs::Reading::property))]
     fn property(&mut self, alloc: Global, properties: &mut Properties) -> Result<(), Fault>
         ensures { Reads (λ _. properties.new) (spec.one_more properties.old self.old) result self.new }
     {
@@ -140,7 +142,7 @@ impl<'a> Reader<'a> {
     }
 
     /// A count and so many properties.
-    #[tactic(auto, unfolding(crate::specs::Reading::properties))]
+    #[tactic(auto, unfolding(jm_format::specs::Reading::properties))]
     fn properties(&mut self, alloc: Global) -> Result<Properties, Fault>
         ensures { Reads (λ properties. properties) (spec.properties self.old) result self.new }
     {
@@ -148,10 +150,10 @@ impl<'a> Reader<'a> {
         self.so_many_properties(alloc, count)
     }
 
-    /// A message.
-    #[tactic(auto, unfolding(crate::specs::Reading::message))]
-    pub(crate) fn message(&mut self, alloc: Global) -> Result<Content, Fault>
-        ensures { Reads (λ message. message) (spec.message self.old) result self.new }
+    /// The version and the fields up to JMSPriority.
+    #[tactic(auto, unfolding(jm_format::specs::Reading::head))]
+    fn head(&mut self) -> Result<Head, Fault>
+        ensures { Reads seen_head (spec.head self.old) result self.new }
     {
         self.byte(VERSION, VERSION)?;
         let sender = self.sender()?;
@@ -160,19 +162,35 @@ impl<'a> Reader<'a> {
         let expiration = self.expiration(timestamp)?;
         let mode = self.mode()?;
         let priority = self.byte(0, 9)?;
+        Ok(Head {
+            sender,
+            number,
+            timestamp,
+            expiration,
+            mode,
+            priority,
+        })
+    }
+
+    /// A message.
+    #[tactic(auto, unfolding(jm_format::specs::Reading::message))]
+    pub(crate) fn message(&mut self, alloc: Global) -> Result<Content, Fault>
+        ensures { Reads (λ message. message) (spec.message self.old) result self.new }
+    {
+        let head = self.head()?;
         let destination = self.destination(alloc)?;
         let correlation = self.optional_text(alloc)?;
         let message_type = self.optional_text(alloc)?;
         let body = self.body(alloc)?;
         let properties = self.properties(alloc)?;
         Ok(Content {
-            sender,
-            number,
+            sender: head.sender,
+            number: head.number,
             destination,
-            mode,
-            priority,
-            timestamp,
-            expiration,
+            mode: head.mode,
+            priority: head.priority,
+            timestamp: head.timestamp,
+            expiration: head.expiration,
             correlation,
             message_type,
             body,
@@ -183,7 +201,7 @@ impl<'a> Reader<'a> {
     }
 
     /// A message and nothing after it.
-    #[tactic(auto, unfolding(crate::specs::Reading::whole))]
+    #[tactic(auto, unfolding(jm_format::specs::Reading::whole))]
     pub(crate) fn whole(&mut self, alloc: Global) -> Result<Content, Fault>
         ensures { Reads (λ message. message) (spec.whole self.old) result self.new }
     {

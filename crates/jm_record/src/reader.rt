@@ -1,12 +1,13 @@
-ghost use Rattle.std.specs.Prelude.{◌≡◌, ◌≤◌, ◌-◌, ◌^◌, IfOk, None, length};
+ghost use Rattle.std.specs.Prelude.{◌≡◌, ◌≤◌, IfOk, None, length};
 ghost use Rattle.jm_property.specs.Properties.{value_of};
 ghost use Rattle.std.specs.Int.{w16, w32, w64};
-ghost use Rattle.jm_record.specs.Reading as spec;
-ghost use Rattle.jm_record.specs.Reading.{Reads};
+ghost use Rattle.jm_format.specs.Limits.{greatest};
+ghost use Rattle.jm_format.specs.Reading as spec;
+ghost use Rattle.jm_record.specs.Faults.{Reads};
 
 use crate::fault::Fault;
-use crate::fields::{block, long_number, moment, short_number, text};
 use jm_dest::{Moment, Name};
+use jm_format::{block_at, byte_at, moment_at, text_at, u16_at, u32_at, u64_at};
 use jm_property::{Properties, is_settable};
 use std::alloc::Global;
 use std::marker::Model;
@@ -43,26 +44,26 @@ impl<'a> Reader<'a> {
     }
 
     /// A byte from the least to the most.
-    #[tactic(auto, unfolding(crate::specs::Reading::byte))]
+    #[tactic(auto, unfolding(jm_format::specs::Reading::byte))]
     pub(crate) fn byte(&mut self, least: u8, most: u8) -> Result<u8, Fault>
         ensures { Reads (λ n. n) (spec.byte least most self.old) result self.new }
     {
-        match self.rest {
-            [byte, rest @ ..] if least <= *byte && *byte <= most => {
+        match byte_at(self.rest) {
+            Some((byte, rest)) if least <= byte && byte <= most => {
                 self.rest = rest;
-                Ok(*byte)
+                Ok(byte)
             }
             _ => Err(Fault::Damaged),
         }
     }
 
     /// A number of 4 bytes, at least 1.
-    #[tactic(auto, unfolding(crate::specs::Reading::number))]
+    #[tactic(auto, unfolding(jm_format::specs::Reading::number))]
     pub(crate) fn number(&mut self) -> Result<u32, Fault>
-        ensures reads { Reads (λ n. n) (spec.number w32 1 (2 ^ 32 - 1) self.old) result self.new }
+        ensures reads { Reads (λ n. n) (spec.number w32 1 (greatest w32) self.old) result self.new }
         ensures positive { IfOk result (λ n. 1 ≤ n) }
     {
-        match short_number(self.rest) {
+        match u32_at(self.rest) {
             Some((number, rest)) if number >= 1 => {
                 self.rest = rest;
                 Ok(number)
@@ -72,25 +73,25 @@ impl<'a> Reader<'a> {
     }
 
     /// A number of 2 bytes.
-    #[tactic(auto, unfolding(crate::specs::Reading::number))]
+    #[tactic(auto, unfolding(jm_format::specs::Reading::number))]
     pub(crate) fn short(&mut self) -> Result<u16, Fault>
-        ensures { Reads (λ n. n) (spec.number w16 0 (2 ^ 16 - 1) self.old) result self.new }
+        ensures { Reads (λ n. n) (spec.number w16 0 (greatest w16) self.old) result self.new }
     {
-        match self.rest.split_first_chunk::<2>() {
+        match u16_at(self.rest) {
             Some((number, rest)) => {
                 self.rest = rest;
-                Ok(u16::from_be_bytes(*number))
+                Ok(number)
             }
             None => Err(Fault::Damaged),
         }
     }
 
     /// A number of 4 bytes.
-    #[tactic(auto, unfolding(crate::specs::Reading::number))]
+    #[tactic(auto, unfolding(jm_format::specs::Reading::number))]
     pub(crate) fn int(&mut self) -> Result<u32, Fault>
-        ensures { Reads (λ n. n) (spec.number w32 0 (2 ^ 32 - 1) self.old) result self.new }
+        ensures { Reads (λ n. n) (spec.number w32 0 (greatest w32) self.old) result self.new }
     {
-        match short_number(self.rest) {
+        match u32_at(self.rest) {
             Some((number, rest)) => {
                 self.rest = rest;
                 Ok(number)
@@ -100,11 +101,11 @@ impl<'a> Reader<'a> {
     }
 
     /// A number of 8 bytes from the least to the most.
-    #[tactic(auto, unfolding(crate::specs::Reading::number))]
+    #[tactic(auto, unfolding(jm_format::specs::Reading::number))]
     pub(crate) fn long(&mut self, least: u64, most: u64) -> Result<u64, Fault>
         ensures { Reads (λ n. n) (spec.number w64 least most self.old) result self.new }
     {
-        match long_number(self.rest) {
+        match u64_at(self.rest) {
             Some((number, rest)) if least <= number && number <= most => {
                 self.rest = rest;
                 Ok(number)
@@ -114,11 +115,11 @@ impl<'a> Reader<'a> {
     }
 
     /// A moment.
-    #[tactic(auto, unfolding(crate::specs::Reading::moment))]
+    #[tactic(auto, unfolding(jm_format::specs::Reading::moment))]
     pub(crate) fn moment(&mut self) -> Result<Moment, Fault>
         ensures { Reads (λ moment. moment) (spec.moment self.old) result self.new }
     {
-        match moment(self.rest) {
+        match moment_at(self.rest) {
             Some((moment, rest)) => {
                 self.rest = rest;
                 Ok(moment)
@@ -128,11 +129,11 @@ impl<'a> Reader<'a> {
     }
 
     /// The expiration of a message of that timestamp: 0, or above the timestamp.
-    #[tactic(auto, unfolding(crate::specs::Reading::expiration))]
+    #[tactic(auto, unfolding(jm_format::specs::Reading::expiration))]
     pub(crate) fn expiration(&mut self, timestamp: Moment) -> Result<Moment, Fault>
         ensures { Reads (λ moment. moment) (spec.expiration timestamp self.old) result self.new }
     {
-        match moment(self.rest) {
+        match moment_at(self.rest) {
             Some((moment, rest)) if moment.get() == 0 || timestamp.get() < moment.get() => {
                 self.rest = rest;
                 Ok(moment)
@@ -142,11 +143,11 @@ impl<'a> Reader<'a> {
     }
 
     /// A length and as many bytes.
-    #[tactic(auto, unfolding(crate::specs::Reading::block))]
+    #[tactic(auto, unfolding(jm_format::specs::Reading::block))]
     pub(crate) fn block(&mut self) -> Result<&'a [u8], Fault>
         ensures { Reads (λ bytes. bytes.now) (spec.block self.old) result self.new }
     {
-        match block(self.rest) {
+        match block_at(self.rest) {
             Some((bytes, rest)) => {
                 self.rest = rest;
                 Ok(bytes)
@@ -156,11 +157,11 @@ impl<'a> Reader<'a> {
     }
 
     /// A text.
-    #[tactic(auto, unfolding(crate::specs::Reading::text))]
+    #[tactic(auto, unfolding(jm_format::specs::Reading::text))]
     pub(crate) fn text(&mut self) -> Result<&'a str, Fault>
         ensures { Reads (λ text. text.now) (spec.text self.old) result self.new }
     {
-        match text(self.rest) {
+        match text_at(self.rest) {
             Some((text, rest)) => {
                 self.rest = rest;
                 Ok(text)
@@ -170,12 +171,12 @@ impl<'a> Reader<'a> {
     }
 
     /// The name of a property beside those before it.
-    #[tactic(auto, unfolding(crate::specs::Reading::property_name))]
+    #[tactic(auto, unfolding(jm_format::specs::Reading::property_name))]
     pub(crate) fn property_name(&mut self, before: &Properties) -> Result<&'a str, Fault>
         ensures reads { Reads (λ name. name.now) (spec.property_name before.now self.old) result self.new }
         ensures new { IfOk result (λ name. value_of before.now name.now ≡ None) }
     {
-        match text(self.rest) {
+        match text_at(self.rest) {
             Some((name, rest)) if is_settable(name) && before.get(name).is_none() => {
                 self.rest = rest;
                 Ok(name)
@@ -185,11 +186,11 @@ impl<'a> Reader<'a> {
     }
 
     /// The name of a destination.
-    #[tactic(auto, unfolding(crate::specs::Reading::name))]
+    #[tactic(auto, unfolding(jm_format::specs::Reading::name))]
     pub(crate) fn name(&mut self, alloc: Global) -> Result<Name, Fault>
         ensures { Reads (λ name. name) (spec.name self.old) result self.new }
     {
-        let Some((text, rest)) = text(self.rest) else {
+        let Some((text, rest)) = text_at(self.rest) else {
             return Err(Fault::Damaged);
         };
         let name = Name::new(alloc, text)?;

@@ -1,8 +1,8 @@
 ghost use Rattle.std.specs.Prelude.{◌≡◌, IfOk, IfErr, MatchResult};
 ghost use Rattle.jm_header.specs.declared.content.Content.{Content};
 ghost use Rattle.jm_record.specs.declared.fault.RecordFault.TheVariants.{Memory};
-ghost use Rattle.jm_record.specs.Format as format;
-ghost use Rattle.jm_record.specs.Messages.{IsMessage, IsWriteable, writeable};
+ghost use Rattle.jm_format.specs.Format as format;
+ghost use Rattle.jm_format.specs.Messages.{IsMessage, IsWriteable, writeable};
 ghost use Rattle.jm_record.specs.Damage.{Refuses};
 
 use crate::fault::{Fault, RecordFault};

@@ -1,7 +1,6 @@
 -- What `select` prints: the value of a selector over each send (ours).
-use Rattle.std.specs.Prelude.{◌≡◌, ◌++◌, ◌+◌, ℕ, suc, List, [], ◌∷◌, Option, Some, None, Result, Ok, Err, if◌then◌else◌, codes, decimal, ◌⊎◌, MatchResult}
+use Rattle.std.specs.Prelude.{◌≡◌, ◌++◌, ◌+◌, ℕ, suc, List, [], ◌∷◌, Option, Some, None, Result, Ok, Err, codes, decimal, ◌⊎◌, MatchResult}
 use Rattle.jm_base.specs.declared.refusal.Refusal.{Refusal}
-use Rattle.jm_dest.specs.Names.{session_eq}
 use Rattle.jm_dest.specs.declared.destination.Destination.{Destination}
 use Rattle.jm_dest.specs.declared.session.SessionId.{SessionId}
 use Rattle.jm_eval.specs.Evaluation.{condition}
@@ -10,9 +9,11 @@ use Rattle.jm_eval.specs.declared.truth.Truth.{Truth}
 use Rattle.jm_eval.specs.declared.truth.Truth.TheVariants as truths
 use Rattle.jm_header.specs.Headers.{stamped}
 use Rattle.jm_header.specs.declared.content.Content.{Content}
+use Rattle.jm_header.specs.declared.content.Sender.{Sender}
 use Rattle.jm_header.specs.declared.content.Settings.{Settings}
 use Rattle.jm_machine.specs.declared.call.ClientCall.{ClientCall}
 use Rattle.jm_machine.specs.declared.call.ClientCall.TheVariants.{Ask, Send}
+use Rattle.jm_machine.specs.Client.{one_more}
 use Rattle.jm_lexer.specs.declared.fault.SyntaxFault.{SyntaxFault}
 use Rattle.jm_tree.specs.Parse.{parsed}
 use Rattle.jm_tree.specs.declared.tree.Tree.{Tree}
@@ -22,19 +23,22 @@ use Rattle.jm_runner.specs.declared.fault.Fault.{Fault}
 use Rattle.jm_runner.specs.declared.fault.Fault.TheVariants as faults
 use Rattle.jm_runner.specs.declared.source.Source.{Source}
 
--- the number of each session's newest stamped send, 0 where it has none
-abbrev pub Newest : Type 0
-Newest = SessionId → ℕ
+-- how many sends of each session were stamped
+abbrev pub Sent : Type 0
+Sent = SessionId → ℕ
 
--- the message of the session's next send in opening 1, or why it is not stamped
-abbrev pub stamp_next : Newest → SessionId → Settings → Destination → ℕ → Result Content Refusal
-stamp_next newest session draft destination now =
-    stamped draft destination (record { opening = 1; session = session }) (newest session + 1) now
+-- a session of opening 1, which sends
+abbrev pub sender : SessionId → Sender
+sender session = record { opening = 1; session = session }
 
--- a message that is stamped uses its number; another number stays free
-abbrev pub counted : SessionId → Result Content Refusal → Newest → Newest
-counted session (Ok message) newest other = if session_eq session other then message.number else newest other
-counted session (Err refusal) newest other = newest other
+-- the message of the session's next send, or why it is not stamped
+abbrev pub stamp_next : Sent → SessionId → Settings → Destination → ℕ → Result Content Refusal
+stamp_next sent session draft destination now = stamped draft destination (sender session) (sent session + 1) now
+
+-- a send that is stamped is counted; another leaves its number free
+abbrev pub counted : SessionId → Result Content Refusal → Sent → Sent
+counted session (Ok message) sent = one_more session sent
+counted session (Err refusal) sent = sent
 
 -- the value of a selector over a message, as a condition; a selector without tokens is TRUE
 abbrev pub truth : Option Tree → Content → Truth
@@ -57,22 +61,22 @@ abbrev pub send_line : Option Tree → ℕ → Result Content Refusal → List �
 send_line selector number stamp = decimal number ++ codes " " ++ verdict selector stamp ++ codes "\n"
 
 -- the line of a call: of a send its line, of another call nothing
-abbrev pub call_line : Option Tree → Newest → ℕ → ClientCall → List ℕ
-call_line selector newest number (Ask who request) = []
-call_line selector newest number (Send session draft destination now) =
-    send_line selector number (stamp_next newest session draft destination now)
+abbrev pub call_line : Option Tree → Sent → ℕ → ClientCall → List ℕ
+call_line selector sent number (Ask who request) = []
+call_line selector sent number (Send session draft destination now) =
+    send_line selector number (stamp_next sent session draft destination now)
 
--- the newest numbers after a call
-abbrev pub newest_after : Newest → ClientCall → Newest
-newest_after newest (Ask who request) = newest
-newest_after newest (Send session draft destination now) =
-    counted session (stamp_next newest session draft destination now) newest
+-- the counts after a call
+abbrev pub sent_after : Sent → ClientCall → Sent
+sent_after sent (Ask who request) = sent
+sent_after sent (Send session draft destination now) =
+    counted session (stamp_next sent session draft destination now) sent
 
 -- the lines of calls in order, the first of that number
-abbrev pub lines_from : Option Tree → Newest → ℕ → List ClientCall → List ℕ
-lines_from selector newest number [] = []
-lines_from selector newest number (call ∷ calls) =
-    call_line selector newest number call ++ lines_from selector (newest_after newest call) (suc number) calls
+abbrev pub lines_from : Option Tree → Sent → ℕ → List ClientCall → List ℕ
+lines_from selector sent number [] = []
+lines_from selector sent number (call ∷ calls) =
+    call_line selector sent number call ++ lines_from selector (sent_after sent call) (suc number) calls
 
 -- the lines of all sends, numbered by their calls from 1
 abbrev pub lines : Option Tree → List ClientCall → List ℕ

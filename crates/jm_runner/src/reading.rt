@@ -21,7 +21,9 @@ const CHUNK: usize = 4096;
 /// 16,777,216 bytes came; `Memory` where a request for memory was refused.
 #[tactic(auto, using(crate::proofs::Consumed::read_more, crate::proofs::Consumed::read_end, crate::proofs::Consumed::read_too_much))]
 fn read_all<R: Read>(alloc: Global, source: &mut Source<R>) -> Result<Vec<u8>, Fault>
-    ensures bytes { MatchResult result (λ bytes. GivesAll R.remaining source.old source.new bytes.items) (IsFaultOfReading R.remaining source.old source.new) }
+    ensures bytes { MatchResult result
+        (λ bytes. GivesAll R.remaining source.old source.new bytes.items)
+        (IsFaultOfReading R.remaining source.old source.new) }
     ensures reads { reads source.new ≤ reads source.old + reads_max }
 {
     let mut bytes = Vec::new(alloc);
@@ -60,7 +62,9 @@ pub(crate) fn calls_of<R: Read>(
     alloc: Global,
     source: &mut Source<R>,
 ) -> Result<Vec<ClientCall>, Fault>
-    ensures calls { MatchResult result (λ calls. GivesCalls R.remaining source.old source.new calls.items) (RefusesScenario R.remaining source.old source.new) }
+    ensures calls { MatchResult result
+        (λ calls. GivesCalls R.remaining source.old source.new calls.items)
+        (RefusesScenario R.remaining source.old source.new) }
     ensures reads { reads source.new ≤ reads source.old + reads_max }
 {
     let bytes = read_all(alloc, source)?;

@@ -75,7 +75,8 @@ fn told<R: Read>(alloc: Global, source: &mut Source<R>) -> Result<Printout, Faul
 /// Reads a scenario, in at most 16,777,217 reads, makes its calls on a new provider, and prints the line
 /// of each reply.
 pub fn play<R: Read, W: Write>(alloc: Global, source: &mut Source<R>, sink: &mut Sink<W>) -> Ending
-    ensures ends { Ends (Plays R.remaining source.old source.new) (RefusesScenario R.remaining source.old source.new) W.contents sink.old sink.new result }
+    ensures ends { Ends (Plays R.remaining source.old source.new) (RefusesScenario R.remaining source.old source.new)
+        W.contents sink.old sink.new result }
     ensures reads { reads source.new ≤ reads source.old + reads_max }
 {
     ended(sink, told(alloc, source))

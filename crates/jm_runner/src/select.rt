@@ -1,5 +1,6 @@
 ghost use Rattle.std.specs.Prelude.{◌≡◌, ◌≤◌, ◌+◌, Ok, string_bytes, IfOk, IfErr, MatchResult};
-ghost use Rattle.jm_core.specs.Runs.{sent_of};
+ghost use Rattle.jm_header.specs.Headers.{stamped};
+ghost use Rattle.jm_session.specs.Sends.{sent_of};
 ghost use Rattle.jm_tree.specs.Parse.{parsed};
 ghost use Rattle.jm_runner.specs.Ending.{Ends, ToldBy};
 ghost use Rattle.jm_runner.specs.Select as spec;
@@ -17,18 +18,17 @@ use jm_dest::{Destination, Moment, Number, SessionId};
 use jm_eval::{Truth, condition};
 use jm_header::{Draft, Message, Sender, stamp};
 use jm_machine::ClientCall;
+use jm_session::Sends;
 use jm_syntax::{Tree, parse};
 use std::alloc::{AllocError, Global};
-use std::collections::HashMap;
 use std::io::{Read, Write};
-
-/// The number of each session's newest stamped send.
-type Sends = HashMap<SessionId, u64>;
 
 /// The tree of the selector, or none where it has no tokens.
 fn tree_of(alloc: Global, selector: &str) -> Result<Option<Tree>, Fault>
     ensures ok { IfOk result (λ tree. parsed selector.now ≡ Ok tree) }
-    ensures err { IfErr result (λ fault. MatchResult (parsed selector.now) (λ _. fault ≡ Fault.Memory) (λ refused. RefusesSelector refused fault)) }
+    ensures err { IfErr result (λ fault. MatchResult (parsed selector.now)
+        (λ _. fault ≡ Fault.Memory)
+        (λ refused. RefusesSelector refused fault)) }
 {
     match parse(alloc, selector) {
         Ok(tree) => Ok(tree),
@@ -42,49 +42,43 @@ fn tree_of(alloc: Global, selector: &str) -> Result<Option<Tree>, Fault>
     }
 }
 
-/// The number of the session's newest stamped send, 0 where it has none.
-fn newest(sends: &Sends, session: &SessionId) -> u64
-    ensures { result ≡ sent_of sends.now session.now }
-{
-    sends.get(session).copied().unwrap_or(0)
-}
-
-/// The message of the session's next send, or `OutOfRange`.
-fn stamp_next(
-    sends: &Sends,
+/// The message of the session's send of that number, or `OutOfRange`.
+fn stamp_as(
     session: &SessionId,
+    number: u64,
     draft: Draft,
     destination: Destination,
     now: Moment,
 ) -> Result<Message, Refusal>
-    ensures { result ≡ spec.stamp_next (sent_of sends.now) session.now draft destination now }
+    ensures { result ≡ stamped draft destination (spec.sender session.now) number now }
 {
     let sender = Sender {
         opening: Number::new(OPENING)?,
         session: *session,
     };
-    match newest(sends, session).checked_add(1) {
-        Some(number) => stamp(draft, destination, sender, number, now),
-        None => Err(Refusal::OutOfRange),
-    }
+    stamp(draft, destination, sender, number, now)
 }
 
-/// The stamped message, whose number is noted, or why it is not stamped. `AllocError` where a request
-/// for memory was refused.
-fn noted(
+/// The message of the session's next send, which is counted; or `OutOfRange`, and nothing is counted.
+/// `AllocError` where a request for memory was refused.
+fn stamp_next(
     sends: &mut Sends,
     session: &SessionId,
-    stamped: Result<Message, Refusal>,
+    draft: Draft,
+    destination: Destination,
+    now: Moment,
 ) -> Result<Result<Message, Refusal>, AllocError>
-    ensures { IfOk result (λ kept. (kept ≡ stamped) × (sent_of sends.new ≡ spec.counted session.now stamped (sent_of sends.old))) }
+    ensures { IfOk result (λ stamped. (stamped ≡ spec.stamp_next (sent_of sends.old) session.now draft destination now)
+        × (sent_of sends.new ≡ spec.counted session.now stamped (sent_of sends.old))) }
 {
-    match stamped {
-        Ok(message) => {
-            sends.insert(*session, message.number())?;
-            Ok(Ok(message))
-        }
-        Err(refusal) => Ok(Err(refusal)),
+    let Some(number) = sends.next_number(session) else {
+        return Ok(Err(Refusal::OutOfRange));
+    };
+    let stamped = stamp_as(session, number, draft, destination, now);
+    if stamped.is_ok() {
+        sends.count(session)?;
     }
+    Ok(stamped)
 }
 
 /// The value of the selector over the message; a selector without tokens is TRUE.
@@ -144,7 +138,7 @@ fn call_line(
     call: ClientCall,
 ) -> Result<String, AllocError>
     ensures { IfOk result (λ line. (string_bytes line ≡ spec.call_line selector.now (sent_of sends.old) number call)
-        × (sent_of sends.new ≡ spec.newest_after (sent_of sends.old) call)) }
+        × (sent_of sends.new ≡ spec.sent_after (sent_of sends.old) call)) }
 {
     match call {
         ClientCall::Ask { .. } => Ok(String::new(alloc)),
@@ -154,8 +148,7 @@ fn call_line(
             destination,
             now,
         } => {
-            let stamped = stamp_next(sends, &session, draft, destination, now);
-            let stamped = noted(sends, &session, stamped)?;
+            let stamped = stamp_next(sends, &session, draft, destination, now)?;
             send_line(alloc, selector, number, stamped)
         }
     }
@@ -170,7 +163,7 @@ fn call_lines(
     ensures { IfOk result (λ lines. string_bytes lines ≡ spec.lines selector.now calls.items) }
 {
     let mut lines = String::new(alloc);
-    let mut sends = HashMap::new(alloc);
+    let mut sends = Sends::new(alloc);
     for (index, call) in calls.into_iter().enumerate() {
         let line = call_line(alloc, selector, &mut sends, index + 1, call)?;
         lines.push_str(line.as_str())?;
@@ -180,7 +173,8 @@ fn call_lines(
 
 /// The lines of the sends of the scenario that the source gives.
 fn told<R: Read>(alloc: Global, selector: &str, source: &mut Source<R>) -> Result<Printout, Fault>
-    ensures told { ToldBy (Picks R.remaining selector.now source.old source.new) (RefusesPick R.remaining selector.now source.old source.new) result }
+    ensures told { ToldBy (Picks R.remaining selector.now source.old source.new)
+        (RefusesPick R.remaining selector.now source.old source.new) result }
     ensures reads { reads source.new ≤ reads source.old + reads_max }
 {
     let tree = tree_of(alloc, selector)?;

@@ -44,7 +44,8 @@ impl<R: Read> Source<R> {
     /// How many bytes a read gives, at the front of the chunk; none where it fails, which is remembered.
     pub(crate) fn read(&mut self, chunk: &mut [u8]) -> Option<usize>
         ensures bound { IfSome result (λ count. count ≤ length chunk.new) }
-        ensures bytes { IfSome result (λ count. Consumes (source_remaining R.remaining self.old) (source_remaining R.remaining self.new) (take count chunk.new)) }
+        ensures bytes { IfSome result (λ count.
+            Consumes (source_remaining R.remaining self.old) (source_remaining R.remaining self.new) (take count chunk.new)) }
         ensures end { IfSome result (λ count. count ≡ 0 → 0 < length chunk.new → IsAtEnd (source_remaining R.remaining self.new)) }
         ensures kept { IfNone result (Keeps (source_remaining R.remaining self.old) (source_remaining R.remaining self.new)) }
         ensures unmarked { OnSome result (spec.has_failed self.new ≡ spec.has_failed self.old) }

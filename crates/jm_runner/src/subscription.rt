@@ -128,7 +128,29 @@ fn key_of(alloc: Global, text: &str) -> Result<Key, Fault>
     }
 }
 
-/// The lines of what the key's subscription answers alone, over the record of those calls and replies.
+/// The lines of what the key's subscription answers alone from a new core, over the record of those calls and replies.
+fn lines_from(
+    alloc: Global,
+    opening: &Core,
+    key: &Key,
+    calls: &[ClientCall],
+    replies: &[Reply],
+) -> Result<String, Fault>
+    requires { opening.now ≡ new_core 1 }
+    ensures ok { IfOk result (λ lines. (string_bytes lines ≡ spec.lines_alone key.now calls.now replies.now)
+        × (is_unshared key.now (new_core 1) ≡ true)) }
+    ensures err { IfErr result (spec.RefusesKey key.now) }
+{
+    let numbers = numbers(opening.opening(), alloc, calls, replies)?;
+    let entries = entries(alloc, opening.opening(), calls, replies)?;
+    match lone_replies(alloc, opening, &entries, key) {
+        Ok(replies) => Ok(lines_at(alloc, &numbers, &replies)?),
+        Err(LoneFault::NotUnshared) => Err(Fault::Key(KeyFault::NotUnshared)),
+        Err(LoneFault::Memory) => Err(Fault::Memory),
+    }
+}
+
+/// The same from the opening of a run.
 fn lines_alone(
     alloc: Global,
     key: &Key,
@@ -142,19 +164,14 @@ fn lines_alone(
     let Ok(opening) = Core::new(alloc, OPENING) else {
         return Err(Fault::Memory);
     };
-    let numbers = numbers(opening.opening(), alloc, calls, replies)?;
-    let entries = entries(alloc, opening.opening(), calls, replies)?;
-    match lone_replies(alloc, &opening, &entries, key) {
-        Ok(replies) => Ok(lines_at(alloc, &numbers, &replies)?),
-        Err(LoneFault::NotUnshared) => Err(Fault::Key(KeyFault::NotUnshared)),
-        Err(LoneFault::Memory) => Err(Fault::Memory),
-    }
+    lines_from(alloc, &opening, key, calls, replies)
 }
 
 /// The lines of the subscription of the key that the text spells, over a run of the scenario that the
 /// source gives, and the exit status of that run.
 fn told<R: Read>(alloc: Global, source: &mut Source<R>, key: &str) -> Result<Printout, Fault>
-    ensures told { ToldBy (TellsLone R.remaining key.now source.old source.new) (RefusesLone R.remaining key.now source.old source.new) result }
+    ensures told { ToldBy (TellsLone R.remaining key.now source.old source.new)
+        (RefusesLone R.remaining key.now source.old source.new) result }
     ensures reads { reads source.new ≤ reads source.old + reads_max }
 {
     let (calls, replies) = ran(alloc, source)?;

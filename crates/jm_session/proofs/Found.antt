@@ -11,7 +11,9 @@ use Rattle.jm_dest.specs.declared.session.SessionId.{SessionId}
 use Rattle.jm_dest.specs.Names.{session_eq}
 use Rattle.jm_machine.specs.declared.state.ConnectionState.{ConnectionState}
 use Rattle.jm_machine.specs.declared.state.SessionState.{SessionState}
-use Rattle.jm_machine.specs.Life.{Life, with_started}
+use Rattle.jm_machine.specs.declared.call.Who.TheVariants.{Connection}
+use Rattle.jm_machine.specs.declared.call.Request.TheVariants.{Open}
+use Rattle.jm_machine.specs.Life.{Life, connection_of, life_after, session_of, with_started}
 use Rattle.jm_session.specs.declared.number.ConsumerNumber.{ConsumerNumber}
 use Rattle.jm_session.specs.Numbers.{IsNumbered}
 
@@ -48,6 +50,14 @@ module _ {K V : Type 0} (eq : K → K → Bool) (symmetric : (a b : K) → eq a 
   found (e ∷ entries) k h =
       (λ i. cond (eq k (h.0 i)) (Some e.1) (found entries k h.1 i))
       ∙ ap (λ b. cond b (Some e.1) (find (λ x. eq (number x) k) (values_of entries))) (symmetric k (number e.1))
+
+-- the connection of a number is what stands under it
+pub connection_found : (entries : List (ℕ × ConnectionState)) (k : ℕ) → IsNumbered (λ x. x.id) entries → connection_of (values_of entries) k ≡ lookup (λ j. k == j) entries
+connection_found entries k h = sym (found (λ a b. a == b) num_sym (λ x. x.id) entries k h)
+
+-- the session of a number is what stands under it
+pub session_found : (entries : List (SessionId × SessionState)) (k : SessionId) → IsNumbered (λ x. x.id) entries → session_of (values_of entries) k ≡ lookup (session_eq k) entries
+session_found entries k h = sym (found session_eq session_sym (λ x. x.id) entries k h)
 
 module _ {K V : Type 0} where
   -- what is added stands last
@@ -128,6 +138,42 @@ module _ {K V S : Type 0} (eq : K → K → Bool) (symmetric : (a b : K) → eq 
   added old new k v e h absent is =
       let all : new.entries ≡ old.entries ++ (k, v) ∷ [] = is ∙ insert_entry-new eq old k v (found eq symmetric number old.entries k h ∙ nothing (find (λ x. eq (number x) k) (values old)) absent) in
       (ap values_of all ∙ values-added old.entries k v, subst (IsNumbered number) (sym all) (numbered-added number old.entries k v e h))
+
+-- a connection that is set where it stands is started or stopped, and no other
+pub connection_set : (c : ℕ) (on : Bool) (entries : List (ℕ × ConnectionState)) (at : ℕ) → IsNumbered (λ x. x.id) entries → IsDistinct (λ a b. a == b) (keys_of entries) → position (λ k. c == k) (keys_of entries) ≡ Some at →
+    values_of (set_value_at entries at (record { id = c; is_started = on })) ≡ with_started c on (values_of entries)
+connection_set c on entries at h d is = (set_found c on entries at h d is).0
+
+-- and each still stands under its number
+pub connection_stays_numbered : (c : ℕ) (on : Bool) (entries : List (ℕ × ConnectionState)) (at : ℕ) → IsNumbered (λ x. x.id) entries → IsDistinct (λ a b. a == b) (keys_of entries) → position (λ k. c == k) (keys_of entries) ≡ Some at →
+    IsNumbered (λ x. x.id) (set_value_at entries at (record { id = c; is_started = on }))
+connection_stays_numbered c on entries at h d is = (set_found c on entries at h d is).1
+
+-- what setting a connection says
+pub ruleset setting = (connection_found, connection_set, connection_stays_numbered)
+
+-- a connection of a new number stands last
+connection_last : {S : Type 0} (old : IndexMap ℕ ConnectionState S) (k : ℕ) (v : ConnectionState) → IsNumbered (λ x. x.id) old.entries → is_some (connection_of (values old) k) ≡ false →
+    insert_entry (λ a b. a == b) old.entries k v ≡ old.entries ++ (k, v) ∷ []
+connection_last old k v h absent = insert_entry-new (λ a b. a == b) old k v (sym (connection_found old.entries k h) ∙ nothing (connection_of (values old) k) absent)
+
+-- the connections after it
+pub connection_added : {S : Type 0} (old : IndexMap ℕ ConnectionState S) (k : ℕ) (v : ConnectionState) → IsNumbered (λ x. x.id) old.entries → is_some (connection_of (values old) k) ≡ false →
+    values_of (insert_entry (λ a b. a == b) old.entries k v) ≡ values old ++ v ∷ []
+connection_added old k v h absent = ap values_of (connection_last old k v h absent) ∙ values-added old.entries k v
+
+-- and each stands under its number
+pub connection_added_numbered : {S : Type 0} (old : IndexMap ℕ ConnectionState S) (k : ℕ) (v : ConnectionState) → k ≡ v.id → IsNumbered (λ x. x.id) old.entries → is_some (connection_of (values old) k) ≡ false →
+    IsNumbered (λ x. x.id) (insert_entry (λ a b. a == b) old.entries k v)
+connection_added_numbered old k v same h absent = subst (IsNumbered (λ x. x.id)) (sym (connection_last old k v h absent)) (numbered-added (λ x. x.id) old.entries k v same h)
+
+-- the life after a connection was opened
+pub life_opened : {S : Type 0} (old new : IndexMap ℕ ConnectionState S) (sessions : List SessionState) (k : ℕ) → IsNumbered (λ x. x.id) old.entries → is_some (connection_of (values old) k) ≡ false →
+    new.entries ≡ insert_entry (λ a b. a == b) old.entries k (record { id = k; is_started = false }) →
+    record { connections = values new; sessions = sessions } ≡ life_after (record { connections = values old; sessions = sessions }) (Connection k) Open
+unfolding life_after
+life_opened old new sessions k h absent is =
+    ap (λ xs. record { connections = xs; sessions = sessions }) (ap values_of is ∙ connection_added old k (record { id = k; is_started = false }) h absent)
 
 -- a life of these connections and sessions
 abbrev pub life_of : List ConnectionState → List SessionState → Life

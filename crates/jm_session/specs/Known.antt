@@ -1,9 +1,11 @@
 -- The connections and sessions that were opened, and the consumers that were made, in order.
-use Rattle.std.specs.Prelude.{ℕ, Bool, List, if◌then◌else◌}
+use Rattle.std.specs.Prelude.{ℕ, Bool, List, ◌&&◌, is_some, if◌then◌else◌}
 use Rattle.jm_base.specs.declared.refusal.Refusal.{Refusal}
 use Rattle.jm_base.specs.declared.refusal.Refusal.TheVariants.{IllegalState, Memory}
 use Rattle.jm_machine.specs.declared.state.Consumer.{Consumer}
-use Rattle.jm_machine.specs.Life.{Life}
+use Rattle.jm_dest.specs.declared.session.SessionId.{SessionId}
+use Rattle.jm_machine.specs.Life.{Life, mode_of, with_started}
+use Rattle.jm_machine.specs.Machine.{consumer_of, is_active}
 
 -- what was opened and made, and for how many more calls there is room
 pub record Known : Type 0 where
@@ -14,3 +16,11 @@ pub record Known : Type 0 where
 -- why a call is refused that takes memory: its check fails, or a request for memory was refused
 abbrev pub cause : Bool → Refusal
 cause allowed = if allowed then Memory else IllegalState
+
+-- the life with that connection started or stopped
+abbrev pub life_set : Life → ℕ → Bool → Life
+life_set life c on = record life { connections = with_started c on life.connections }
+
+-- the session's consumer of that number may receive: the session is open, and the consumer is active in it
+abbrev pub may_receive : Life → List Consumer → SessionId → ℕ → Bool
+may_receive life consumers session k = is_some (mode_of life session) && is_active (consumer_of consumers session k)

@@ -1,8 +1,11 @@
-//! The connections and sessions of the provider, and the consumers that were made in them. Every
-//! look-up is by number, and costs the same however many there are.
+//! The connections and sessions of the provider, the consumers that were made in them, and how many
+//! sends of each session were stamped. Every look-up is by number, and costs the same however many
+//! there are.
 #![tactic(auto)]
 
 mod number;
+mod sends;
 mod sessions;
 
+pub use sends::Sends;
 pub use sessions::Sessions;

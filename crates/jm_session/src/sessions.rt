@@ -7,7 +7,7 @@ ghost use Rattle.jm_machine.specs.declared.call.Who.TheVariants.{Connection, Ses
 ghost use Rattle.jm_machine.specs.declared.call.Request.TheVariants.{Open, Start, Stop, CreateSession};
 ghost use Rattle.jm_machine.specs.Life as life;
 ghost use Rattle.jm_machine.specs.Machine as machine;
-ghost use Rattle.jm_session.specs.Known.{cause};
+ghost use Rattle.jm_session.specs.Known.{cause, life_set, may_receive};
 
 use crate::number::ConsumerNumber;
 use indexmap::IndexMap;
@@ -61,6 +61,18 @@ impl Sessions {
         }
     }
 
+    /// The same connections, sessions and consumers; the room may differ. `AllocError` where a request for
+    /// memory was refused.
+    pub fn copy(&self) -> Result<Sessions, AllocError>
+        ensures { IfOk result (λ copy. copy ≡ record self.now { spare = copy.spare }) }
+    {
+        Ok(Sessions {
+            connections: self.connections.clone()?,
+            sessions: self.sessions.clone()?,
+            consumers: self.consumers.clone()?,
+        })
+    }
+
     /// The connections that were opened, in order.
     pub fn connections(&self) -> &[ConnectionState]
         ensures { result.now ≡ self.now.life.connections }
@@ -83,6 +95,7 @@ impl Sessions {
     }
 
     /// The connection of that number, where it was opened.
+    #[tactic(auto, using(crate::proofs::Found::connection_found))]
     pub fn connection_of(&self, id: ConnectionId) -> Option<ConnectionState>
         ensures { result ≡ life.connection_of self.now.life.connections id }
     {
@@ -107,6 +120,7 @@ impl Sessions {
     }
 
     /// The session of that number, where it was opened.
+    #[tactic(auto, using(crate::proofs::Found::session_found))]
     pub fn session_of(&self, id: &SessionId) -> Option<SessionState>
         ensures { result ≡ life.session_of self.now.life.sessions id.now }
     {
@@ -158,7 +172,7 @@ impl Sessions {
     /// Whether the session's consumer of that number may receive: the session is open, and the consumer
     /// is active in it.
     pub fn may_receive(&self, session: &SessionId, id: ConsumerId) -> bool
-        ensures { result ≡ (is_some (life.mode_of self.now.life session.now) && machine.is_active (machine.consumer_of self.now.consumers session.now id)) }
+        ensures { result ≡ may_receive self.now.life self.now.consumers session.now id }
     {
         self.is_open(session) && self.consumer_of(session, id).is_some()
     }
@@ -178,7 +192,7 @@ impl Sessions {
 
     /// Opens the connection, stopped. `IllegalState` where the number was used; else `Memory` where a
     /// request for memory was refused, which does not come where there is room.
-    #[tactic(auto, unfolding(jm_machine::specs::Life::life_after))]
+    #[tactic(auto, using(crate::proofs::Found::life_opened))]
     pub fn open(&mut self, id: ConnectionId) -> Result<(), Refusal>
         ensures ok { OnOk result (life.connection_of self.old.life.connections id ≡ None) }
         ensures refused { IfErr result (λ refusal. refusal ≡ cause (not (is_some (life.connection_of self.old.life.connections id)))) }
@@ -194,10 +208,10 @@ impl Sessions {
             id,
             is_started: false,
         };
-        match self.connections.insert(id, connection) {
-            Ok(_) => Ok(()),
-            Err(_) => Err(Refusal::Memory),
-        }
+        let Ok(_) = self.connections.insert(id, connection) else {
+            return Err(Refusal::Memory);
+        };
+        Ok(())
     }
 
     /// Starts the connection. `IllegalState` where it is not open. Takes no memory.
@@ -225,10 +239,11 @@ impl Sessions {
     }
 
     /// Starts or stops the connection, where it is open.
+    #[tactic(auto, using(crate::proofs::Found::setting))]
     fn set_started(&mut self, id: ConnectionId, on: bool) -> Result<(), Refusal>
         ensures ok { is_ok result ≡ is_some (life.connection_of self.old.life.connections id) }
         ensures refused { IfErr result (λ refusal. refusal ≡ IllegalState) }
-        ensures life { self.new.life ≡ (if is_ok result then record self.old.life { connections = life.with_started id on self.old.life.connections } else self.old.life) }
+        ensures life { self.new.life ≡ (if is_ok result then life_set self.old.life id on else self.old.life) }
         ensures consumers { self.new.consumers ≡ self.old.consumers }
         ensures spare { self.old.spare ≤ self.new.spare }
     {
@@ -246,7 +261,8 @@ impl Sessions {
         ensures ok { OnOk result (life.is_new_session self.old.life id.now ≡ true) }
         ensures refused { IfErr result (λ refusal. refusal ≡ cause (life.is_new_session self.old.life id.now)) }
         ensures room { 0 < self.old.spare → life.is_new_session self.old.life id.now ≡ true → is_ok result ≡ true }
-        ensures life { self.new.life ≡ (if is_ok result then life.life_after self.old.life (Session id.now) (CreateSession mode) else self.old.life) }
+        ensures life { self.new.life ≡
+            (if is_ok result then life.life_after self.old.life (Session id.now) (CreateSession mode) else self.old.life) }
         ensures consumers { self.new.consumers ≡ self.old.consumers }
         ensures spare { self.old.spare ≤ self.new.spare + 1 }
     {
@@ -267,7 +283,8 @@ impl Sessions {
         ensures refused { IfErr result (λ refusal. refusal ≡ cause (machine.may_begin self.old.life self.old.consumers session.now id)) }
         ensures room { 0 < self.old.spare → machine.may_begin self.old.life self.old.consumers session.now id ≡ true → is_ok result ≡ true }
         ensures life { self.new.life ≡ self.old.life }
-        ensures consumers { self.new.consumers ≡ (if is_ok result then self.old.consumers ++ machine.new_consumer session.now id key ∷ [] else self.old.consumers) }
+        ensures consumers { self.new.consumers ≡
+            (if is_ok result then self.old.consumers ++ machine.new_consumer session.now id key ∷ [] else self.old.consumers) }
         ensures spare { self.old.spare ≤ self.new.spare + 1 }
     {
         if !self.may_begin(session, id) {

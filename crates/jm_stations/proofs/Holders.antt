@@ -61,8 +61,8 @@ other_place a b x y true e le there pos = there refl
 other_place a b x y false e le there pos = omega (arith, e, le, pos)
 
 -- what follows in one list more, follows in all
-pub record IsFollowed (t0 t : Messages) (place n : ℕ) (before after : List (List Row)) : Type 0 where
-  pub follows : FollowsAll t0 t before after
+pub record IsFollowed (origin t : Messages) (place n : ℕ) (before after : List (List Row)) : Type 0 where
+  pub follows : FollowsAll origin t before after
   pub there : 0 < holders_of t place
   pub few : holders_of t place ≤ n + 1
 
@@ -73,9 +73,9 @@ followed_none t place before one = record {
   few = omega (arith, one);
 }
 
-pub followed_more : (t0 t t' : Messages) (row : Row) (n : ℕ) (before : List (List Row)) (lists : List Held) (k : ℕ) (d : Held) → k < length lists → IsFollowed t0 t row.place n before (all_rows lists) → Follows t t' (get_or lists k d).rows (with_row row (get_or lists k d)).rows
-    → IsFollowed t0 t' row.place (n + 1) before (all_rows (set lists k (with_row row (get_or lists k d))))
-followed_more t0 t t' row n before lists k d l w f =
+pub followed_more : (origin t t' : Messages) (row : Row) (n : ℕ) (before : List (List Row)) (lists : List Held) (k : ℕ) (d : Held) → k < length lists → IsFollowed origin t row.place n before (all_rows lists) → Follows t t' (get_or lists k d).rows (with_row row (get_or lists k d)).rows
+    → IsFollowed origin t' row.place (n + 1) before (all_rows (set lists k (with_row row (get_or lists k d))))
+followed_more origin t t' row n before lists k d l w f =
     let h : Held = get_or lists k d in
     let h' : Held = with_row row h in
     let had : (p : ℕ) → 0 < holders_of t' p → 0 < holders_of t p = λ p pos. other_place (holders_of t' p) (holders_of t p) (rows_at p h.rows) (rows_at p h'.rows) (p == row.place) (f.holders p) (with_row_count p row h) (λ e. rw (eqb-true p row.place e) w.there) pos in
@@ -98,6 +98,6 @@ pub beside_all : (t t' : Messages) (place : ℕ) (before after : List (List Row)
 beside_all t t' place before after c f = record { each = λ p. omega (arith, c.each p, f.holders p) }
 
 -- what one holder less keeps, all keeps
-pub keeps_released : (t t1 t2 : Messages) (place : ℕ) → KeepsMessages t t1 → LosesHolder t1 t2 place → KeepsMessages t1 t2 → KeepsMessages t t2
-keeps_released t t1 t2 place k lost m =
+pub keeps_released : (t second third : Messages) (place : ℕ) → KeepsMessages t second → LosesHolder second third place → KeepsMessages second third → KeepsMessages t third
+keeps_released t second third place k lost m =
     record { same = λ p pos. m.same p pos ∙ k.same p (omega (arith, lost.holders p, pos)); room = omega (arith, k.room, m.room) }

@@ -5,4 +5,8 @@ mod Shown
 mod Publishing
 mod Receiving
 mod Room
-mod Copies
+mod Wanted
+pub mod Keys
+mod Indexes
+mod Copied
+mod Removed

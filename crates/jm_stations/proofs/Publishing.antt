@@ -35,40 +35,40 @@ pub free_place : (t : Messages) (place : ℕ) (lists : List Held) → IsKept t l
 free_place t place lists k = k.counted.each place ∙ none_all t place lists k.each
 
 -- and has one holder once the message stands there
-pub one_holder : (t t1 : Messages) (place : ℕ) (lists : List Held) → IsKept t lists place → GainsHolder t t1 place → holders_of t1 place ≡ 1
-one_holder t t1 place lists k g =
+pub one_holder : (t second : Messages) (place : ℕ) (lists : List Held) → IsKept t lists place → GainsHolder t second place → holders_of second place ≡ 1
+one_holder t second place lists k g =
     let one : cond {A = ℕ} (place == place) 1 0 ≡ 1 = rw (eq-eqb place place refl) refl in
     omega (arith, one, g.holders place, free_place t place lists k)
 
 -- so has it while the lists take it
-pub still_held : (t t1 t2 : Messages) (place : ℕ) (lists after : List Held) → IsKept t lists place → GainsHolder t t1 place → FollowsAll t1 t2 (all_rows lists) (all_rows after) → 0 < holders_of t2 place
-still_held t t1 t2 place lists after k g f = omega (arith, one_holder t t1 place lists k g, none_all t place lists k.each, f.holders place)
+pub still_held : (t second third : Messages) (place : ℕ) (lists after : List Held) → IsKept t lists place → GainsHolder t second place → FollowsAll second third (all_rows lists) (all_rows after) → 0 < holders_of third place
+still_held t second third place lists after k g f = omega (arith, one_holder t second place lists k g, none_all t place lists k.each, f.holders place)
 
 -- what is held after it
-pub published_kept : (t t1 t2 t3 : Messages) (place : ℕ) (m : Content) (indexes : List ℕ) (lists after : List Held) → IsKept t lists place → place < 2 ^ 63 → GainsHolder t t1 place → message_of t1 place ≡ Some m → ((p : ℕ) → p ≢ place → message_of t1 p ≡ message_of t p) → IsOffered indexes (fresh place m) lists after → FollowsAll t1 t2 (all_rows lists) (all_rows after) → LosesHolder t2 t3 place → KeepsMessages t2 t3
-    → IsKept t3 after (place + 1) × KeepsMessages t1 t3
-published_kept t t1 t2 t3 place m indexes lists after k bound gains is others offered follows lost kept =
-    let beside = beside_put t t1 place (all_rows lists) k.counted gains in
-    let counted : IsCounted t3 (all_rows after) = counted_released t2 t3 place (all_rows after) (beside_all t1 t2 place (all_rows lists) (all_rows after) beside follows) lost in
-    let keeps : KeepsMessages t1 t3 = keeps_released t1 t2 t3 place follows.messages lost kept in
-    let each = offered_backlogs t t1 place m indexes lists after others is offered k.each in (
-      record { counted = counted; each = all_backlogs_kept t1 t3 (place + 1) after keeps (all_covered t3 after counted) each; places = omega (arith, bound) },
+pub published_kept : (t second third fourth : Messages) (place : ℕ) (m : Content) (indexes : List ℕ) (lists after : List Held) → IsKept t lists place → place < 2 ^ 63 → GainsHolder t second place → message_of second place ≡ Some m → ((p : ℕ) → p ≢ place → message_of second p ≡ message_of t p) → IsOffered indexes (fresh place m) lists after → FollowsAll second third (all_rows lists) (all_rows after) → LosesHolder third fourth place → KeepsMessages third fourth
+    → IsKept fourth after (place + 1) × KeepsMessages second fourth
+published_kept t second third fourth place m indexes lists after k bound gains is others offered follows lost kept =
+    let beside = beside_put t second place (all_rows lists) k.counted gains in
+    let counted : IsCounted fourth (all_rows after) = counted_released third fourth place (all_rows after) (beside_all second third place (all_rows lists) (all_rows after) beside follows) lost in
+    let keeps : KeepsMessages second fourth = keeps_released second third fourth place follows.messages lost kept in
+    let each = offered_backlogs t second place m indexes lists after others is offered k.each in (
+      record { counted = counted; each = all_backlogs_kept second fourth (place + 1) after keeps (all_covered fourth after counted) each; places = omega (arith, bound) },
       keeps,
     )
 
 -- and what callers see of it
-pub published_shown : (t t1 t3 : Messages) (place : ℕ) (m : Content) (indexes : List ℕ) (lists after : List Held) → IsKept t lists place → IsKept t3 after (place + 1) → KeepsMessages t1 t3 → message_of t1 place ≡ Some m → ((p : ℕ) → p ≢ place → message_of t1 p ≡ message_of t p) → IsOffered indexes (fresh place m) lists after
-    → IsPublished indexes place m (all_shown t lists) (all_shown t3 after)
-published_shown t t1 t3 place m indexes lists after k k3 keeps is others offered =
+pub published_shown : (t second fourth : Messages) (place : ℕ) (m : Content) (indexes : List ℕ) (lists after : List Held) → IsKept t lists place → IsKept fourth after (place + 1) → KeepsMessages second fourth → message_of second place ≡ Some m → ((p : ℕ) → p ≢ place → message_of second p ≡ message_of t p) → IsOffered indexes (fresh place m) lists after
+    → IsPublished indexes place m (all_shown t lists) (all_shown fourth after)
+published_shown t second fourth place m indexes lists after k k3 keeps is others offered =
     let none : Held = record { rows = []; limit = None; missed = 0; room = 0 } in
     record {
-      number = length-map after (shown t3) ∙ offered.number ∙ sym (length-map lists (shown t));
+      number = length-map after (shown fourth) ∙ offered.number ∙ sym (length-map lists (shown t));
       each = λ i d l.
           let inside : i < length lists = omega (arith, length-map lists (shown t), l) in
           let there : i < length after = omega (arith, offered.number, inside) in
-          rw (get_or-map (shown t3) after i none d there, get_or-map (shown t) lists i none d inside)
-          (shown_kept t1 t3 (get_or after i none) keeps (covers_one t3 after i none there k3.counted)
-          ∙ offered_shown t t1 place m indexes lists after i none inside others is offered k.each);
+          rw (get_or-map (shown fourth) after i none d there, get_or-map (shown t) lists i none d inside)
+          (shown_kept second fourth (get_or after i none) keeps (covers_one fourth after i none there k3.counted)
+          ∙ offered_shown t second place m indexes lists after i none inside others is offered k.each);
     }
 
 -- a new list, which is empty

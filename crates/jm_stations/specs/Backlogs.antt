@@ -7,7 +7,8 @@ use Rattle.jm_header.specs.declared.content.Content.{Content}
 use Rattle.jm_machine.specs.declared.state.PlacedRow.{PlacedRow}
 use Rattle.jm_machine.specs.declared.answer.Answer.{Answer}
 use Rattle.jm_machine.specs.declared.answer.Answer.TheVariants.{Delivered, Nothing}
-use Rattle.jm_machine.specs.Rows.{protected, fresh, live, is_next, left_of, bare, deliver_placed, live_placed}
+use Rattle.jm_machine.specs.Machine.{delivery}
+use Rattle.jm_machine.specs.Rows.{protected, fresh, live, is_next, next, left_of, bare, deliver_placed, live_placed}
 use Rattle.jm_pending.specs.declared.held.Taken.{Taken}
 use Rattle.jm_pending.specs.Rows.{is_at_limit}
 
@@ -19,16 +20,21 @@ pub record Backlog : Type 0 where
   pub missed : ℕ
   pub room : ℕ
 
--- what is held under all keys, in order of creation, the place of the next publication, and for how many more
--- messages there is room
+-- what is held under all keys, in order of creation, the place of the next publication, for how many more messages
+-- there is room, and for how many more keys
 pub record Backlogs : Type 0 where
   pub list : List Backlog
   pub next_place : ℕ
   pub message_room : ℕ
+  pub list_room : ℕ
 
 -- nothing is held yet, of which there may be at most so many rows, or any number
 abbrev pub empty : Option ℕ → Backlog
 empty limit = record { rows = []; limit = limit; missed = 0; room = 0 }
+
+-- the same rows, and no room for more
+abbrev pub without_room : Backlog → Backlog
+without_room b = record b { room = 0 }
 
 -- one of a list is changed
 abbrev pub changed_at : {X : Type 0} → ℕ → (X → X) → List X → List X
@@ -55,6 +61,10 @@ pub record IsPublished (indexes : List ℕ) (place : ℕ) (m : Content) (old new
 -- expired rows go, and the next one is delivered and settled
 abbrev pub received : ℕ → Backlog → Backlog
 received now b = record b { rows = deliver_placed now (left_of (Some Auto)) b.rows }
+
+-- what a delivery from these rows answers
+abbrev pub answered : ℕ → List PlacedRow → Answer
+answered now rows = delivery (next now (live now (bare rows)))
 
 -- the row that a delivery takes
 abbrev pub next_placed : ℕ → List PlacedRow → Option PlacedRow

@@ -1,5 +1,6 @@
 -- What is held inside: the rows of each key, over one table of messages.
 use Rattle.std.specs.Prelude.{◌≡◌, ◌≤◌, ◌<◌, ◌^◌, ◌+◌, ◌-◌, ◌==◌, ℕ, Bool, true, List, [], ◌∷◌, ◌++◌, map, filter, length, min, slice_index_or, All, Option, Some, None, option_map, if◌then◌else◌}
+use Rattle.jm_dest.specs.Numbers.{long_end}
 use Rattle.jm_header.specs.declared.content.Content.{Content}
 use Rattle.jm_pending.specs.declared.row.Row.{Row}
 use Rattle.jm_pending.specs.declared.held.Taken.{Taken}
@@ -21,6 +22,10 @@ shown t h = record { rows = all_placed t h.rows; limit = h.limit; missed = h.mis
 abbrev pub all_shown : Messages → List Held → List Backlog
 all_shown t lists = map (shown t) lists
 
+-- the same rows, and no room for more
+abbrev pub without_room : Held → Held
+without_room h = record h { room = 0 }
+
 -- each row is of a lower place
 abbrev pub AreBelow : ℕ → List Row → Type 0
 AreBelow place rows = All (λ (r : Row). r.place < place) rows
@@ -36,7 +41,7 @@ pub record IsBacklog (t : Messages) (next_place : ℕ) (h : Held) : Type 0 where
 pub record IsKept (t : Messages) (lists : List Held) (next_place : ℕ) : Type 0 where
   pub counted : IsCounted t (all_rows lists)
   pub each : All (IsBacklog t next_place) lists
-  pub places : next_place ≤ 2 ^ 63
+  pub places : next_place ≤ long_end
 
 -- one row more, or at the limit one publication missed
 abbrev pub with_row : Row → Held → Held

@@ -1,26 +1,25 @@
 //! The rows and the messages of all keys.
 
-ghost use Rattle.std.specs.Prelude.{◌≡◌, ◌≤◌, ◌<◌, ◌+◌, ◌++◌, [], ◌∷◌, nat_eq, All, length, map, slice_index_or, IfOk, OnOk, OnErr};
-ghost use Rattle.std.specs.List.{IsDistinct};
-ghost use Rattle.jm_machine.specs.Machine.{delivery, places_end};
-ghost use Rattle.jm_machine.specs.Rows as machine;
+ghost use Rattle.std.specs.Prelude.{◌≡◌, ◌≤◌, ◌<◌, ◌+◌, ◌-◌, ◌++◌, [], ◌∷◌, true, nat_eq, All, length, map, slice_index_or, is_some, IfOk, OnOk, OnErr};
+ghost use Rattle.std.specs.List.{IsDistinct, remove};
+ghost use Rattle.jm_machine.specs.Machine.{places_end};
 ghost use Rattle.jm_stations.specs.Backlogs as spec;
 ghost use Rattle.jm_stations.specs.Backlogs.{Backlog};
 ghost use Rattle.jm_stations.specs.Kept as kept;
 
-use crate::lists;
+use crate::{copies, lists};
 use jm_dest::Moment;
 use jm_header::Message;
-use jm_machine::{Answer, Delivery};
+use jm_machine::{Answer, Delivery, PlacedRow};
 use jm_pending::{Held, Row, Table, Taken};
 use std::alloc::{AllocError, Global};
 use std::marker::Model;
 
 /// What is held under each key: rows by place, with the messages that they hold, of which each stands once
 /// (ours). Contracts see the list of what is held under each key, in order of creation, the place of the next
-/// publication, and for how many more messages there is room.
+/// publication, and for how many more messages and keys there is room.
 #[derive(Drop)]
-pub struct Backlogs {
+pub(crate) struct Backlogs {
     alloc: Global,
     lists: Vec<Held>,
     table: Table,
@@ -28,12 +27,18 @@ pub struct Backlogs {
 }
 
 impl Model for Backlogs {
+    ghost use Rattle.std.specs.Prelude.{◌-◌, vec_capacity, vec_len};
     ghost use Rattle.jm_stations.specs.Backlogs.{Backlogs as BacklogsShown};
     ghost use Rattle.jm_stations.specs.Kept.{IsKept, all_shown};
 
     ghost Value = { BacklogsShown };
 
-    ghost view = { λ s. record { list = all_shown s.table s.lists.items; next_place = s.next_place; message_room = s.table.spare } };
+    ghost view = { λ s. record {
+      list = all_shown s.table s.lists.items;
+      next_place = s.next_place;
+      message_room = s.table.spare;
+      list_room = vec_capacity s.lists - vec_len s.lists;
+    } };
 
     ghost invariant = { λ s. IsKept s.table s.lists.items s.next_place };
 }
@@ -67,7 +72,8 @@ fn handed_out(taken: Option<Taken>, copy: Option<Message>) -> Answer
 
 /// A copy of the row's message, where some other row holds it too.
 fn copy_of(table: &Table, row: Option<Row>) -> Result<Option<Message>, AllocError>
-    ensures { IfOk result (λ copy. copy ≡ kept.copied table.now row) }
+    ensures copy { IfOk result (λ copy. copy ≡ kept.copied table.now row) }
+    ensures err { OnErr result (is_some (kept.copied table.now row) ≡ true) }
 {
     let Some(row) = row else {
         return Ok(None);
@@ -117,14 +123,64 @@ impl Backlogs {
         self.table.len()
     }
 
-    /// Adds an empty list of rows behind all others, of which there may be at most so many, or any number.
-    /// `AllocError` where a request for memory was refused; then all is as before.
-    pub fn create(&mut self, limit: Option<u32>) -> Result<(), AllocError>
-        ensures ok { OnOk result (self.new ≡ record self.old { list = self.old.list ++ spec.empty limit ∷ [] }) }
-        ensures err { OnErr result (self.new ≡ self.old) }
+    /// The same lists, next place and messages; there may be other room. `AllocError` where a request for memory was
+    /// refused.
+    pub fn copy(&self) -> Result<Backlogs, AllocError>
+        ensures { IfOk result (λ copy. copy ≡ record self.now {
+          list = map spec.without_room self.now.list;
+          message_room = copy.message_room;
+          list_room = copy.list_room;
+        }) }
     {
-        self.lists.push(Held::new(self.alloc, limit))?;
-        Ok(())
+        Ok(Backlogs {
+            alloc: self.alloc,
+            lists: copies::copy_lists(self.alloc, self.lists.as_slice())?,
+            table: self.table.copy()?,
+            next_place: self.next_place,
+        })
+    }
+
+    /// The rows of the list with that index, by place, each with a copy of its message. `AllocError` where a request
+    /// for memory was refused.
+    pub fn rows_of(&self, index: usize) -> Result<Vec<PlacedRow>, AllocError>
+        requires { index < length self.now.list }
+        ensures { (d : Backlog) → IfOk result (λ rows. rows.items ≡ (slice_index_or self.now.list index d).rows) }
+    {
+        copies::placed_rows(self.alloc, &self.table, &self.lists[index])
+    }
+
+    /// Makes room for one more list. `AllocError` where a request for memory was refused. Either way all but the
+    /// room is as before.
+    pub fn reserve_list(&mut self) -> Result<(), AllocError>
+        ensures same { self.new ≡ record self.old { list_room = self.new.list_room } }
+        ensures room { self.old.list_room ≤ self.new.list_room }
+        ensures ok { OnOk result (0 < self.new.list_room) }
+    {
+        self.lists.reserve(1)
+    }
+
+    /// Adds an empty list of rows behind all others, of which there may be at most so many, or any number. Takes no
+    /// memory, since room was reserved.
+    pub fn create(&mut self, limit: Option<u32>)
+        requires { 0 < self.old.list_room }
+        ensures { self.new ≡ record self.old { list = self.old.list ++ spec.empty limit ∷ []; list_room = self.old.list_room - 1 } }
+    {
+        self.lists.push_reserved(Held::new(self.alloc, limit));
+    }
+
+    /// The list with that index goes with its rows, and each message that no other list holds with them. Takes no
+    /// memory.
+    pub fn remove(&mut self, index: usize)
+        requires { index < length self.old.list }
+        ensures removed { self.new ≡ record self.old {
+          list = remove self.old.list index;
+          message_room = self.new.message_room;
+          list_room = self.old.list_room + 1;
+        } }
+        ensures room { self.old.message_room ≤ self.new.message_room }
+    {
+        let mut held = self.lists.remove(index);
+        held.clear(&mut self.table);
     }
 
     /// Makes room for that many more messages, and for as many more rows in each list with one of those indexes.
@@ -162,10 +218,11 @@ impl Backlogs {
     }
 
     /// The copy that a delivery from the list at that moment wants: of the next row's message, where another row holds
-    /// it too. `AllocError` where a request for memory was refused.
+    /// it too. `AllocError` where a request for memory was refused, which comes only where a copy is wanted.
     pub fn copy_for(&self, index: usize, now: Moment) -> Result<Option<Message>, AllocError>
         requires within { index < length self.now.list }
-        ensures { (d : Backlog) → IfOk result (λ copy. copy ≡ spec.copy_wanted now self.now.list (slice_index_or self.now.list index d).rows) }
+        ensures copy { (d : Backlog) → IfOk result (λ copy. copy ≡ spec.copy_wanted now self.now.list (slice_index_or self.now.list index d).rows) }
+        ensures err { (d : Backlog) → OnErr result (is_some (spec.copy_wanted now self.now.list (slice_index_or self.now.list index d).rows) ≡ true) }
     {
         copy_of(&self.table, self.lists[index].next(now))
     }
@@ -175,7 +232,7 @@ impl Backlogs {
     pub fn receive(&mut self, index: usize, now: Moment, copy: Option<Message>) -> Answer
         requires within { index < length self.old.list }
         requires copy { (d : Backlog) → copy ≡ spec.copy_wanted now self.old.list (slice_index_or self.old.list index d).rows }
-        ensures answer { (d : Backlog) → result ≡ delivery (machine.next now (machine.live now (machine.bare (slice_index_or self.old.list index d).rows))) }
+        ensures answer { (d : Backlog) → result ≡ spec.answered now (slice_index_or self.old.list index d).rows }
         ensures list { self.new.list ≡ spec.changed_at index (spec.received now) self.old.list }
         ensures next_place { self.new.next_place ≡ self.old.next_place }
         ensures room { self.old.message_room ≤ self.new.message_room }

@@ -4,6 +4,8 @@
 #![tactic(auto)]
 
 mod backlogs;
+mod copies;
 mod lists;
+mod stations;
 
-pub use backlogs::Backlogs;
+pub use stations::Stations;

@@ -1,7 +1,8 @@
 //! Many lists of rows over one table.
 
-ghost use Rattle.std.specs.Prelude.{◌≡◌, ◌≤◌, ◌<◌, ◌+◌, ◌^◌, ℕ, true, nat_eq, All, length, slice_index_or, map, OnOk};
+ghost use Rattle.std.specs.Prelude.{◌≡◌, ◌≤◌, ◌<◌, ◌+◌, ℕ, true, nat_eq, All, length, slice_index_or, map, OnOk};
 ghost use Rattle.std.specs.List.{IsDistinct};
+ghost use Rattle.jm_dest.specs.Numbers.{long_end};
 ghost use Rattle.jm_pending.specs.Rows.{Held, IsRising, is_waiting, next};
 ghost use Rattle.jm_pending.specs.Holders.{Covers, Follows, holders_of};
 ghost use Rattle.jm_stations.specs.Backlogs.{changed_at};
@@ -13,7 +14,7 @@ use std::alloc::AllocError;
 
 /// Adds a row to each of the lists with those indexes.
 pub(crate) fn offer_each(lists: &mut Vec<Held>, table: &mut Table, row: &Row, indexes: &[usize])
-    requires place { row.now.place < 2 ^ 63 }
+    requires place { row.now.place < long_end }
     requires priority { row.now.priority < 10 }
     requires waiting { is_waiting row.now ≡ true }
     requires within { All (λ i. i < length lists.old.items) indexes.now }

@@ -87,6 +87,7 @@ fn copy_tree(alloc: Global, tree: &Option<Tree>) -> Result<Option<Tree>, AllocEr
 impl Sub {
     /// The subscription of that key, topic and selector, which is parsed here. A refused text gives
     /// its refusal; or `Memory`.
+    #[tactic(auto, using(crate::proofs::Selectors::defined_is))]
     pub(crate) fn new(
         alloc: Global,
         key: Key,

@@ -49,7 +49,8 @@ pub fn parse(alloc: Global, text: &str) -> Result<Option<Tree>, SyntaxFault>
     // What is found is nothing where there is no token, else the tree that the tokens spell.
     ensures found { IfOk result (Finds text.now) }
     // What is spelled is found, unless memory runs out.
-    ensures only { (toks : List Token) (tree : Tree) → length text.now ≤ spec.length_max → Lexes text.now (Ok toks) → Spells tree toks → Gives result (Ok (Some tree)) }
+    ensures only { (toks : List Token) (tree : Tree) → length text.now ≤ spec.length_max → Lexes text.now (Ok toks) →
+        Spells tree toks → Gives result (Ok (Some tree)) }
     // A lexical fault is told, unless memory runs out.
     ensures lexical { (fault : Fault) → length text.now ≤ spec.length_max → Lexes text.now (Err fault) → Gives result (Err fault) }
     // What is refused is too long, has a lexical fault, or has tokens that no tree spells, unless memory runs out.

@@ -187,12 +187,13 @@ fn first_delivery_is_not_redelivered(rt: HostRuntime) {
 
 /// Whether copies of what the core holds are the same.
 fn holds_copies(alloc: Global, core: &Core) -> Result<bool, AllocError> {
-    for station in core.stations() {
-        if station.copy(alloc)? != *station {
+    for consumer in core.consumers() {
+        let Some(station) = core.station(&consumer.key)? else {
+            return Ok(false);
+        };
+        if station.copy(alloc)? != station {
             return Ok(false);
         }
-    }
-    for consumer in core.consumers() {
         if consumer.copy()? != *consumer {
             return Ok(false);
         }
@@ -202,7 +203,7 @@ fn holds_copies(alloc: Global, core: &Core) -> Result<bool, AllocError> {
 
 fn held_is_copied(alloc: Global, core: &mut Core) -> bool {
     let _ = run(alloc, core, &OPS);
-    core.stations().len() == 2 && holds_copies(alloc, core) == Ok(true)
+    core.stations_len() == 2 && holds_copies(alloc, core) == Ok(true)
 }
 
 fn run_is_copied(alloc: Global) -> bool {

@@ -12,6 +12,8 @@ mod lone;
 #[cfg(test)]
 mod runs;
 #[cfg(test)]
+mod sends;
+#[cfg(test)]
 mod sessions;
 #[cfg(test)]
 mod subscriptions;

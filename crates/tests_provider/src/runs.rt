@@ -38,18 +38,30 @@ fn replies_of_a_run(rt: HostRuntime) {
     is_text(&rt, REPLIES, replies(rt.alloc()));
 }
 
-/// Whether the core holds two connections, two sessions, two consumers, and two subscriptions, one of them with a row, has
-/// used two places, and is of opening 1.
+/// Whether there is a row for each consumer.
+fn each_has_rows(core: &Core) -> Result<bool, AllocError> {
+    for consumer in core.consumers() {
+        match core.station(&consumer.key)? {
+            None => return Ok(false),
+            Some(station) => {
+                if station.rows.as_slice().is_empty() {
+                    return Ok(false);
+                }
+            }
+        }
+    }
+    Ok(true)
+}
+
+/// Whether the core holds two connections, two sessions, two consumers, and two subscriptions, each with a row of its own
+/// message, has used two places, and is of opening 1.
 fn has_run(core: &Core) -> bool {
-    let rows = core
-        .stations()
-        .iter()
-        .filter(|station| !station.rows.as_slice().is_empty());
     core.connections().len() == 2
         && core.sessions().len() == 2
         && core.consumers().len() == 2
-        && core.stations().len() == 2
-        && rows.count() == 2
+        && core.stations_len() == 2
+        && each_has_rows(core) == Ok(true)
+        && core.kept() == 2
         && core.next_place() == 3
         && core.opening().get() == 1
 }

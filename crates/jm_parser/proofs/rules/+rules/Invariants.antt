@@ -47,21 +47,18 @@ decreases-signed l = 16 * l.levels + 1
 abbrev pub decreases-primary : goal.decreases-primary
 decreases-primary l = 16 * l.levels + 2
 
-abbrev pub decreases-opened : goal.decreases-opened
-decreases-opened l = 16 * l.levels + 1
-
 abbrev pub invariant-product-loop-turn : goal.invariant-product-loop-turn
 invariant-product-loop-turn l =
-    product l.levels (below l.levels) l.fn.tokens ≡ chain_from multiplicative_of (λ o x. (o, x)) fits_number e.Product (unary l.levels (below l.levels)) (l._turn-end - l._turn) l.first l.rest.items l.own l.tokens
+    product l.levels (below l.levels) l.fn.tokens ≡ chain_from multiplicative_of (λ o x. (o, x)) fits_number e.Product (unary l.levels (below l.levels)) (l._turn-end - l._turn) l.first.tree l.rest.items l.own l.tokens
 
 abbrev pub invariant-sum-loop-turn : goal.invariant-sum-loop-turn
 invariant-sum-loop-turn l =
-    sum l.levels (below l.levels) l.fn.tokens ≡ chain_from additive_of (λ o x. (o, x)) fits_number e.Sum (product l.levels (below l.levels)) (l._turn-end - l._turn) l.first l.rest.items l.own l.tokens
+    sum l.levels (below l.levels) l.fn.tokens ≡ chain_from additive_of (λ o x. (o, x)) fits_number e.Sum (product l.levels (below l.levels)) (l._turn-end - l._turn) l.first.tree l.rest.items l.own l.tokens
 
 abbrev pub invariant-both-loop-turn : goal.invariant-both-loop-turn
 invariant-both-loop-turn l =
-    both l.levels (below l.levels) l.fn.tokens ≡ chain_from and_of (λ o x. x) fits_truth (λ x xs. e.All (x ∷ xs)) (condition l.levels (below l.levels)) (l._turn-end - l._turn) l.first l.rest.items l.own l.tokens
+    both l.levels (below l.levels) l.fn.tokens ≡ chain_from and_of (λ o x. x) fits_truth (λ x xs. e.All (x ∷ xs)) (condition l.levels (below l.levels)) (l._turn-end - l._turn) l.first.tree l.rest.items l.own l.tokens
 
 abbrev pub invariant-either-loop-turn : goal.invariant-either-loop-turn
 invariant-either-loop-turn l =
-    either l.levels (below l.levels) l.fn.tokens ≡ chain_from or_of (λ o x. x) fits_truth (λ x xs. e.AnyOf (x ∷ xs)) (both l.levels (below l.levels)) (l._turn-end - l._turn) l.first l.rest.items l.own l.tokens
+    either l.levels (below l.levels) l.fn.tokens ≡ chain_from or_of (λ o x. x) fits_truth (λ x xs. e.AnyOf (x ∷ xs)) (both l.levels (below l.levels)) (l._turn-end - l._turn) l.first.tree l.rest.items l.own l.tokens

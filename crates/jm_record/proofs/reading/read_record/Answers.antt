@@ -1,6 +1,6 @@
 use Rattle.std.proofs.Common.{◌≡◌, ◌∙◌, ap, sym, subst, arith, length, ◌-◌, ℕ, Err}
 use Rattle.jm_record.specs.Damage.{IsDamaged}
-use Rattle.jm_record.specs.Reading.{whole}
+use Rattle.jm_format.specs.Reading.{whole}
 use Rattle.jm_record.proofs.MessageLaws.{Finds, whole_finds, Stops, whole_stops, finds_only, stops_at_no_record, damaged_is}
 use Rattle.jm_record.proofs.reading.read_record.Goals as goal
 use Rattle.jm_record.proofs.reading.read_record.Goals.{In-Ok, After-new, After-left}

@@ -1,6 +1,6 @@
 use Rattle.std.proofs.Common.{◌≡◌, ◌++◌, suc, string_bytes}
 use Rattle.std.specs.Vec.Iter.{into_iter_items}
-use Rattle.jm_core.specs.Runs.{sent_of}
+use Rattle.jm_session.specs.Sends.{sent_of}
 use Rattle.jm_runner.specs.Select.{lines, lines_from}
 use Rattle.jm_runner.proofs.select.call_lines.Given as goal
 

@@ -7,11 +7,11 @@ use Rattle.jm_core.proofs.state.CoreState.run.Goals as goal
 
 pub loop-call-init : goal.loop-call-init
 loop-call-init c = (
-  rw c.in_ok-replies.ensures.items (begins c.args.self.now c.in_ok-sends.sends c.in_ok-sends.ensures.empty),
+  rw c.in_ok-replies.ensures.items (begins c.args.self.now c.in_ok-sends.sends c.in_ok-sends.ensures.sent),
   c.in_ok-replies.ensures.len,
   (let room = c.in_ok-replies.ensures.capacity in let calls = c.len.ensures in omega (arith, room, calls, c.args.calls.ok)),
   sym c.into_iter-call-iterator.ensures.into_iter_gives.0,
-  (let gives = ap length c.into_iter-call-iterator.ensures.into_iter_gives.0 in let room = c.in_ok-sends.ensures.spare in let calls = c.len-2.ensures in omega (arith, gives, room, calls)),
+  (let gives = ap length c.into_iter-call-iterator.ensures.into_iter_gives.0 in let room = c.in_ok-sends.ensures.room in let calls = c.len-2.ensures in omega (arith, gives, room, calls)),
 )
 
 pub answer-requires : goal.answer-requires
@@ -31,7 +31,7 @@ loop-call-preserved c = (
   omega (arith, length-append c.loop-call.yielded (c.in-Some.call ∷ [])),
   omega arith,
   c.loop-call.invariant.3 ∙ ap (λ rest. c.loop-call.yielded ++ rest) c.in-Some.ensures.steps.0 ∙ list_assoc c.loop-call.yielded (c.in-Some.call ∷ []) (into_iter_items c.next.new.self),
-  (let n = ap length c.in-Some.ensures.steps.0 in let room = c.loop-call.invariant.4 in let used = c.answer.ensures.spare in omega (arith, n, room, used)),
+  (let n = ap length c.in-Some.ensures.steps.0 in let room = c.loop-call.invariant.4 in let used = c.answer.ensures.room in omega (arith, n, room, used)),
 )
 
 pub returns-clause-ok : goal.returns-clause-ok

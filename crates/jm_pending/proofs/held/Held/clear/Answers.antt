@@ -1,16 +1,10 @@
-use Rattle.std.proofs.Common.{refl, false}
-use Rattle.jm_pending.specs.Lanes.{rows_of}
+use Rattle.std.proofs.Common.{false}
 use Rattle.jm_pending.proofs.Keeping.{held_filter}
-use Rattle.jm_pending.proofs.Rolling.{filter_none}
 use Rattle.jm_pending.proofs.Holding.{covers_all, follows_all}
 use Rattle.jm_pending.proofs.held.Held.clear.Goals as goal
 
 pub invariant_of-self : goal.invariant_of-self
 invariant_of-self c = (held_filter (λ r. false) c.self.inside.lanes c.clear.new.lanes c.self.inside.room c.self.invariant c.clear.ensures.rows).0
-
-pub returns-clause-rows : goal.returns-clause-rows
-returns-clause-rows c =
-    rw (← c.self.view_is, (held_filter (λ r. false) c.self.inside.lanes c.clear.new.lanes c.self.inside.room c.self.invariant c.clear.ensures.rows).1, filter_none (rows_of c.self.inside.lanes)) refl
 
 pub clear-requires : goal.clear-requires
 clear-requires c = covers_all c.args.table.now c.self.inside.lanes (rw (← c.self.view_is) at c.requires)

@@ -9,7 +9,7 @@ use Rattle.jm_pending.proofs.lane.Lane.drop_expired.Goals as goal
 
 pub returns-then-get-self-clause-rows : goal.returns-then-get-self-clause-rows
 returns-then-get-self-clause-rows c =
-    let early : c.args.now < c.self.inside.least = rw (← c.get.ensures.value) c.if-get-self.true in
+    let early : c.args.now < c.self.inside.least = omega arith in
     rw (← c.self.view_is) (sym (filter_all (stays c.args.now) c.self.inside.rows.items (bound_stays c.args.now c.self.inside.least c.self.inside.rows.items early c.self.invariant.lane.bound)))
 
 pub invariant_of-self : goal.invariant_of-self

@@ -1,5 +1,5 @@
 use Rattle.std.proofs.Common.{◌≡◌, ◌-◌, []}
-use Rattle.jm_record.specs.Reading.{properties_after}
+use Rattle.jm_format.specs.Reading.{properties_after}
 use Rattle.jm_record.proofs.reader.Reader.so_many_properties.Given as goal
 
 abbrev pub invariant-loop : goal.invariant-loop

@@ -1,0 +1,150 @@
+-- Each call's reply and what it leaves are the machine's.
+use Rattle.std.proofs.Common.{◌≡◌, ◌≢◌, ℕ, Bool, true, false, cond, List, [], length, get_or, refl, ap, sym, subst, ◌∙◌, arith, Option, Some, None, Ok, Err}
+use Rattle.std.specs.Prelude.{◌&&◌, is_some, slice_get, MatchBool, MatchOption}
+use Rattle.std.proofs.lemmas.Option.{get_or_from_slice_get}
+use Rattle.jm_base.specs.declared.mode.Mode.{Mode}
+use Rattle.jm_base.specs.declared.mode.Mode.TheVariants.{Auto}
+use Rattle.jm_base.specs.declared.refusal.Refusal.{Refusal}
+use Rattle.jm_base.specs.declared.refusal.Refusal.TheVariants.{IllegalState, Memory}
+use Rattle.jm_dest.specs.declared.session.SessionId.{SessionId}
+use Rattle.jm_dest.specs.declared.key.Key.{Key}
+use Rattle.jm_dest.specs.declared.key.Key.TheVariants.{Own}
+use Rattle.jm_dest.specs.Keys.{key_eq}
+use Rattle.jm_machine.specs.declared.answer.Answer.{Answer}
+use Rattle.jm_machine.specs.declared.answer.Answer.TheVariants.{Done, Nothing}
+use Rattle.jm_machine.specs.declared.call.Who.TheVariants.{Session}
+use Rattle.jm_machine.specs.declared.call.Call.TheVariants.{Ask}
+use Rattle.jm_machine.specs.declared.call.Request.TheVariants.{CreateConsumer, Receive}
+use Rattle.jm_machine.specs.declared.state.Consumer.{Consumer}
+use Rattle.jm_machine.specs.declared.state.Station.{Station}
+use Rattle.jm_machine.specs.Life.{Life, is_started, mode_of}
+use Rattle.jm_machine.specs.Rows.{bare, deliver_placed, left_of, live, next}
+use Rattle.jm_machine.specs.Selectors.{selector_refusal}
+use Rattle.jm_machine.specs.Machine.{State, after, answer, at_key, consumer_of, defined, delivered, delivery, first_cause, held, holding_at, is_active, joined, key_at, may_begin, moved, put, receive, refusal, replied, reply, rows_of, station_of, step, unless, with_rows}
+use Rattle.jm_machine.specs.Wants.{is_want, is_next_shared, may_want, placed_rows}
+use Rattle.jm_stations.specs.Backlogs.{Backlog, copy_wanted}
+use Rattle.jm_stations.specs.Stations.{index_in}
+use Rattle.jm_sub.specs.Subscriptions.{Subscription}
+use Rattle.jm_core.specs.declared.receive.Taking.{Taking}
+use Rattle.jm_core.specs.State.{stations_of, keys_of, IsSound}
+use Rattle.jm_core.specs.Steps.{StepFits}
+use Rattle.jm_core.specs.Takings.{IsTaken, backlog_at, taken_from, wants_copy, wants_from}
+use Rattle.jm_core.proofs.Stations.{found_at, found_none, fails_all, key_found, key_missing, copy_is_shared, length-keys}
+use Rattle.jm_core.proofs.Sound.{sound_received}
+
+-- a state of these parts
+abbrev pub state_of : ℕ → Life → List Consumer → List Subscription → List Backlog → ℕ → State
+state_of opening life consumers ss list place = record { opening = opening; life = life; consumers = consumers; stations = stations_of ss list; next_place = place }
+
+-- ---- a consumer that is made, or refused
+
+not_wanted : (r : Refusal) → is_want (Err r) ≡ false → r ≢ Memory
+not_wanted r e n = let f = rw n at e in cc
+
+illegal_is_told : (r : Refusal) → r ≡ IllegalState → is_want (Err r) ≡ false
+illegal_is_told r e = ap (λ x. is_want (Err x)) e
+
+pub create_refused : (state : State) (s : SessionId) (c : ℕ) (topic : List ℕ) (selector : Option (List ℕ)) (r : Refusal) →
+    (may_begin state.life state.consumers s c ≡ false → r ≡ IllegalState) → (may_begin state.life state.consumers s c ≡ true → r ≢ Memory → selector_refusal selector ≡ Some r) →
+    StepFits state (Session s) (Ask (CreateConsumer c topic selector)) (Err r) state
+unfolding reply step refusal may_want
+create_refused state s c topic selector r f k =
+    go (may_begin state.life state.consumers s c) (answer state.life state.consumers (held state (Session s) (CreateConsumer c topic selector)) (Session s) (CreateConsumer c topic selector)) (after state (Session s) (CreateConsumer c topic selector)) (is_want (Err r)) refl f k
+  where
+    go : (m : Bool) (a : Answer) (next : State) (b : Bool) → is_want (Err r) ≡ b → (m ≡ false → r ≡ IllegalState) → (m ≡ true → r ≢ Memory → selector_refusal selector ≡ Some r) →
+        MatchBool b ((m ≡ true) × (state ≡ state)) ((Err r ≡ replied (first_cause (unless m IllegalState) (selector_refusal selector)) a) × (state ≡ moved (first_cause (unless m IllegalState) (selector_refusal selector)) next state))
+    go true a next true e f k = (refl, refl)
+    go true a next false e f k = let is : selector_refusal selector ≡ Some r = k refl (not_wanted r e) in (rw is refl, rw is refl)
+    go false a next true e f k = absurd (let told = illegal_is_told r (f refl) in cc)
+    go false a next false e f k = (ap (λ x. Err x) (f refl), refl)
+
+pub create_made : (state : State) (s : SessionId) (c : ℕ) (topic : List ℕ) (selector : Option (List ℕ)) (next : State) →
+    may_begin state.life state.consumers s c ≡ true → selector_refusal selector ≡ None → next ≡ joined s c (Own s c) (put (Own s c) (defined topic selector) state) →
+    StepFits state (Session s) (Ask (CreateConsumer c topic selector)) (Ok Done) next
+unfolding reply step refusal answer after
+create_made state s c topic selector next m v e = rw (m, v) (refl, e)
+
+-- ---- a receive
+
+rows_bare : (o : Option Station) → rows_of o ≡ bare (placed_rows o)
+rows_bare None = refl
+rows_bare (Some x) = refl
+
+mode_auto : (o : Option Mode) → is_some o ≡ true → o ≡ Some Auto
+mode_auto None h = cc
+mode_auto (Some Auto) h = refl
+
+both_first : (a b : Bool) → (a && b) ≡ true → a ≡ true
+both_first true b h = refl
+both_first false b h = h
+
+pub receive_refused : (state : State) (s : SessionId) (c now : ℕ) (r : Refusal) → r ≡ IllegalState → (is_some (mode_of state.life s) && is_active (consumer_of state.consumers s c)) ≡ false → StepFits state (Session s) (Ask (Receive c now)) (Err r) state
+unfolding reply step refusal
+receive_refused state s c now r e m = rw (e, m) (refl, refl)
+
+module _ (opening : ℕ) (life : Life) (consumers : List Consumer) (ss : List Subscription) (list : List Backlog) (place : ℕ) where
+  -- before the receive
+  abbrev before : State
+  before = state_of opening life consumers ss list place
+
+  -- what was told, and what is left, where the consumer has that key
+  from_key : (now : ℕ) (key : Key) (o : Option Taking) (a : Answer) → length list ≡ length ss → IsTaken (Some key) now (keys_of ss) list o → MatchOption o (a ≡ Nothing) (λ x. (d : Backlog) → a ≡ delivery (next now (live now (bare (get_or list x.index d).rows)))) →
+      (a ≡ delivery (next now (live now (rows_of (station_of key (stations_of ss list)))))) × (stations_of ss (taken_from o now list) ≡ at_key key (with_rows (deliver_placed now (left_of (Some Auto)))) (stations_of ss list))
+  from_key now key None a n t e =
+      let none = key_missing key (with_rows (deliver_placed now (left_of (Some Auto)))) ss list (fails_all (λ x. key_eq x key) (keys_of ss) (found_none (λ x. key_eq x key) (keys_of ss) t)) in
+      (e ∙ ap (λ o. delivery (next now (live now (rows_of o)))) (sym none.1), sym none.0)
+  from_key now key (Some x) a n t e =
+      let at = found_at (λ y. key_eq y key) (keys_of ss) x.index t.0 in
+      let d : Backlog = record { rows = []; limit = None; missed = 0; room = 0 } in
+      let found = key_found key (deliver_placed now (left_of (Some Auto))) ss list d x.index n at.0 (omega (arith, at.1, length-keys ss)) in
+      (e d ∙ ap (λ rows. delivery (next now (live now (bare rows)))) (sym found.1) ∙ ap (λ rows. delivery (next now (live now rows))) (sym (rows_bare (station_of key (stations_of ss list)))), sym found.0)
+
+  idle : (now : ℕ) (o : Option Taking) (a : Answer) → o ≡ None → MatchOption o (a ≡ Nothing) (λ x. (d : Backlog) → a ≡ delivery (next now (live now (bare (get_or list x.index d).rows)))) → (a ≡ Nothing) × (state_of opening life consumers ss (taken_from o now list) place ≡ before)
+  idle now None a t told = (told, refl)
+  idle now (Some x) a t told = cc
+
+  pub receive_made : (s : SessionId) (c now : ℕ) (k : Option Key) (o : Option Taking) (a : Answer) → length list ≡ length ss → (is_some (mode_of life s) && is_active (consumer_of consumers s c)) ≡ true → k ≡ cond (is_started life s.connection) (key_at (consumer_of consumers s c)) None →
+      IsTaken k now (keys_of ss) list o → MatchOption o (a ≡ Nothing) (λ x. (d : Backlog) → a ≡ delivery (next now (live now (bare (get_or list x.index d).rows)))) →
+      StepFits before (Session s) (Ask (Receive c now)) (Ok a) (state_of opening life consumers ss (taken_from o now list) place)
+  unfolding reply step refusal answer after
+  receive_made s c now k o a n m e t told =
+      let mode : mode_of life s ≡ Some Auto = mode_auto (mode_of life s) (both_first (is_some (mode_of life s)) (is_active (consumer_of consumers s c)) m) in
+      let r = go (is_started life s.connection) (key_at (consumer_of consumers s c)) (subst (λ x. IsTaken x now (keys_of ss) list o) e t) in
+      rw (m, mode) (ap (λ x. Ok x) r.0, r.1)
+    where
+      go : (started : Bool) (key : Option Key) → IsTaken (cond started key None) now (keys_of ss) list o → (a ≡ delivered started now (holding_at key before).rows) × (state_of opening life consumers ss (taken_from o now list) place ≡ cond started (receive (left_of (Some Auto)) now key before) before)
+      go false key t = idle now o a t told
+      go true None t = idle now o a t told
+      go true (Some key) t =
+          let r = from_key now key o a n t told in
+          (r.0, ap (λ xs. record before { stations = xs }) r.1)
+
+  -- memory is wanted for a copy alone
+  wants_shared : (now : ℕ) (key : Key) → length list ≡ length ss → wants_copy (Some key) now (keys_of ss) list ≡ true → is_next_shared now (Some key) (stations_of ss list) ≡ true
+  wants_shared now key n w = there (index_in (keys_of ss) key) refl w
+    where
+      at : (i : ℕ) (o : Option Backlog) → slice_get list i ≡ o → index_in (keys_of ss) key ≡ Some i → wants_from now list o ≡ true → is_next_shared now (Some key) (stations_of ss list) ≡ true
+      at i None e f w = cc
+      at i (Some b) e f w =
+          let same : get_or list i b ≡ b = get_or_from_slice_get list i b b e in
+          sym (copy_is_shared now key ss list i b n f) ∙ ap (λ (x : Backlog). is_some (copy_wanted now list x.rows)) same ∙ w
+
+      there : (o : Option ℕ) → index_in (keys_of ss) key ≡ o → wants_from now list (backlog_at list o) ≡ true → is_next_shared now (Some key) (stations_of ss list) ≡ true
+      there None e w = cc
+      there (Some i) e w = at i (slice_get list i) refl e w
+
+  pub receive_wants : (s : SessionId) (c now : ℕ) (k : Option Key) (r : Refusal) → length list ≡ length ss → (is_some (mode_of life s) && is_active (consumer_of consumers s c)) ≡ true → k ≡ cond (is_started life s.connection) (key_at (consumer_of consumers s c)) None →
+      wants_copy k now (keys_of ss) list ≡ true → r ≡ Memory → StepFits before (Session s) (Ask (Receive c now)) (Err r) before
+  unfolding may_want
+  receive_wants s c now k r n m e w is = rw is (go (is_some (mode_of life s)) (is_started life s.connection) (key_at (consumer_of consumers s c)) (both_first (is_some (mode_of life s)) (is_active (consumer_of consumers s c)) m) (subst (λ x. wants_copy x now (keys_of ss) list ≡ true) e w), refl)
+    where
+      go : (mode started : Bool) (key : Option Key) → mode ≡ true → wants_copy (cond started key None) now (keys_of ss) list ≡ true → ((mode && started) && is_next_shared now key (stations_of ss list)) ≡ true
+      go mode false key m w = cc
+      go mode true None m w = cc
+      go mode true (Some key) m w = rw m (wants_shared now key n w)
+
+-- what every core keeps, after a delivery
+pub sound_taken : (consumers : List Consumer) (ss : List Subscription) (keys : List Key) (list : List Backlog) (place now : ℕ) (k : Option Key) (o : Option Taking) → IsSound consumers ss keys list place → IsTaken k now keys list o → IsSound consumers ss keys (taken_from o now list) place
+sound_taken consumers ss keys list place now k None h t = h
+sound_taken consumers ss keys list place now None (Some x) h t = cc
+sound_taken consumers ss keys list place now (Some key) (Some x) h t = sound_received consumers ss keys list place x.index now key h t.0

@@ -1,0 +1,83 @@
+-- What readers and copies of the core show.
+use Rattle.std.proofs.Common.{◌≡◌, ◌<◌, ℕ, Bool, true, false, List, [], ◌∷◌, map, length, get_or, refl, ap, sym, subst, ◌∙◌, arith, Some, None, zero, suc}
+use Rattle.std.specs.Prelude.{position, slice_get, option_map}
+use Rattle.std.specs.List.{All, position_or_len}
+use Rattle.std.proofs.lemmas.List.{length-map}
+use Rattle.std.proofs.lemmas.List.Elements.{All-head, All-tail, All-cons}
+use Rattle.jm_dest.specs.declared.key.Key.{Key}
+use Rattle.jm_dest.specs.Keys.{key_eq}
+use Rattle.jm_machine.specs.declared.state.Consumer.{Consumer}
+use Rattle.jm_machine.specs.declared.state.Definition.{Definition}
+use Rattle.jm_machine.specs.Machine.{station_of}
+use Rattle.jm_stations.specs.Backlogs as spec
+use Rattle.jm_stations.specs.Backlogs.{Backlog, without_room}
+use Rattle.jm_stations.proofs.Keys.{key_same}
+use Rattle.jm_sub.specs.Subscriptions.{Subscription}
+use Rattle.jm_core.specs.Accepted.{HoldsAccepted}
+use Rattle.jm_core.specs.Kept.{IsNumberOfMessages}
+use Rattle.jm_core.specs.State.{station, stations_of, keys_of, IsSound}
+use Rattle.jm_core.proofs.Stations.{found_at, found_none, fails_all, key_missing, holders_same, length-keys}
+
+pub length-stations : (ss : List Subscription) (bs : List Backlog) → length bs ≡ length ss → length (stations_of ss bs) ≡ length ss
+length-stations [] bs n = refl
+length-stations (s ∷ ss) [] n = absurd (omega arith)
+length-stations (s ∷ ss) (b ∷ bs) n = ap suc (length-stations ss bs (omega arith))
+
+-- a copy, whose room may differ
+pub stations_copied : (ss : List Subscription) (bs : List Backlog) → stations_of ss (map without_room bs) ≡ stations_of ss bs
+stations_copied [] bs = refl
+stations_copied (s ∷ ss) [] = refl
+stations_copied (s ∷ ss) (b ∷ bs) = ap (λ xs. station s b ∷ xs) (stations_copied ss bs)
+
+unlimited_copied : (bs : List Backlog) → All (λ (b : Backlog). b.limit ≡ None) bs → All (λ (b : Backlog). b.limit ≡ None) (map without_room bs)
+unlimited_copied [] u = u
+unlimited_copied (b ∷ bs) u = All-cons (λ (b : Backlog). b.limit ≡ None) (without_room b) (map without_room bs) (All-head (λ (b : Backlog). b.limit ≡ None) b bs u) (unlimited_copied bs (All-tail (λ (b : Backlog). b.limit ≡ None) b bs u))
+
+pub sound_copied : (consumers : List Consumer) (ss : List Subscription) (keys : List Key) (bs : List Backlog) (place : ℕ) → IsSound consumers ss keys bs place → IsSound consumers ss keys (map without_room bs) place
+sound_copied consumers ss keys bs place h = record {
+  same = h.same;
+  number = length-map bs without_room ∙ h.number;
+  once = h.once;
+  made = h.made;
+  unlimited = unlimited_copied bs h.unlimited;
+  accepted = subst HoldsAccepted (sym (stations_copied ss bs)) h.accepted;
+  places = h.places;
+}
+
+-- the number of messages
+pub kept_same : (n : ℕ) (ss : List Subscription) (bs : List Backlog) → length bs ≡ length ss → spec.IsNumberOfMessages n bs → IsNumberOfMessages n (stations_of ss bs)
+kept_same n ss bs number h = record {
+  places = h.places;
+  once = h.once;
+  each = λ p. rw (← holders_same p ss bs number) (h.each p);
+  number = h.number;
+}
+
+-- the station of a key that is found
+there : (k : Key) (ss : List Subscription) (bs : List Backlog) (i : ℕ) (d : Definition) (e : Backlog) → length bs ≡ length ss → position_or_len (λ x. key_eq x k) (keys_of ss) ≡ i → i < length ss → option_map (λ (s : Subscription). s.definition) (slice_get ss i) ≡ Some d →
+    Some (record { key = k; definition = d; rows = (get_or bs i e).rows }) ≡ station_of k (stations_of ss bs)
+there k [] bs i d e n at l is = absurd (omega arith)
+there k (s ∷ ss) [] i d e n at l is = absurd (omega arith)
+there k (s ∷ ss) (b ∷ bs) zero d e n at l is = go (key_eq s.key k) refl
+  where
+    go : (t : Bool) → key_eq s.key k ≡ t → Some (record { key = k; definition = d; rows = b.rows }) ≡ station_of k (stations_of (s ∷ ss) (b ∷ bs))
+    go true t =
+        let key : k ≡ s.key = sym (key_same s.key k t) in
+        let definition : d ≡ s.definition = cc in
+        rw t (λ j. Some (record { key = key j; definition = definition j; rows = b.rows }))
+    go false t = absurd (omega (arith, rw t at at))
+there k (s ∷ ss) (b ∷ bs) (suc i) d e n at l is = go (key_eq s.key k) refl (there k ss bs i d e (omega arith))
+  where
+    go : (t : Bool) → key_eq s.key k ≡ t → (position_or_len (λ x. key_eq x k) (keys_of ss) ≡ i → i < length ss → option_map (λ (s : Subscription). s.definition) (slice_get ss i) ≡ Some d → Some (record { key = k; definition = d; rows = (get_or bs i e).rows }) ≡ station_of k (stations_of ss bs)) →
+        Some (record { key = k; definition = d; rows = (get_or bs i e).rows }) ≡ station_of k (stations_of (s ∷ ss) (b ∷ bs))
+    go true t rest = absurd (omega (arith, rw t at at))
+    go false t rest = rw t (rest (omega (arith, rw t at at)) (omega arith) is)
+
+pub station_found : (k : Key) (ss : List Subscription) (bs : List Backlog) (i : ℕ) (d : Definition) (e : Backlog) → length bs ≡ length ss → position (λ x. key_eq x k) (keys_of ss) ≡ Some i → option_map (λ (s : Subscription). s.definition) (slice_get ss i) ≡ Some d →
+    Some (record { key = k; definition = d; rows = (get_or bs i e).rows }) ≡ station_of k (stations_of ss bs)
+station_found k ss bs i d e n at is =
+    let found = found_at (λ x. key_eq x k) (keys_of ss) i at in
+    there k ss bs i d e n found.0 (omega (arith, found.1, length-keys ss)) is
+
+pub station_missing : (k : Key) (ss : List Subscription) (bs : List Backlog) → position (λ x. key_eq x k) (keys_of ss) ≡ None → None ≡ station_of k (stations_of ss bs)
+station_missing k ss bs at = sym (key_missing k (λ x. x) ss bs (fails_all (λ x. key_eq x k) (keys_of ss) (found_none (λ x. key_eq x k) (keys_of ss) at))).1

@@ -1,0 +1,185 @@
+-- What every core keeps, through each change.
+use Rattle.std.proofs.Common.{◌≡◌, ◌<◌, ◌≤◌, ℕ, Bool, true, false, cond, List, [], ◌∷◌, ◌++◌, map, length, refl, ap, sym, subst, ◌∙◌, arith, Some, None}
+use Rattle.std.specs.Prelude.{◌&&◌, not, find, position, nat_lt, is_some}
+use Rattle.std.specs.List.{All, AllByRecursion, IsDistinct, position_or_len}
+use Rattle.std.proofs.lemmas.Bool.Decides.{nat_tests}
+use Rattle.std.proofs.lemmas.List.{map-append, length-append}
+use Rattle.std.proofs.lemmas.List.Elements.{All-head, All-tail, All-nil, All-push, All-weaker}
+use Rattle.jm_base.specs.declared.mode.Mode.TheVariants.{Auto}
+use Rattle.jm_dest.specs.declared.session.SessionId.{SessionId}
+use Rattle.jm_dest.specs.declared.key.Key.{Key}
+use Rattle.jm_dest.specs.declared.key.Key.TheVariants.{Queue, Own, SharedOwn, Durable}
+use Rattle.jm_dest.specs.Keys.{key_eq}
+use Rattle.jm_machine.specs.declared.state.Consumer.{Consumer}
+use Rattle.jm_machine.specs.declared.state.Definition.{Definition}
+use Rattle.jm_machine.specs.declared.state.Station.{Station}
+use Rattle.jm_machine.specs.Life.{Life, mode_of}
+use Rattle.jm_machine.specs.Rows.{deliver_placed, left_of}
+use Rattle.jm_machine.specs.Machine.{has_number, consumer_of, may_begin, new_consumer, places_end, without}
+use Rattle.jm_stations.specs.Backlogs.{Backlog, HasMoreRoom, changed_at, received, empty}
+use Rattle.jm_stations.proofs.Keys.{key_refl, key_same}
+use Rattle.jm_sub.specs.Subscriptions as subs
+use Rattle.jm_sub.specs.Subscriptions.{Subscription}
+use Rattle.jm_core.specs.declared.publish.Publication.{Publication}
+use Rattle.jm_core.specs.Accepted.{HoldsAccepted}
+use Rattle.jm_core.specs.Publications.{IsRouted, ArePublished}
+use Rattle.jm_core.specs.State.{station, stations_of, keys_of, IsOfConsumer, IsSound}
+use Rattle.jm_core.proofs.Accepted.{published_hold, with_empty, at_key_holds}
+use Rattle.jm_core.proofs.Stations.{found_at, key_found, key_missing, subscription_missing, stations_push, more_room, room_unlimited, length-changed, changed_unlimited, length-keys}
+use Rattle.jm_core.proofs.Publishing.{published_all}
+
+-- nothing was made and nothing is held
+pub sound_none : IsSound [] [] [] [] 1
+unfolding IsDistinct
+sound_none = record { same = refl; number = refl; once = tt; made = All-nil (IsOfConsumer []); unlimited = All-nil (λ (b : Backlog). b.limit ≡ None); accepted = tt; places = omega arith }
+
+-- where there is more room
+pub sound_room : (consumers : List Consumer) (ss : List Subscription) (keys : List Key) (old new : List Backlog) (place : ℕ) → IsSound consumers ss keys old place → HasMoreRoom old new → IsSound consumers ss keys new place
+sound_room consumers ss keys old new place h r = record {
+  same = h.same;
+  number = r.number ∙ h.number;
+  once = h.once;
+  made = h.made;
+  unlimited = room_unlimited old new r h.unlimited;
+  accepted = subst HoldsAccepted (sym (more_room ss old new r)) h.accepted;
+  places = h.places;
+}
+
+-- after a delivery
+pub sound_received : (consumers : List Consumer) (ss : List Subscription) (keys : List Key) (list : List Backlog) (place i now : ℕ) (k : Key) → IsSound consumers ss keys list place → position (λ x. key_eq x k) keys ≡ Some i → IsSound consumers ss keys (changed_at i (received now) list) place
+sound_received consumers ss keys list place i now k h e =
+    let at = found_at (λ x. key_eq x k) (keys_of ss) i (rw h.same e) in
+    let inside : i < length ss = omega (arith, at.1, length-keys ss) in
+    let d : Backlog = empty None in
+    let after = (key_found k (deliver_placed now (left_of (Some Auto))) ss list d i h.number at.0 inside).0 in
+    record {
+      same = h.same;
+      number = length-changed i (received now) list ∙ h.number;
+      once = h.once;
+      made = h.made;
+      unlimited = changed_unlimited i now list h.unlimited;
+      accepted = subst HoldsAccepted after (at_key_holds k now (stations_of ss list) h.accepted);
+      places = h.places;
+    }
+
+-- after publications
+pub sound_published : (life : Life) (consumers : List Consumer) (ss : List Subscription) (keys : List Key) (old new : List Backlog) (place next : ℕ) (xs : List Publication) → IsSound consumers ss keys old place → All (λ (x : Publication). IsRouted ss x.message x.indexes.items) xs → ArePublished xs place old new → next ≤ places_end →
+    IsSound consumers ss keys new next
+sound_published life consumers ss keys old new place next xs h r p le =
+    let all = published_all life ss xs place old new h.number h.unlimited r p in
+    record {
+      same = h.same;
+      number = all.1;
+      once = h.once;
+      made = h.made;
+      unlimited = all.2;
+      accepted = subst HoldsAccepted (sym all.0) (published_hold life place (map (λ (x : Publication). x.message) xs) (stations_of ss old) h.accepted);
+      places = le;
+    }
+
+-- ---- a new consumer's key
+
+found_still : {A : Type 0} (p : A → Bool) (xs ys : List A) → is_some (find p xs) ≡ true → is_some (find p (xs ++ ys)) ≡ true
+found_still p [] ys h = cc
+found_still p (x ∷ xs) ys h = go (p x) h (found_still p xs ys)
+  where
+    go : (b : Bool) → is_some (cond b (Some x) (find p xs)) ≡ true → (is_some (find p xs) ≡ true → is_some (find p (xs ++ ys)) ≡ true) → is_some (cond b (Some x) (find p (xs ++ ys))) ≡ true
+    go true h rest = refl
+    go false h rest = rest h
+
+found_last : {A : Type 0} (p : A → Bool) (xs : List A) (y : A) → p y ≡ true → is_some (find p (xs ++ y ∷ [])) ≡ true
+found_last p [] y h = rw h refl
+found_last p (x ∷ xs) y h = go (p x) (found_last p xs y h)
+  where
+    go : (b : Bool) → is_some (find p (xs ++ y ∷ [])) ≡ true → is_some (cond b (Some x) (find p (xs ++ y ∷ []))) ≡ true
+    go true rest = refl
+    go false rest = rest
+
+still_made : (consumers : List Consumer) (y : Consumer) (k : Key) → IsOfConsumer consumers k → IsOfConsumer (consumers ++ y ∷ []) k
+still_made consumers y (Own s c) h = found_still (has_number s c) consumers (y ∷ []) h
+still_made consumers y (Queue name) h = h
+still_made consumers y (SharedOwn client name) h = h
+still_made consumers y (Durable client name) h = h
+
+own_number : (s : SessionId) (c : ℕ) → key_eq (Own s c) (Own s c) ≡ true
+own_number s c = key_refl (Own s c)
+
+key_parts : (t s : SessionId) (d c : ℕ) → Own t d ≡ Own s c → (t ≡ s) × (d ≡ c)
+key_parts t s d c h = let a : t ≡ s = cc in let b : d ≡ c = cc in (a, b)
+
+other_key : (consumers : List Consumer) (s : SessionId) (c : ℕ) (k : Key) → is_some (consumer_of consumers s c) ≡ false → IsOfConsumer consumers k → key_eq k (Own s c) ≡ false
+other_key consumers s c (Own t d) n h = go (key_eq (Own t d) (Own s c)) refl
+  where
+    go : (b : Bool) → key_eq (Own t d) (Own s c) ≡ b → b ≡ false
+    go false e = refl
+    go true e =
+        let parts = key_parts t s d c (key_same (Own t d) (Own s c) e) in
+        let same : is_some (consumer_of consumers t d) ≡ is_some (consumer_of consumers s c) = λ i. is_some (consumer_of consumers (parts.0 i) (parts.1 i)) in
+        cc
+other_key consumers s c (Queue name) n h = refl
+other_key consumers s c (SharedOwn client name) n h = refl
+other_key consumers s c (Durable client name) n h = refl
+
+-- of two checks the second fails
+pub not_used : (a b : Bool) → (a && not b) ≡ true → b ≡ false
+not_used a false h = refl
+not_used true true h = cc
+not_used false true h = cc
+
+-- a new consumer's key stands nowhere
+pub new_key : (life : Life) (consumers : List Consumer) (keys : List Key) (s : SessionId) (c : ℕ) → may_begin life consumers s c ≡ true → All (IsOfConsumer consumers) keys → All (λ x. key_eq x (Own s c) ≡ false) keys
+new_key life consumers keys s c b h =
+    All-weaker (IsOfConsumer consumers) (λ x. key_eq x (Own s c) ≡ false) (λ x made. other_key consumers s c x (not_used (is_some (mode_of life s)) (is_some (consumer_of consumers s c)) b) made) keys h
+
+past_all : {A : Type 0} (p : A → Bool) (xs : List A) → All (λ x. p x ≡ false) xs → position_or_len p xs ≡ length xs
+past_all p [] h = refl
+past_all p (x ∷ xs) h =
+    let e : p x ≡ false = All-head (λ x. p x ≡ false) x xs h in
+    let rest = past_all p xs (All-tail (λ x. p x ≡ false) x xs h) in
+    rw e (omega (arith, rest))
+
+pub found_nowhere : {A : Type 0} (p : A → Bool) (xs : List A) → All (λ x. p x ≡ false) xs → position p xs ≡ None
+found_nowhere p xs h = go (position_or_len p xs) (length xs) (past_all p xs h) (nat_lt (position_or_len p xs) (length xs)) refl
+  where
+    go : (n m : ℕ) → n ≡ m → (b : Bool) → nat_lt n m ≡ b → cond b (Some n) None ≡ None
+    go n m e true f = absurd (let less : n < m = grind (arith, nat_tests) in omega (arith, e, less))
+    go n m e false f = refl
+
+apart_push : (a k : Key) (keys : List Key) → AllByRecursion (λ y. key_eq a y ≡ false) keys → key_eq a k ≡ false → AllByRecursion (λ y. key_eq a y ≡ false) (keys ++ k ∷ [])
+apart_push a k [] h e = (e, tt)
+apart_push a k (x ∷ keys) h e = (h.0, apart_push a k keys h.1 e)
+
+distinct_push : (keys : List Key) (k : Key) → IsDistinct key_eq keys → All (λ x. key_eq x k ≡ false) keys → IsDistinct key_eq (keys ++ k ∷ [])
+unfolding IsDistinct
+distinct_push [] k h n = (tt, tt)
+distinct_push (x ∷ keys) k h n = (apart_push x k keys h.0 (All-head (λ x. key_eq x k ≡ false) x keys n), distinct_push keys k h.1 (All-tail (λ x. key_eq x k ≡ false) x keys n))
+
+-- after a consumer is made
+pub sound_created : (life : Life) (consumers : List Consumer) (ss : List Subscription) (keys : List Key) (list : List Backlog) (place : ℕ) (s : SessionId) (c : ℕ) (d : Definition) → IsSound consumers ss keys list place → may_begin life consumers s c ≡ true →
+    IsSound (consumers ++ new_consumer s c (Own s c) ∷ []) (subs.put (record { key = Own s c; definition = d }) ss) (keys ++ Own s c ∷ []) (list ++ empty None ∷ []) place
+sound_created life consumers ss keys list place s c d h b =
+    let k : Key = Own s c in
+    let x : Subscription = record { key = k; definition = d } in
+    let y : Consumer = new_consumer s c k in
+    let new = new_key life consumers keys s c b h.made in
+    let put : subs.put x ss ≡ ss ++ x ∷ [] = ap (λ (xs : List Subscription). xs ++ x ∷ []) (subscription_missing k ss (subst (All (λ x. key_eq x k ≡ false)) (sym h.same) new)) in
+    rw put (record {
+      same = map-append (λ (s : Subscription). s.key) ss (x ∷ []) ∙ ap (λ (ks : List Key). ks ++ k ∷ []) h.same;
+      number = omega (arith, length-append list (empty None ∷ []), length-append ss (x ∷ []), h.number);
+      once = distinct_push keys k h.once new;
+      made = All-push (IsOfConsumer (consumers ++ y ∷ [])) keys k (All-weaker (IsOfConsumer consumers) (IsOfConsumer (consumers ++ y ∷ [])) (still_made consumers y) keys h.made) (found_last (has_number s c) consumers y (own_number s c));
+      unlimited = All-push (λ (b : Backlog). b.limit ≡ None) list (empty None) h.unlimited refl;
+      accepted = subst HoldsAccepted (sym (stations_push ss list x (empty None) h.number)) (with_empty k d (stations_of ss list) h.accepted);
+      places = h.places;
+    })
+
+-- what callers see of the new consumer's subscription
+pub created_stations : (life : Life) (consumers : List Consumer) (ss : List Subscription) (keys : List Key) (list : List Backlog) (place : ℕ) (s : SessionId) (c : ℕ) (d : Definition) → IsSound consumers ss keys list place → may_begin life consumers s c ≡ true →
+    stations_of (subs.put (record { key = Own s c; definition = d }) ss) (list ++ empty None ∷ []) ≡ without (Own s c) (stations_of ss list) ++ record { key = Own s c; definition = d; rows = [] } ∷ []
+created_stations life consumers ss keys list place s c d h b =
+    let k : Key = Own s c in
+    let x : Subscription = record { key = k; definition = d } in
+    let new = subst (All (λ x. key_eq x k ≡ false)) (sym h.same) (new_key life consumers keys s c b h.made) in
+    ap (λ (xs : List Subscription). stations_of (xs ++ x ∷ []) (list ++ empty None ∷ [])) (subscription_missing k ss new)
+    ∙ stations_push ss list x (empty None) h.number
+    ∙ ap (λ (xs : List Station). xs ++ station x (empty None) ∷ []) (sym (key_missing k (λ y. y) ss list new).2)

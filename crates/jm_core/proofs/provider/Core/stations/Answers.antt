@@ -1,7 +1,0 @@
-use Rattle.std.proofs.Common.{subst}
-use Rattle.jm_machine.specs.Machine.{State, AllInOrder}
-use Rattle.jm_machine.proofs.Order.{reached_in_order}
-use Rattle.jm_core.proofs.provider.Core.stations.Goals as goal
-
-pub returns-clause-ordered : goal.returns-clause-ordered
-returns-clause-ordered c = subst (λ (x : State). AllInOrder x.next_place x.stations) c.self.view_is (reached_in_order c.self.inside.state c.self.invariant)

@@ -1,0 +1,17 @@
+use Rattle.std.proofs.Common.{◌≡◌, ◌≤◌, ◌<◌, All, map, length, take, vec_len, vec_capacity}
+use Rattle.jm_stations.specs.Backlogs.{HasMoreRoom}
+use Rattle.jm_core.specs.declared.publish.Publication.{Publication}
+use Rattle.jm_core.specs.Publications.{IsReady}
+use Rattle.jm_core.proofs.publish.prepare_publications.Given as goal
+
+abbrev pub invariant-loop-message : goal.invariant-loop-message
+invariant-loop-message l = record {
+  messages : map (λ (x : Publication). x.message) l.publications.items ≡ take l.message-index l.messages;
+  ready : All (IsReady (length l.messages) l.subs.list l.stations.list) l.publications.items;
+  room : 0 < l.message-index → length l.messages ≤ l.stations.message_room;
+  keys : l.stations.keys ≡ l.fn.stations.keys;
+  list : HasMoreRoom l.fn.stations.list l.stations.list;
+  next_place : l.stations.next_place ≡ l.fn.stations.next_place;
+  number : vec_len l.publications ≡ l.message-index;
+  capacity : length l.messages ≤ vec_capacity l.publications;
+}

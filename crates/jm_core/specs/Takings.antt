@@ -1,0 +1,33 @@
+-- Deliveries that are prepared: from which rows, and with which copy.
+use Rattle.std.specs.Prelude.{◌≡◌, ℕ, Bool, false, List, Option, Some, None, is_some, slice_get, slice_index_or}
+use Rattle.jm_dest.specs.declared.key.Key.{Key}
+use Rattle.jm_stations.specs.Backlogs.{Backlog, changed_at, copy_wanted, received}
+use Rattle.jm_stations.specs.Stations.{index_in}
+use Rattle.jm_core.specs.declared.receive.Taking.{Taking}
+
+-- a delivery takes nothing where there is no key, or nothing stands under it; else the next row there, with the copy
+-- that is wanted
+abbrev pub IsTaken : Option Key → ℕ → List Key → List Backlog → Option Taking → Type 0
+IsTaken None now keys list taking = taking ≡ None
+IsTaken (Some key) now keys list None = index_in keys key ≡ None
+IsTaken (Some key) now keys list (Some x) = (index_in keys key ≡ Some x.index) × ((d : Backlog) → x.copy ≡ copy_wanted now list (slice_index_or list x.index d).rows)
+
+-- a delivery from what stands there wants a copy
+abbrev pub wants_from : ℕ → List Backlog → Option Backlog → Bool
+wants_from now list None = false
+wants_from now list (Some b) = is_some (copy_wanted now list b.rows)
+
+-- what stands at the index, where there is one
+abbrev pub backlog_at : List Backlog → Option ℕ → Option Backlog
+backlog_at list None = None
+backlog_at list (Some i) = slice_get list i
+
+-- a delivery from the key wants a copy
+abbrev pub wants_copy : Option Key → ℕ → List Key → List Backlog → Bool
+wants_copy None now keys list = false
+wants_copy (Some key) now keys list = wants_from now list (backlog_at list (index_in keys key))
+
+-- what is held after the delivery
+abbrev pub taken_from : Option Taking → ℕ → List Backlog → List Backlog
+taken_from None now list = list
+taken_from (Some x) now list = changed_at x.index (received now) list

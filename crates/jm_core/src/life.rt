@@ -1,0 +1,62 @@
+//! Opens connections and sessions. Each call is prepared first, which finds why it is refused and else takes
+//! all room, and then made, which takes no memory.
+
+ghost use Rattle.std.specs.Prelude.{◌≡◌, ◌<◌, true, not, is_some, IfErr, OnOk, None};
+ghost use Rattle.jm_machine.specs.declared.call.Who.TheVariants.{Connection, Session};
+ghost use Rattle.jm_machine.specs.declared.call.Request.TheVariants.{Open, CreateSession};
+ghost use Rattle.jm_machine.specs.Life as life;
+ghost use Rattle.jm_session.specs.Known.{cause};
+
+use jm_base::{Mode, Refusal};
+use jm_dest::{ConnectionId, SessionId};
+use jm_session::Sessions;
+
+/// Finds why the connection may not be opened, and else makes room for it.
+pub(crate) fn prepare_open(sessions: &mut Sessions, id: ConnectionId) -> Result<(), Refusal>
+    ensures ok { OnOk result (life.connection_of sessions.old.life.connections id ≡ None) }
+    ensures room { OnOk result (0 < sessions.new.spare) }
+    ensures refused { IfErr result (λ refusal. refusal ≡ cause (not (is_some (life.connection_of sessions.old.life.connections id)))) }
+    ensures life { sessions.new.life ≡ sessions.old.life }
+    ensures consumers { sessions.new.consumers ≡ sessions.old.consumers }
+{
+    if sessions.is_used(id) {
+        return Err(Refusal::IllegalState);
+    }
+    sessions.reserve(1)?;
+    Ok(())
+}
+
+/// Opens the connection, stopped.
+pub(crate) fn make_open(sessions: &mut Sessions, id: ConnectionId)
+    requires new { life.connection_of sessions.old.life.connections id ≡ None }
+    requires room { 0 < sessions.old.spare }
+    ensures life { sessions.new.life ≡ life.life_after sessions.old.life (Connection id) Open }
+    ensures consumers { sessions.new.consumers ≡ sessions.old.consumers }
+{
+    let _ = sessions.open(id);
+}
+
+/// Finds why the session may not be opened, and else makes room for it.
+pub(crate) fn prepare_session(sessions: &mut Sessions, id: &SessionId) -> Result<(), Refusal>
+    ensures ok { OnOk result (life.is_new_session sessions.old.life id.now ≡ true) }
+    ensures room { OnOk result (0 < sessions.new.spare) }
+    ensures refused { IfErr result (λ refusal. refusal ≡ cause (life.is_new_session sessions.old.life id.now)) }
+    ensures life { sessions.new.life ≡ sessions.old.life }
+    ensures consumers { sessions.new.consumers ≡ sessions.old.consumers }
+{
+    if !sessions.is_new_session(id) {
+        return Err(Refusal::IllegalState);
+    }
+    sessions.reserve(1)?;
+    Ok(())
+}
+
+/// Opens the session in that mode.
+pub(crate) fn make_session(sessions: &mut Sessions, id: &SessionId, mode: Mode)
+    requires new { life.is_new_session sessions.old.life id.now ≡ true }
+    requires room { 0 < sessions.old.spare }
+    ensures life { sessions.new.life ≡ life.life_after sessions.old.life (Session id.now) (CreateSession mode) }
+    ensures consumers { sessions.new.consumers ≡ sessions.old.consumers }
+{
+    let _ = sessions.session(id, mode);
+}

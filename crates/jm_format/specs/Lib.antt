@@ -1,0 +1,4 @@
+pub mod Limits
+pub mod Format
+pub mod Messages
+pub mod Reading

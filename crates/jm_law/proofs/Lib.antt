@@ -1,0 +1,12 @@
+pub mod Same
+pub mod Lists
+pub mod Life
+pub mod Stations
+pub mod Consumers
+pub mod Projection
+pub mod Steps
+pub mod Run
+pub mod Clients
+pub mod Unshared
+pub mod EntrySteps
+pub mod Keyed

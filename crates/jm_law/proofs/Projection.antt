@@ -1,0 +1,159 @@
+-- What a request of the machine is to one key's subscription.
+use Rattle.std.proofs.Common.{◌≡◌, ℕ, Bool, true, false, List, [], refl, ap, sym, ◌∙◌, Option, Some, None}
+use Rattle.std.specs.Prelude.{filter, ◌&&◌, is_some}
+use Rattle.jm_base.specs.declared.refusal.Refusal.{Refusal}
+use Rattle.jm_base.specs.declared.refusal.Refusal.TheVariants.{IllegalState}
+use Rattle.jm_dest.specs.declared.session.SessionId.{SessionId}
+use Rattle.jm_dest.specs.declared.key.Key.{Key}
+use Rattle.jm_dest.specs.declared.key.Key.TheVariants.{Own}
+use Rattle.jm_dest.specs.Keys.{key_eq}
+use Rattle.jm_machine.specs.declared.call.Who.TheVariants.{Connection, Session}
+use Rattle.jm_machine.specs.declared.call.Request.{Request}
+use Rattle.jm_machine.specs.declared.call.Request.TheVariants.{CreateSession, CreateConsumer, Receive}
+use Rattle.jm_machine.specs.declared.call.Call.TheVariants.{Ask}
+use Rattle.jm_machine.specs.declared.answer.Answer.{Answer}
+use Rattle.jm_machine.specs.declared.state.Row.{Row}
+use Rattle.jm_machine.specs.declared.state.PlacedRow.{PlacedRow}
+use Rattle.jm_machine.specs.declared.state.Station.{Station}
+use Rattle.jm_machine.specs.declared.state.Definition.{Definition}
+use Rattle.jm_machine.specs.declared.state.Consumer.{Consumer}
+use Rattle.jm_machine.specs.Owns.{is_own, is_own_connection}
+use Rattle.jm_machine.specs.Life.{Life, mode_of, is_started, own_life}
+use Rattle.jm_machine.specs.Rows.{left_of, bare, deliver, deliver_placed}
+use Rattle.jm_machine.specs.Machine.{State, station_of, definition_of, rows_of, with_rows, put, joined, consumer_of, is_active, key_at, held, unless, defined, receive, refusal, answer, after, replied, reply}
+use Rattle.jm_machine.specs.Lone.{Scope, Lone, lone_of, lone_put, lone_joined, lone_receive, lone_did, about, belongs, true_or_none, is_true, lone_holding, lone_refusal, lone_reply}
+use Rattle.jm_law.proofs.Same.{key_same, key_refl}
+use Rattle.jm_law.proofs.Lists.{push_in, push_out, cond_map, cond_one}
+use Rattle.jm_law.proofs.Stations.{mapped, station_of-at, station_of_other-at, station-put, other-put, bare-deliver}
+use Rattle.jm_law.proofs.Life.{own_mode, own_started, own_new, life_own, life_other}
+use Rattle.jm_law.proofs.Consumers.{Fitting, FairRequest, Placed, IsOther, consumer_own, key_mine, key_not_mine}
+
+-- what is held of a key, from its station
+abbrev pub lone_at : Life → List Consumer → Option Station → Lone
+lone_at l cs o = record { life = l; consumers = cs; definition = definition_of o; rows = rows_of o }
+
+pub three : {l m : Life} {cs ds : List Consumer} {o p : Option Station} → l ≡ m → cs ≡ ds → o ≡ p → lone_at l cs o ≡ lone_at m ds p
+three {l} {m} {cs} {ds} {o} {p} e f g =
+    ap (λ (x : Life). lone_at x cs o) e ∙ ap (λ (x : List Consumer). lone_at m x o) f ∙ ap (λ (x : Option Station). lone_at m ds x) g
+
+-- a change of the key's rows
+pub rows_case : (f : List PlacedRow → List PlacedRow) (g : List Row → List Row) → ((xs : List PlacedRow) → bare (f xs) ≡ g (bare xs)) → g [] ≡ [] →
+    (l : Life) (cs : List Consumer) (o : Option Station) → lone_at l cs (mapped (with_rows f) o) ≡ record (lone_at l cs o) { rows = g (rows_of o) }
+rows_case f g h e l cs None = ap (λ (rs : List Row). record (lone_at l cs None) { rows = rs }) (sym e)
+rows_case f g h e l cs (Some x) = ap (λ (rs : List Row). record (lone_at l cs (Some x)) { rows = rs }) (h x.rows)
+
+-- a consumer of the key receives, and one of another key
+receive_own : (S : Scope) (f : Row → List Row) (now : ℕ) (k : Option Key) (state : State) → k ≡ Some S.key → lone_of S (receive f now k state) ≡ lone_receive f now (lone_of S state)
+unfolding lone_of
+receive_own S f now k state e =
+    ap (λ (k : Option Key). lone_of S (receive f now k state)) e
+    ∙ three refl refl (station_of-at S.key (with_rows (deliver_placed now f)) (λ y. refl) state.stations)
+    ∙ rows_case (deliver_placed now f) (deliver now f) (bare-deliver now f) refl (own_life S.sessions state.life) (filter (λ y. key_eq y.key S.key) state.consumers) (station_of S.key state.stations)
+
+receive_other : (S : Scope) (f : Row → List Row) (now : ℕ) (k : Option Key) (state : State) → IsOther S k → lone_of S (receive f now k state) ≡ lone_of S state
+unfolding lone_of
+receive_other S f now None state h = refl
+receive_other S f now (Some k) state h = three refl refl (station_of_other-at S.key k (with_rows (deliver_placed now f)) (λ y. refl) h state.stations)
+
+-- the key's subscription is made, and another's
+created_own : (S : Scope) (s : SessionId) (c : ℕ) (d : Definition) (state : State) → Own s c ≡ S.key → lone_of S (joined s c (Own s c) (put (Own s c) d state)) ≡ lone_joined s c S.key (lone_put d (lone_of S state))
+unfolding lone_of
+created_own S s c d state e =
+    ap (λ (k : Key). lone_of S (joined s c k (put k d state))) e
+    ∙ three refl (push_in _ _ (key_refl S.key) state.consumers) (station-put S.key d state.stations)
+
+created_other : (S : Scope) (s : SessionId) (c : ℕ) (d : Definition) (state : State) → key_eq (Own s c) S.key ≡ false → lone_of S (joined s c (Own s c) (put (Own s c) d state)) ≡ lone_of S state
+unfolding lone_of
+created_other S s c d state h = three refl (push_out _ _ h state.consumers) (other-put S.key (Own s c) d h state.stations)
+
+and_two : (x y : Bool) → (x && y) ≡ true → y ≡ true
+and_two true y h = h
+and_two false y h = cc
+
+-- why the machine refuses a session's request; none where it does not
+abbrev pub refused : State → SessionId → Request → Option Refusal
+refused state s request = refusal state.life state.consumers (held state (Session s) request) (Session s) request
+
+-- the checks of an own session's request that names no consumer of another key
+pub own_refusal : (S : Scope) (state : State) (s : SessionId) (request : Request) → is_own S.sessions s ≡ true → FairRequest S s request → Placed S state.consumers → true_or_none (about S s request) ≡ true →
+    lone_refusal (lone_of S state) (Session s) request ≡ refusal state.life state.consumers (held state (Session s) request) (Session s) request
+unfolding lone_of refusal
+own_refusal S state s (CreateSession mode) o f p n = rw (own_new S.sessions state.life s o)
+own_refusal S state s (CreateConsumer c topic selector) o f p n =
+    let mine : belongs S s c ≡ true = sym f ∙ and_two (is_own S.sessions s) (key_eq (Own s c) S.key) n in
+    rw (own_mode S.sessions state.life s o, consumer_own S s c mine state.consumers p)
+own_refusal S state s (Receive c now) o f p n = rw (own_mode S.sessions state.life s o, consumer_own S s c n state.consumers p)
+own_refusal S state s _ o f p n = refl
+
+-- a receive that is not refused is a standing consumer's
+passed : (b : Bool) → unless b IllegalState ≡ None → b ≡ true
+passed true h = refl
+passed false h = cc
+
+receives : (state : State) (s : SessionId) (c now : ℕ) → refused state s (Receive c now) ≡ None → is_active (consumer_of state.consumers s c) ≡ true
+unfolding refusal
+receives state s c now h = and_two (is_some (mode_of state.life s)) _ (passed _ h)
+
+-- the answer to an own session's request that names the key's consumer
+own_answer : (S : Scope) (state : State) (s : SessionId) (request : Request) → is_own S.sessions s ≡ true → Placed S state.consumers → is_true (about S s request) ≡ true → refused state s request ≡ None →
+    answer state.life state.consumers (held state (Session s) request) (Session s) request ≡ answer (lone_of S state).life (lone_of S state).consumers (lone_holding (lone_of S state)) (Session s) request
+unfolding lone_of answer
+own_answer S state s (Receive c now) o p n m = rw (own_started S.sessions state.life s o, key_mine S s c state.consumers p n (receives state s c now m))
+own_answer S state s _ o p n m = refl
+
+true_named : (a : Option Bool) → is_true a ≡ true → true_or_none a ≡ true
+true_named None h = cc
+true_named (Some b) h = h
+
+replied_same : (o : Option Refusal) (a b : Answer) → (o ≡ None → a ≡ b) → replied o a ≡ replied o b
+replied_same None a b h = ap (λ x. replied None x) (h refl)
+replied_same (Some r) a b h = refl
+
+-- the machine's reply to it is the subscription's
+pub own_reply : (S : Scope) (state : State) (s : SessionId) (request : Request) → is_own S.sessions s ≡ true → FairRequest S s request → Placed S state.consumers → is_true (about S s request) ≡ true →
+    reply state (Session s) (Ask request) ≡ lone_reply (lone_of S state) (Session s) request
+unfolding reply
+own_reply S state s request o f p n =
+    replied_same (refused state s request) _ _ (own_answer S state s request o p n)
+    ∙ ap (λ (x : Option Refusal). replied x (answer (lone_of S state).life (lone_of S state).consumers (lone_holding (lone_of S state)) (Session s) request)) (sym (own_refusal S state s request o f p (true_named (about S s request) n)))
+
+-- what an own session's request does that is not refused
+pub own_after : (S : Scope) (state : State) (s : SessionId) (request : Request) → is_own S.sessions s ≡ true → Placed S state.consumers → true_or_none (about S s request) ≡ true → refused state s request ≡ None →
+    lone_of S (after state (Session s) request) ≡ lone_did S.key (lone_of S state) (Session s) request
+unfolding lone_of after lone_did
+own_after S state s (CreateSession mode) o p n m = three (life_own S.sessions state.life (Session s) (CreateSession mode) o) refl refl
+own_after S state s (CreateConsumer c topic selector) o p n m = created_own S s c (defined topic selector) state (key_same (Own s c) S.key (and_two (is_own S.sessions s) (key_eq (Own s c) S.key) n))
+own_after S state s (Receive c now) o p n m =
+    rw (own_started S.sessions state.life s o, own_mode S.sessions state.life s o)
+    (cond_map (lone_of S) (is_started state.life s.connection) (receive (left_of (mode_of state.life s)) now (key_at (consumer_of state.consumers s c)) state) state _ _
+    (λ _. receive_own S (left_of (mode_of state.life s)) now (key_at (consumer_of state.consumers s c)) state (key_mine S s c state.consumers p n (receives state s c now m))) refl)
+own_after S state s _ o p n m = refl
+
+-- what a request does that names nothing of the key's
+abbrev pub Elsewhere : Scope → SessionId → Option Bool → Type 0
+Elsewhere S s None = is_own S.sessions s ≡ false
+Elsewhere S s (Some b) = b ≡ false
+
+-- a key that is not named by an own session is not named
+not_named : (x y : Bool) → (y ≡ true → x ≡ true) → (x && y) ≡ false → y ≡ false
+not_named true y h e = e
+not_named false true h e = absurd (let i : false ≡ true = h refl in cc)
+not_named false false h e = refl
+
+pub other_after : (S : Scope) (state : State) (s : SessionId) (request : Request) → Fitting S → Placed S state.consumers → Elsewhere S s (about S s request) → lone_of S (after state (Session s) request) ≡ lone_of S state
+unfolding lone_of after
+other_after S state s (CreateSession mode) f p n = three (life_other S.sessions state.life (Session s) (CreateSession mode) n) refl refl
+other_after S state s (CreateConsumer c topic selector) f p n = created_other S s c (defined topic selector) state (not_named (is_own S.sessions s) (key_eq (Own s c) S.key) (f.own s c) n)
+other_after S state s (Receive c now) f p n =
+    cond_one (lone_of S) (is_started state.life s.connection) _ state (lone_of S state)
+    (λ _. receive_other S (left_of (mode_of state.life s)) now (key_at (consumer_of state.consumers s c)) state (key_not_mine S s c state.consumers p n)) refl
+other_after S state s _ f p n = refl
+
+-- what a connection's request does
+pub connection_own : (S : Scope) (state : State) (c : ℕ) (request : Request) → is_own_connection S.sessions c ≡ true → lone_of S (after state (Connection c) request) ≡ lone_did S.key (lone_of S state) (Connection c) request
+unfolding lone_of after lone_did
+connection_own S state c request o = three (life_own S.sessions state.life (Connection c) request o) refl refl
+
+pub connection_other : (S : Scope) (state : State) (c : ℕ) (request : Request) → is_own_connection S.sessions c ≡ false → lone_of S (after state (Connection c) request) ≡ lone_of S state
+unfolding lone_of after
+connection_other S state c request n = three (life_other S.sessions state.life (Connection c) request n) refl refl

@@ -1,0 +1,68 @@
+-- At one key a change of the stations is a change of that key's.
+use Rattle.std.proofs.Common.{◌≡◌, ℕ, Bool, true, false, List, [], ◌∷◌, ◌++◌, map, refl, ap, ◌∙◌, arith, Option, Some, None}
+use Rattle.std.proofs.lemmas.Bool.Decides.{nat_tests}
+use Rattle.jm_dest.specs.declared.key.Key.{Key}
+use Rattle.jm_dest.specs.Keys.{key_eq}
+use Rattle.jm_machine.specs.declared.state.Row.{Row}
+use Rattle.jm_machine.specs.declared.state.PlacedRow.{PlacedRow}
+use Rattle.jm_machine.specs.declared.state.Station.{Station}
+use Rattle.jm_machine.specs.declared.state.Definition.{Definition}
+use Rattle.jm_machine.specs.Rows.{is_next, live, change_first, deliver, bare, change_placed, live_placed, deliver_placed}
+use Rattle.jm_machine.specs.Machine.{station_of, at_key, without}
+use Rattle.jm_law.proofs.Same.{key_same, key_refl}
+
+abbrev pub mapped : (Station → Station) → Option Station → Option Station
+mapped f None = None
+mapped f (Some x) = Some (f x)
+
+-- a key that is one is not the other
+apart : (k l a : Key) → key_eq l k ≡ false → key_eq a k ≡ true → key_eq a l ≡ false
+apart k l a h e = grind (arith, nat_tests, key_same a k, key_same a l, key_refl k)
+
+-- a change of each station that keeps its key
+pub station_of-map : (k : Key) (f : Station → Station) → ((x : Station) → (f x).key ≡ x.key) → (xs : List Station) → station_of k (map f xs) ≡ mapped f (station_of k xs)
+station_of-map k f h [] = refl
+station_of-map k f h (x ∷ xs) = grind (arith, nat_tests, h x, station_of-map k f h xs)
+
+-- a change at the key, and at another
+pub station_of-at : (k : Key) (f : Station → Station) → ((x : Station) → (f x).key ≡ x.key) → (xs : List Station) → station_of k (at_key k f xs) ≡ mapped f (station_of k xs)
+station_of-at k f h [] = refl
+station_of-at k f h (x ∷ xs) = grind (arith, nat_tests, h x, station_of-at k f h xs)
+
+pub station_of_other-at : (k l : Key) (f : Station → Station) → ((x : Station) → (f x).key ≡ x.key) → key_eq l k ≡ false → (xs : List Station) → station_of k (at_key l f xs) ≡ station_of k xs
+station_of_other-at k l f g h [] = refl
+station_of_other-at k l f g h (x ∷ xs) = grind (arith, nat_tests, g x, apart k l x.key h, station_of_other-at k l f g h xs)
+
+-- a new subscription of the key, and of another
+abbrev pub emptied : Key → Definition → Station
+emptied k d = record { key = k; definition = d; rows = [] }
+
+pub station-put : (k : Key) (d : Definition) (xs : List Station) → station_of k (without k xs ++ emptied k d ∷ []) ≡ Some (emptied k d)
+station-put k d [] = grind (arith, nat_tests, key_refl k)
+station-put k d (x ∷ xs) = grind (arith, nat_tests, station-put k d xs)
+
+pub other-put : (k l : Key) (d : Definition) → key_eq l k ≡ false → (xs : List Station) → station_of k (without l xs ++ emptied l d ∷ []) ≡ station_of k xs
+other-put k l d h [] = grind (arith, nat_tests)
+other-put k l d h (x ∷ xs) = grind (arith, nat_tests, apart k l x.key h, other-put k l d h xs)
+
+-- rows without their places
+pub bare-append : (xs ys : List PlacedRow) → bare (xs ++ ys) ≡ bare xs ++ bare ys
+bare-append [] ys = refl
+bare-append (x ∷ xs) ys = ap (λ t. x.row ∷ t) (bare-append xs ys)
+
+bare-live : (now : ℕ) (xs : List PlacedRow) → bare (live_placed now xs) ≡ live now (bare xs)
+bare-live now [] = refl
+bare-live now (x ∷ xs) = grind (arith, nat_tests, bare-live now xs)
+
+bare-at : (n : ℕ) (rs : List Row) → bare (map (λ r. record { place = n; row = r }) rs) ≡ rs
+bare-at n [] = refl
+bare-at n (r ∷ rs) = ap (λ t. r ∷ t) (bare-at n rs)
+
+bare-change : (p : Row → Bool) (f : Row → List Row) (xs : List PlacedRow) → bare (change_placed p f xs) ≡ change_first p f (bare xs)
+bare-change p f [] = refl
+bare-change p f (x ∷ xs) = grind (arith, nat_tests, bare-change p f xs, bare-at x.place (f x.row), bare-append (map (λ r. record { place = x.place; row = r }) (f x.row)) xs)
+
+pub bare-deliver : (now : ℕ) (f : Row → List Row) (xs : List PlacedRow) → bare (deliver_placed now f xs) ≡ deliver now f (bare xs)
+bare-deliver now f xs =
+    bare-change (is_next now (live now (bare xs))) f (live_placed now xs)
+    ∙ ap (change_first (is_next now (live now (bare xs))) f) (bare-live now xs)

@@ -1,0 +1,203 @@
+-- A step of the machine at an entry is what the entry feeds to one key's subscription.
+use Rattle.std.proofs.Common.{◌≡◌, ℕ, Bool, true, false, cond, List, [], ◌∷◌, ◌++◌, refl, ap, sym, ◌∙◌, Option, Some, None}
+use Rattle.std.specs.Prelude.{filter, ◌&&◌, is_ok, is_none, Ok}
+use Rattle.jm_base.specs.declared.refusal.Refusal.{Refusal}
+use Rattle.jm_dest.specs.declared.session.SessionId.{SessionId}
+use Rattle.jm_dest.specs.declared.key.Key.{Key}
+use Rattle.jm_dest.specs.declared.key.Key.TheVariants.{Own}
+use Rattle.jm_dest.specs.Keys.{key_eq}
+use Rattle.jm_header.specs.declared.content.Content.{Content}
+use Rattle.jm_machine.specs.declared.call.Who.TheVariants.{Connection, Session}
+use Rattle.jm_machine.specs.declared.call.Request.{Request}
+use Rattle.jm_machine.specs.declared.call.Request.TheVariants.{CreateConsumer, Receive}
+use Rattle.jm_machine.specs.declared.call.Call.TheVariants.{Ask}
+use Rattle.jm_machine.specs.declared.answer.Answer.{Answer}
+use Rattle.jm_machine.specs.declared.answer.Answer.TheVariants.{Done}
+use Rattle.jm_machine.specs.declared.entry.Entry.{Entry}
+use Rattle.jm_machine.specs.declared.entry.Entry.TheVariants.{Asked, Sent}
+use Rattle.jm_machine.specs.declared.state.Row.{Row}
+use Rattle.jm_machine.specs.declared.state.Station.{Station}
+use Rattle.jm_machine.specs.declared.state.Definition.{Definition}
+use Rattle.jm_machine.specs.declared.state.Consumer.{Consumer}
+use Rattle.jm_machine.specs.Owns.{is_own, is_own_connection}
+use Rattle.jm_machine.specs.Life.{Life, own_life}
+use Rattle.jm_machine.specs.Rows.{fresh}
+use Rattle.jm_machine.specs.Machine.{State, station_of, definition_of, rows_of, with_rows, Publisher, publisher_of, accepts, offered, with_message, published, held, refusal, publish_refusal, answer, after, replied, moved, reply, step}
+use Rattle.jm_machine.specs.Entries.{committed}
+use Rattle.jm_machine.specs.Lone.{Scope, Lone, Item, lone_of, lone_did, about, true_or_none, is_true, is_answered, lone_refusal, lone_after, lone_told, lone_replies, lone_end, is_own_call, lone_accepts, came, accepted, fed, at_place, placed, told}
+use Rattle.jm_machine.specs.Lone.Item.{Called, Came}
+use Rattle.jm_law.proofs.Same.{key_same}
+use Rattle.jm_law.proofs.Lists.{append_assoc, into_cond, moved_map, moved_one}
+use Rattle.jm_law.proofs.Stations.{mapped, station_of-map, bare-append}
+use Rattle.jm_law.proofs.Consumers.{Fitting, FairRequest, FairEntry, Placed}
+use Rattle.jm_law.proofs.EntrySteps.{state_after_entry, Replied}
+use Rattle.jm_law.proofs.Projection.{lone_at, three, refused, own_refusal, own_reply, own_after, Elsewhere, other_after, connection_own, connection_other}
+
+-- one item after another
+pub lone_replies-append : (S : Scope) (l : Lone) (place : ℕ) (xs : List Item) (ys : List (ℕ × Item)) →
+    lone_replies S l (at_place place xs ++ ys) ≡ lone_replies S l (at_place place xs) ++ lone_replies S (lone_end S l xs) ys
+lone_replies-append S l place [] ys = refl
+lone_replies-append S l place (x ∷ xs) ys = ap (λ t. placed place (lone_told S l x) ++ t) (lone_replies-append S (lone_after S l x) place xs ys) ∙ append_assoc (placed place (lone_told S l x)) _ _
+
+-- publications are answered by nothing
+pub lone_replies-came : (S : Scope) (l : Lone) (place : ℕ) (ms : List Content) → lone_replies S l (at_place place (came ms)) ≡ []
+lone_replies-came S l place [] = refl
+lone_replies-came S l place (m ∷ ms) = lone_replies-came S (lone_after S l (Came m)) place ms
+
+-- what is found under a key has it
+abbrev HasKey : Key → Option Station → Type 0
+HasKey k None = Unit {0}
+HasKey k (Some x) = x.key ≡ k
+
+has_key : (k : Key) (xs : List Station) → HasKey k (station_of k xs)
+has_key k [] = tt
+has_key k (x ∷ xs) = go (key_eq x.key k) refl (has_key k xs)
+  where
+    go : (b : Bool) → key_eq x.key k ≡ b → HasKey k (station_of k xs) → HasKey k (cond b (Some x) (station_of k xs))
+    go true e h = key_same x.key k e
+    go false e h = h
+
+-- one publication
+abbrev offer : Bool → Content → ℕ → Station → Station
+offer b m place x = cond b (with_rows (λ rows. rows ++ record { place = place; row = fresh m } ∷ []) x) x
+
+offer_key : (m : Content) (place : ℕ) (x : Station) (b : Bool) → (offer b m place x).key ≡ x.key
+offer_key m place x true = refl
+offer_key m place x false = refl
+
+offer_case : (l : Life) (cs : List Consumer) (m : Content) (place : ℕ) (x : Station) (b : Bool) →
+    lone_at l cs (Some (offer b m place x)) ≡ cond b (record (lone_at l cs (Some x)) { rows = rows_of (Some x) ++ fresh m ∷ [] }) (lone_at l cs (Some x))
+offer_case l cs m place x true = ap (λ (rs : List Row). record (lone_at l cs (Some x)) { rows = rs }) (bare-append x.rows (record { place = place; row = fresh m } ∷ []))
+offer_case l cs m place x false = refl
+
+message_case : (l : Life) (cs : List Consumer) (p : Publisher) (m : Content) (place : ℕ) (k : Key) (o : Option Station) → HasKey k o →
+    lone_at l cs (mapped (offered p m place) o) ≡ cond (lone_accepts k (definition_of o) p m) (record (lone_at l cs o) { rows = rows_of o ++ fresh m ∷ [] }) (lone_at l cs o)
+message_case l cs p m place k None h = refl
+message_case l cs p m place k (Some x) h =
+    offer_case l cs m place x (accepts x.key x.definition p m)
+    ∙ ap (λ (y : Key). cond (accepts y x.definition p m) (record (lone_at l cs (Some x)) { rows = rows_of (Some x) ++ fresh m ∷ [] }) (lone_at l cs (Some x))) h
+
+-- the subscription accepts a message of those connections
+abbrev takes : Scope → Life → Option Definition → Content → Bool
+takes S life d m = lone_accepts S.key d (publisher_of life m) m
+
+project_message : (S : Scope) (state : State) (m : Content) →
+    lone_of S (with_message state m) ≡ cond (takes S state.life (lone_of S state).definition m) (lone_after S (lone_of S state) (Came m)) (lone_of S state)
+unfolding lone_of
+project_message S state m =
+    three refl refl (station_of-map S.key (offered (publisher_of state.life m) m state.next_place) (λ x. offer_key m state.next_place x (accepts x.key x.definition (publisher_of state.life m) m)) state.stations)
+    ∙ message_case (own_life S.sessions state.life) (filter (λ x. key_eq x.key S.key) state.consumers) (publisher_of state.life m) m state.next_place S.key (station_of S.key state.stations) (has_key S.key state.stations)
+
+-- all messages of a publication
+definition_case : (b : Bool) (x y : Lone) → x.definition ≡ y.definition → (cond b x y).definition ≡ y.definition
+definition_case true x y h = h
+definition_case false x y h = refl
+
+message_definition : (S : Scope) (state : State) (m : Content) → (lone_of S (with_message state m)).definition ≡ (lone_of S state).definition
+message_definition S state m =
+    ap (λ (l : Lone). l.definition) (project_message S state m)
+    ∙ definition_case (takes S state.life (lone_of S state).definition m) (lone_after S (lone_of S state) (Came m)) (lone_of S state) refl
+
+came_one : (S : Scope) (l : Lone) (p : Content → Bool) (m : Content) (ms : List Content) → lone_end S l (came (filter p (m ∷ ms))) ≡ lone_end S (cond (p m) (lone_after S l (Came m)) l) (came (filter p ms))
+came_one S l p m ms = elim (p m) as (λ b. lone_end S l (came (cond b (m ∷ filter p ms) (filter p ms))) ≡ lone_end S (cond b (lone_after S l (Came m)) l) (came (filter p ms))) [ true ↦ refl | false ↦ refl ]
+
+project_published : (S : Scope) (state : State) (ms : List Content) →
+    lone_of S (published state ms) ≡ lone_end S (lone_of S state) (came (accepted S.key (lone_of S state).definition state.life ms))
+unfolding published
+project_published S state [] = refl
+project_published S state (m ∷ ms) =
+    project_published S (with_message state m) ms
+    ∙ ap (λ (d : Option Definition). lone_end S (lone_of S (with_message state m)) (came (accepted S.key d state.life ms))) (message_definition S state m)
+    ∙ ap (λ l. lone_end S l (came (accepted S.key (lone_of S state).definition state.life ms))) (project_message S state m)
+    ∙ sym (came_one S (lone_of S state) (takes S state.life (lone_of S state).definition) m ms)
+
+-- a session's request
+not_belongs : (S : Scope) (s : SessionId) (b : Bool) → is_own S.sessions s ≡ false → (is_own S.sessions s && b) ≡ false
+not_belongs S s b h = ap (λ v. v && b) h
+
+elsewhere : (S : Scope) (s : SessionId) (a : Option Bool) → true_or_none a ≡ false → Elsewhere S s a
+elsewhere S s None h = cc
+elsewhere S s (Some b) h = h
+
+pub elsewhere_other : (S : Scope) (s : SessionId) (request : Request) → is_own S.sessions s ≡ false → Elsewhere S s (about S s request)
+elsewhere_other S s (CreateConsumer c topic selector) n = not_belongs S s (key_eq (Own s c) S.key) n
+elsewhere_other S s (Receive c now) n = not_belongs S s (S.numbers s c) n
+elsewhere_other S s _ n = n
+
+step_case : (S : Scope) (state : State) (s : SessionId) (request : Request) → is_own S.sessions s ≡ true → Fitting S → FairRequest S s request → Placed S state.consumers → (v : Bool) → true_or_none (about S s request) ≡ v →
+    lone_of S (step state (Session s) (Ask request)) ≡ cond (v && is_none (lone_refusal (lone_of S state) (Session s) request)) (lone_did S.key (lone_of S state) (Session s) request) (lone_of S state)
+unfolding step
+step_case S state s request o f g p true h =
+    rw (own_refusal S state s request o g p h) (moved_map (lone_of S) (refused state s request) (after state (Session s) request) state _ _ (λ m. own_after S state s request o p h m) refl)
+step_case S state s request o f g p false h =
+    moved_one (lone_of S) (refused state s request) (after state (Session s) request) state (lone_of S state) (λ m. other_after S state s request f p (elsewhere S s (about S s request) h)) refl
+
+step_own : (S : Scope) (state : State) (s : SessionId) (request : Request) → is_own S.sessions s ≡ true → Fitting S → FairRequest S s request → Placed S state.consumers →
+    lone_of S (step state (Session s) (Ask request)) ≡ lone_after S (lone_of S state) (Called (Session s) request)
+step_own S state s request o f g p = step_case S state s request o f g p (true_or_none (about S s request)) refl
+
+step_other : (S : Scope) (state : State) (s : SessionId) (request : Request) → is_own S.sessions s ≡ false → Fitting S → Placed S state.consumers →
+    lone_of S (step state (Session s) (Ask request)) ≡ lone_of S state
+unfolding step
+step_other S state s request n f p =
+    moved_one (lone_of S) (refused state s request) (after state (Session s) request) state (lone_of S state) (λ m. other_after S state s request f p (elsewhere_other S s request n)) refl
+
+one_item : (S : Scope) (l : Lone) (b : Bool) (i : Item) → lone_end S l (cond b (i ∷ []) [] ++ []) ≡ cond b (lone_after S l i) l
+one_item S l true i = refl
+one_item S l false i = refl
+
+-- a connection's request, of which the accepted ones are fed
+connection_case : (S : Scope) (state : State) (c : ℕ) (request : Request) (r : Option Refusal) (a : Answer) (o : Bool) → is_own_connection S.sessions c ≡ o →
+    lone_of S (moved r (after state (Connection c) request) state) ≡ lone_end S (lone_of S state) (cond (o && is_ok (replied r a)) (Called (Connection c) request ∷ []) [] ++ [])
+connection_case S state c request None a true e = connection_own S state c request e
+connection_case S state c request None a false e = connection_other S state c request e
+connection_case S state c request (Some r) a true e = refl
+connection_case S state c request (Some r) a false e = refl
+
+-- a publication that is accepted
+published_ok : (o : Option Refusal) → replied o Done ≡ Ok Done → o ≡ None
+published_ok None h = refl
+published_ok (Some r) h = cc
+
+-- the machine's step at an entry is what the entry feeds
+pub entry_step : (S : Scope) (state : State) (before : List Entry) (e : Entry) → Fitting S → FairEntry S e → Placed S state.consumers → Replied state e →
+    lone_of S (state_after_entry state e) ≡ lone_end S (lone_of S state) (fed S state.life before (lone_of S state) e)
+unfolding state_after_entry committed step reply
+entry_step S state before (Asked (Session s) request r) f g p h =
+    into_cond (is_own S.sessions s) _ _ _ (λ o. step_own S state s request o f g p) (λ n. step_other S state s request n f p)
+    ∙ sym (one_item S (lone_of S state) (is_own S.sessions s) (Called (Session s) request))
+entry_step S state before (Asked (Connection c) request r) f g p h =
+    rw h (connection_case S state c request (refusal state.life state.consumers (held state (Connection c) request) (Connection c) request)
+    (answer state.life state.consumers (held state (Connection c) request) (Connection c) request) (is_own_connection S.sessions c) refl)
+entry_step S state before (Sent m) f g p h =
+    ap (λ (o : Option Refusal). lone_of S (moved o (published state (m ∷ [])) state)) (published_ok (publish_refusal state (Session m.sender.session) (m ∷ [])) h)
+    ∙ project_published S state (m ∷ [])
+
+-- the replies
+pub elsewhere_told : (S : Scope) (s : SessionId) (a : Option Bool) → Elsewhere S s a → is_true a ≡ false
+elsewhere_told S s None h = refl
+elsewhere_told S s (Some b) h = h
+
+pub true_false : true ≡ false → ⊥
+true_false h = cc
+
+pub connection_told : (S : Scope) (l : Lone) (place c : ℕ) (request : Request) (b : Bool) → [] ≡ lone_replies S l (at_place place (cond b (Called (Connection c) request ∷ []) [] ++ []))
+unfolding is_answered
+connection_told S l place c request true = refl
+connection_told S l place c request false = refl
+
+told_case : (S : Scope) (state : State) (place : ℕ) (s : SessionId) (request : Request) (o a : Bool) → is_own S.sessions s ≡ o → is_true (about S s request) ≡ a → FairRequest S s request → Placed S state.consumers →
+    placed place (cond a (Some (reply state (Session s) (Ask request))) None) ≡ lone_replies S (lone_of S state) (at_place place (cond o (Called (Session s) request ∷ []) [] ++ []))
+unfolding is_answered
+told_case S state place s request true true e b g p = rw (b, own_reply S state s request e g p b)
+told_case S state place s request true false e b g p = rw b
+told_case S state place s request false true e b g p = absurd (true_false (sym b ∙ elsewhere_told S s (about S s request) (elsewhere_other S s request e)))
+told_case S state place s request false false e b g p = refl
+
+-- the reply to a call of the key's, as an entry has it, is what its subscription answers alone
+pub entry_told : (S : Scope) (state : State) (place : ℕ) (before : List Entry) (e : Entry) → FairEntry S e → Placed S state.consumers → Replied state e →
+    placed place (told S e) ≡ lone_replies S (lone_of S state) (at_place place (fed S state.life before (lone_of S state) e))
+unfolding committed is_answered
+entry_told S state place before (Asked (Session s) request r) g p h = rw h (told_case S state place s request (is_own S.sessions s) (is_true (about S s request)) refl refl g p)
+entry_told S state place before (Asked (Connection c) request r) g p h = connection_told S (lone_of S state) place c request (is_own_call S (Connection c) r)
+entry_told S state place before (Sent m) g p h = sym (lone_replies-came S (lone_of S state) place (accepted S.key (lone_of S state).definition state.life (m ∷ [])))

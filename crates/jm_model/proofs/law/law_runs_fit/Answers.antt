@@ -1,5 +1,0 @@
-use Rattle.jm_machine.proofs.Reaches.{owed_fits}
-use Rattle.jm_model.proofs.law.law_runs_fit.Goals as goal
-
-pub returns : goal.returns
-returns c = owed_fits

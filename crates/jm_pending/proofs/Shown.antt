@@ -1,0 +1,32 @@
+-- What the lanes show through each call.
+use Rattle.std.proofs.Common.{◌≡◌, Bool, false, List, [], length, map, ap, ◌∙◌, refl}
+use Rattle.std.specs.List.{filter}
+use Rattle.std.proofs.lemmas.List.{map-append}
+use Rattle.std.proofs.lemmas.List.Elements.{filter-append}
+use Rattle.jm_pending.specs.Lists.{sorted}
+use Rattle.jm_pending.specs.declared.row.Row.{Row}
+use Rattle.jm_pending.specs.Rows.{back, IsRising}
+use Rattle.jm_pending.specs.Lanes.{EachBecomes, Lane, all_rows, is_lower, rows_of}
+use Rattle.jm_pending.proofs.Edited.{all_rows_each}
+use Rattle.jm_pending.proofs.Places.{sorted-filter, sorted-map}
+use Rattle.jm_pending.proofs.Pushing.{length_sorted}
+use Rattle.jm_pending.proofs.Rolling.{filter_none}
+use Rattle.jm_pending.proofs.Steps.{back_place}
+
+-- as many rows are shown as stand in the lanes
+pub length_shown : (xs : List Lane) → length (rows_of xs) ≡ length (all_rows xs)
+length_shown xs = length_sorted (all_rows xs)
+
+-- rows that do not pass go
+pub filter_shown : (p : Row → Bool) (xs ys : List Lane) → IsRising (rows_of xs) → EachBecomes (filter p) xs ys → rows_of ys ≡ filter p (rows_of xs)
+filter_shown p xs ys rising e =
+    ap (sorted is_lower) (all_rows_each (filter p) refl (filter-append p) xs ys e) ∙ sorted-filter p (all_rows xs) rising
+
+-- rows that pass wait again
+pub back_shown : (passes : Row → Bool) (xs ys : List Lane) → EachBecomes (map (back passes)) xs ys → rows_of ys ≡ map (back passes) (rows_of xs)
+back_shown passes xs ys e =
+    ap (sorted is_lower) (all_rows_each (map (back passes)) refl (map-append (back passes)) xs ys e) ∙ sorted-map (back passes) (back_place passes) (all_rows xs)
+
+-- where no row passes, none is left
+pub none_left : (xs ys : List Lane) → EachBecomes (filter (λ r. false)) xs ys → all_rows ys ≡ []
+none_left xs ys e = all_rows_each (filter (λ r. false)) refl (filter-append (λ r. false)) xs ys e ∙ filter_none (all_rows xs)

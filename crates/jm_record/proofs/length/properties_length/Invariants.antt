@@ -1,7 +1,0 @@
-use Rattle.std.proofs.Common.{◌≡◌, ◌+◌, ◌-◌, ◌^◌, min, length, take}
-use Rattle.std.specs.List.{concat, flat_map}
-use Rattle.jm_record.specs.Format as format
-use Rattle.jm_record.proofs.length.properties_length.Given as goal
-
-abbrev pub invariant-loop-index : goal.invariant-loop-index
-invariant-loop-index l = l.total ≡ min (8 + length (concat (flat_map format.property_fields (take l.index l.properties)))) (2 ^ 64 - 1)

@@ -1,0 +1,15 @@
+use Rattle.std.proofs.Common.{◌<◌, length, arith}
+use Rattle.std.proofs.lemmas.List.Edits.{length-remove}
+use Rattle.jm_stations.proofs.Indexes.{distinct_keys}
+use Rattle.jm_stations.proofs.stations.Stations.remove.Goals as goal
+
+pub invariant_of-self : goal.invariant_of-self
+invariant_of-self c =
+    let keys = c.self.inside.keys.keys in
+    let list = c.self.inside.backlogs.list in
+    let i = c.args.index in
+    let inside : i < length list = rw (← c.self.view_is) at c.requires in
+    let within : i < length keys = omega (arith, c.self.invariant.0, inside) in (
+      rw (c.shift_remove_index.ensures.keys, c.remove.ensures.removed) (omega (arith, length-remove keys i within, length-remove list i inside, c.self.invariant.0)),
+      distinct_keys c.shift_remove_index.new.self.keys c.shift_remove_index.ensures.unique,
+    )

@@ -1,0 +1,75 @@
+//! Copies of keys and of what is held under them.
+
+ghost use Rattle.std.specs.Prelude.{◌≡◌, ◌<◌, map, option_map, IfSome, IfOk};
+ghost use Rattle.std.specs.List.{IsDistinct};
+ghost use Rattle.jm_dest.specs.Keys.{key_eq};
+ghost use Rattle.jm_pending.specs.Holders.{Covers, holders_of};
+ghost use Rattle.jm_pending.specs.Placed as placed;
+ghost use Rattle.jm_stations.specs.Kept as kept;
+
+use indexmap::IndexSet;
+use jm_dest::Key;
+use jm_machine::{PlacedRow, Row as MachineRow};
+use jm_pending::{Held, Row, Table};
+use std::alloc::{AllocError, Global};
+
+/// The row with a copy of its message.
+fn placed_row(table: &Table, row: Option<Row>) -> Result<Option<PlacedRow>, AllocError>
+    requires { IfSome row (λ r. 0 < holders_of table.now r.place) }
+    ensures { IfOk result (λ copy. copy ≡ option_map (placed.placed table.now) row) }
+{
+    let Some(row) = row else {
+        return Ok(None);
+    };
+    match table.get(row.place) {
+        None => Ok(None),
+        Some(message) => Ok(Some(PlacedRow {
+            place: row.place,
+            row: MachineRow {
+                message: message.copy()?,
+                count: row.count,
+            },
+        })),
+    }
+}
+
+/// The rows of a list, by place, each with a copy of its message.
+pub(crate) fn placed_rows(
+    alloc: Global,
+    table: &Table,
+    held: &Held,
+) -> Result<Vec<PlacedRow>, AllocError>
+    requires { Covers table.now held.now.rows }
+    ensures { IfOk result (λ rows. rows.items ≡ placed.all_placed table.now held.now.rows) }
+{
+    let mut rows = Vec::with_capacity(alloc, held.len())?;
+    let mut place = 0;
+    while let Some(row) = placed_row(table, held.row_from(place))? {
+        place = row.place + 1;
+        rows.push(row)?;
+    }
+    Ok(rows)
+}
+
+/// Lists with the same rows, and no room.
+pub(crate) fn copy_lists(alloc: Global, lists: &[Held]) -> Result<Vec<Held>, AllocError>
+    ensures { IfOk result (λ copies. copies.items ≡ map kept.without_room lists.now) }
+{
+    let mut copies = Vec::with_capacity(alloc, lists.len())?;
+    for held in lists {
+        copies.push(held.copy()?)?;
+    }
+    Ok(copies)
+}
+
+/// The same keys, in their order.
+pub(crate) fn copy_keys(alloc: Global, keys: &[Key]) -> Result<IndexSet<Key>, AllocError>
+    requires { IsDistinct key_eq keys.now }
+    ensures { IfOk result (λ copies. copies.keys ≡ keys.now) }
+{
+    let mut copies = IndexSet::with_capacity(alloc, keys.len())?;
+    for key in keys {
+        copies.insert(key.copy()?)?;
+    }
+    Ok(copies)
+}

@@ -1,0 +1,236 @@
+//! What is held under each key.
+
+ghost use Rattle.std.specs.Prelude.{◌≡◌, ◌≤◌, ◌<◌, ◌+◌, ◌++◌, [], ◌∷◌, true, nat_eq, is_some, All, length, map, slice_index_or, Some, None, IfSome, IfOk, OnOk, OnErr};
+ghost use Rattle.std.specs.List.{IsDistinct, remove};
+ghost use Rattle.jm_dest.specs.Keys.{key_eq};
+ghost use Rattle.jm_machine.specs.Machine.{places_end};
+ghost use Rattle.jm_stations.specs.Backlogs as spec;
+ghost use Rattle.jm_stations.specs.Backlogs.{Backlog};
+ghost use Rattle.jm_stations.specs.Stations.{index_in};
+
+use crate::backlogs::Backlogs;
+use crate::copies;
+use indexmap::IndexSet;
+use jm_dest::{Key, Moment};
+use jm_header::Message;
+use jm_machine::{Answer, PlacedRow};
+use std::alloc::{AllocError, Global};
+use std::marker::Model;
+
+/// What is held under each key, in order of creation, each found by its key (ours): rows by place, with the
+/// messages that they hold, of which each stands once. Contracts see the keys, what is held under each, the place
+/// of the next publication, and for how many more messages and keys there is room.
+#[derive(Drop)]
+pub struct Stations {
+    alloc: Global,
+    keys: IndexSet<Key>,
+    backlogs: Backlogs,
+}
+
+impl Model for Stations {
+    ghost use Rattle.std.specs.Prelude.{◌≡◌, min, length};
+    ghost use Rattle.std.specs.List.{IsDistinct};
+    ghost use Rattle.indexmap.specs.IndexSet.{spare};
+    ghost use Rattle.jm_dest.specs.Keys.{key_eq};
+    ghost use Rattle.jm_stations.specs.Stations.{Stations as StationsShown};
+
+    ghost Value = { StationsShown };
+
+    ghost view = { λ s. record {
+      keys = s.keys.keys;
+      list = s.backlogs.list;
+      next_place = s.backlogs.next_place;
+      message_room = s.backlogs.message_room;
+      key_room = min (spare s.keys) s.backlogs.list_room;
+    } };
+
+    ghost invariant = { λ s. (length s.keys.keys ≡ length s.backlogs.list) × IsDistinct key_eq s.keys.keys };
+}
+
+impl Stations {
+    /// Nothing is held under any key, and the first publication will be at place 1. Takes no memory.
+    pub fn new(alloc: Global) -> Stations
+        ensures keys { result.keys ≡ [] }
+        ensures list { result.list ≡ [] }
+        ensures next_place { result.next_place ≡ 1 }
+    {
+        Stations {
+            alloc,
+            keys: IndexSet::new(alloc),
+            backlogs: Backlogs::new(alloc),
+        }
+    }
+
+    /// How many keys there are. Each stands once, and something, if no row, is held under each.
+    pub fn len(&self) -> usize
+        ensures keys { result ≡ length self.now.keys }
+        ensures list { result ≡ length self.now.list }
+        ensures once { IsDistinct key_eq self.now.keys }
+    {
+        self.backlogs.len()
+    }
+
+    /// The place of the next publication, from 1.
+    pub fn next_place(&self) -> u64
+        ensures place { result ≡ self.now.next_place }
+        ensures bound { self.now.next_place ≤ places_end }
+    {
+        self.backlogs.next_place()
+    }
+
+    /// How many messages are held, each counted once, however many rows hold it.
+    pub fn kept(&self) -> usize
+        ensures { spec.IsNumberOfMessages result self.now.list }
+    {
+        self.backlogs.kept()
+    }
+
+    /// The same keys, in their order, with the same rows under each, and the same next place; there may be other
+    /// room. `AllocError` where a request for memory was refused.
+    pub fn copy(&self) -> Result<Stations, AllocError>
+        ensures { IfOk result (λ copy. copy ≡ record self.now {
+          list = map spec.without_room self.now.list;
+          message_room = copy.message_room;
+          key_room = copy.key_room;
+        }) }
+    {
+        Ok(Stations {
+            alloc: self.alloc,
+            keys: copies::copy_keys(self.alloc, self.keys.as_slice())?,
+            backlogs: self.backlogs.copy()?,
+        })
+    }
+
+    /// The rows under the key with that index, by place, each with a copy of its message. `AllocError` where a
+    /// request for memory was refused.
+    pub fn rows_of(&self, index: usize) -> Result<Vec<PlacedRow>, AllocError>
+        requires { index < length self.now.list }
+        ensures { (d : Backlog) → IfOk result (λ rows. rows.items ≡ (slice_index_or self.now.list index d).rows) }
+    {
+        self.backlogs.rows_of(index)
+    }
+
+    /// Where the key stands, in order of creation. It is found by its hash.
+    pub fn index_of(&self, key: &Key) -> Option<usize>
+        ensures index { result ≡ index_in self.now.keys key.now }
+        ensures within { IfSome result (λ i. i < length self.now.list) }
+    {
+        self.keys.get_index_of(key)
+    }
+
+    /// Where each of those keys stands, in their order. `AllocError` where a request for memory was refused.
+    pub fn indexes_of(&self, keys: &[Key]) -> Result<Vec<usize>, AllocError>
+        requires there { All (λ k. is_some (index_in self.now.keys k) ≡ true) keys.now }
+        ensures indexes { IfOk result (λ is. map Some is.items ≡ map (index_in self.now.keys) keys.now) }
+        ensures within { IfOk result (λ is. All (λ i. i < length self.now.list) is.items) }
+        ensures once { IsDistinct key_eq keys.now → IfOk result (λ is. IsDistinct nat_eq is.items) }
+    {
+        let mut indexes = Vec::with_capacity(self.alloc, keys.len())?;
+        for key in keys {
+            if let Some(index) = self.index_of(key) {
+                indexes.push(index)?;
+            }
+        }
+        Ok(indexes)
+    }
+
+    /// Makes room for one more key. `AllocError` where a request for memory was refused. Either way all but the
+    /// room is as before.
+    pub fn reserve_key(&mut self) -> Result<(), AllocError>
+        ensures same { self.new ≡ record self.old { key_room = self.new.key_room } }
+        ensures room { self.old.key_room ≤ self.new.key_room }
+        ensures ok { OnOk result (0 < self.new.key_room) }
+    {
+        self.keys.reserve(1)?;
+        self.backlogs.reserve_list()
+    }
+
+    /// Adds a key behind all others, under which nothing is held, of which there may be at most so many rows, or
+    /// any number. Takes no memory, since room was reserved.
+    pub fn create(&mut self, key: Key, limit: Option<u32>)
+        requires room { 0 < self.old.key_room }
+        requires absent { index_in self.old.keys key ≡ None }
+        ensures created { self.new ≡ record self.old {
+          keys = self.old.keys ++ key ∷ [];
+          list = self.old.list ++ spec.empty limit ∷ [];
+          key_room = self.new.key_room;
+        } }
+        ensures room { self.old.key_room ≤ self.new.key_room + 1 }
+    {
+        let _ = self.keys.insert(key);
+        self.backlogs.create(limit);
+    }
+
+    /// The key with that index goes with the rows under it, and each message that no other row holds with them; the
+    /// keys behind it move up by one. Takes no memory.
+    pub fn remove(&mut self, index: usize)
+        requires { index < length self.old.list }
+        ensures removed { self.new ≡ record self.old {
+          keys = remove self.old.keys index;
+          list = remove self.old.list index;
+          message_room = self.new.message_room;
+          key_room = self.new.key_room;
+        } }
+        ensures message_room { self.old.message_room ≤ self.new.message_room }
+        ensures key_room { self.old.key_room ≤ self.new.key_room }
+    {
+        let _ = self.keys.shift_remove_index(index);
+        self.backlogs.remove(index);
+    }
+
+    /// Makes room for that many more messages, and for as many more rows under each key with one of those indexes.
+    /// `AllocError` where a request for memory was refused. Either way all but the room is as before.
+    pub fn reserve(&mut self, indexes: &[usize], additional: usize) -> Result<(), AllocError>
+        requires within { All (λ i. i < length self.old.list) indexes.now }
+        ensures keys { self.new.keys ≡ self.old.keys }
+        ensures list { spec.HasMoreRoom self.old.list self.new.list }
+        ensures next_place { self.new.next_place ≡ self.old.next_place }
+        ensures room { self.old.message_room ≤ self.new.message_room }
+        ensures rows { OnOk result (All (λ i. (d : Backlog) → additional ≤ (slice_index_or self.new.list i d).room) indexes.now) }
+        ensures messages { OnOk result (additional ≤ self.new.message_room) }
+    {
+        self.backlogs.reserve(indexes, additional)
+    }
+
+    /// Publishes a message: it takes the next place, and comes to what is held under each key with one of those
+    /// indexes; at its limit it is missed there instead. Takes no memory, since room was reserved.
+    pub fn publish(&mut self, message: Message, indexes: &[usize])
+        requires places { self.old.next_place < places_end }
+        requires messages { 0 < self.old.message_room }
+        requires within { All (λ i. i < length self.old.list) indexes.now }
+        requires once { IsDistinct nat_eq indexes.now }
+        requires rows { All (λ i. (d : Backlog) → 0 < (slice_index_or self.old.list i d).room) indexes.now }
+        ensures keys { self.new.keys ≡ self.old.keys }
+        ensures list { spec.IsPublished indexes.now self.old.next_place message self.old.list self.new.list }
+        ensures next_place { self.new.next_place ≡ self.old.next_place + 1 }
+        ensures room { self.old.message_room ≤ self.new.message_room + 1 }
+    {
+        self.backlogs.publish(message, indexes);
+    }
+
+    /// The copy that a delivery from the rows under the key with that index wants at that moment: of the next row's
+    /// message, where another row holds it too. `AllocError` where a request for memory was refused, which comes only
+    /// where a copy is wanted.
+    pub fn copy_for(&self, index: usize, now: Moment) -> Result<Option<Message>, AllocError>
+        requires within { index < length self.now.list }
+        ensures copy { (d : Backlog) → IfOk result (λ copy. copy ≡ spec.copy_wanted now self.now.list (slice_index_or self.now.list index d).rows) }
+        ensures err { (d : Backlog) → OnErr result (is_some (spec.copy_wanted now self.now.list (slice_index_or self.now.list index d).rows) ≡ true) }
+    {
+        self.backlogs.copy_for(index, now)
+    }
+
+    /// Drops the rows under the key with that index that are expired at that moment, and delivers the next one,
+    /// which is settled. Its message is moved out where no other row holds it, and else the copy stands for it.
+    /// Takes no memory.
+    pub fn receive(&mut self, index: usize, now: Moment, copy: Option<Message>) -> Answer
+        requires within { index < length self.old.list }
+        requires copy { (d : Backlog) → copy ≡ spec.copy_wanted now self.old.list (slice_index_or self.old.list index d).rows }
+        ensures answer { (d : Backlog) → result ≡ spec.answered now (slice_index_or self.old.list index d).rows }
+        ensures keys { self.new.keys ≡ self.old.keys }
+        ensures list { self.new.list ≡ spec.changed_at index (spec.received now) self.old.list }
+        ensures next_place { self.new.next_place ≡ self.old.next_place }
+        ensures room { self.old.message_room ≤ self.new.message_room }
+    {
+        self.backlogs.receive(index, now, copy)
+    }
+}

@@ -1,0 +1,12 @@
+//! Tests of the rows of `jm_pending` and `jm_stations`, over tables of publications and deliveries: that calls find memory,
+//! and that what the clauses say was meant.
+#![tactic(auto)]
+
+#[cfg(test)]
+mod keys;
+#[cfg(test)]
+mod messages;
+#[cfg(test)]
+mod steps;
+#[cfg(test)]
+mod tables;
