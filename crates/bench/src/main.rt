@@ -5,13 +5,14 @@
 mod provider;
 mod work;
 
+use provider::Provider;
 use std::alloc::Global;
 use std::env::Env;
 use std::process::ExitCode;
 use std::rt::Clock;
 use std::time::Instant;
 use std::{env, io};
-use work::{Load, filled, kind_named, work};
+use work::{Load, fill, kind_named, work};
 
 /// The load that the words ask for.
 fn load_of(words: &[String]) -> Option<Load> {
@@ -27,12 +28,17 @@ fn load_of(words: &[String]) -> Option<Load> {
 }
 
 /// Prints what was received, and with `timed` how long a round took.
-fn run(rt: &(impl Clock + Print), alloc: Global, load: Load, is_timed: bool) -> io::Result<()> {
-    let Ok(mut provider) = filled(alloc, load) else {
+fn run_on(
+    rt: &(impl Clock + Print),
+    provider: &mut Provider,
+    load: Load,
+    is_timed: bool,
+) -> io::Result<()> {
+    if fill(provider, load).is_err() {
         return println!(rt; "refused");
-    };
+    }
     let start = Instant::now(rt)?;
-    if work(&mut provider, load).is_err() {
+    if work(provider, load).is_err() {
         return println!(rt; "refused");
     }
     let sum = provider.sum();
@@ -42,6 +48,14 @@ fn run(rt: &(impl Clock + Print), alloc: Global, load: Load, is_timed: bool) -> 
         println!(rt; "{nanoseconds} ns")?;
     }
     Ok(())
+}
+
+/// The same on a new provider.
+fn run(rt: &(impl Clock + Print), alloc: Global, load: Load, is_timed: bool) -> io::Result<()> {
+    match Provider::new(alloc) {
+        Ok(mut provider) => run_on(rt, &mut provider, load, is_timed),
+        Err(_) => println!(rt; "refused"),
+    }
 }
 
 fn main(rt: HostRuntime) -> io::Result<ExitCode> {

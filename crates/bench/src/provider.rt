@@ -34,27 +34,37 @@ fn topic_name(alloc: Global, topic: u32) -> Result<String, Refusal> {
 }
 
 impl Provider {
-    /// Both connections are open and started, both sessions are open.
+    /// No connection is open yet.
     pub(crate) fn new(alloc: Global) -> Result<Provider, Refusal> {
-        let first = ConnectionId::new(1)?;
-        let second = ConnectionId::new(2)?;
-        let mut provider = Provider {
+        let receiver = SessionId::new(ConnectionId::new(1)?, 1)?;
+        let publisher = SessionId::new(ConnectionId::new(2)?, 1)?;
+        let core = Core::new(alloc, 1)?;
+        Ok(Provider {
             alloc,
-            core: Core::new(alloc, 1)?,
-            receiver: SessionId::new(first, 1)?,
-            publisher: SessionId::new(second, 1)?,
+            core,
+            receiver,
+            publisher,
             sent: 0,
             sum: 0,
-        };
-        for connection in [first, second] {
-            provider.ask(Who::Connection(connection), Request::Open)?;
-            provider.ask(Who::Connection(connection), Request::Start)?;
-        }
-        for session in [provider.receiver, provider.publisher] {
-            let request = Request::CreateSession { mode: Mode::Auto };
-            provider.ask(Who::Session(session), request)?;
-        }
-        Ok(provider)
+        })
+    }
+
+    /// Opens and starts the session's connection, and opens the session.
+    fn open_session(&mut self, session: SessionId) -> Result<(), Refusal> {
+        let connection = session.connection;
+        self.ask(Who::Connection(connection), Request::Open)?;
+        self.ask(Who::Connection(connection), Request::Start)?;
+        let request = Request::CreateSession { mode: Mode::Auto };
+        self.ask(Who::Session(session), request)?;
+        Ok(())
+    }
+
+    /// Opens and starts both connections, and opens both sessions.
+    pub(crate) fn open(&mut self) -> Result<(), Refusal> {
+        let receiver = self.receiver;
+        let publisher = self.publisher;
+        self.open_session(receiver)?;
+        self.open_session(publisher)
     }
 
     fn ask(&mut self, who: Who, request: Request) -> Result<Answer, Refusal> {

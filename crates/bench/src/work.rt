@@ -2,7 +2,6 @@
 
 use crate::provider::{Parcel, Provider};
 use jm_base::Refusal;
-use std::alloc::Global;
 
 /// What is done in each round.
 #[derive(Clone, Copy, PartialEq, Eq)]
@@ -64,9 +63,9 @@ fn parcel(load: Load, round: u32) -> Parcel {
     }
 }
 
-/// A provider with the subscribers of the load, and the rows that are held before it.
-pub(crate) fn filled(alloc: Global, load: Load) -> Result<Provider, Refusal> {
-    let mut provider = Provider::new(alloc)?;
+/// Opens the provider, and makes the subscribers of the load and the rows that are held before it.
+pub(crate) fn fill(provider: &mut Provider, load: Load) -> Result<(), Refusal> {
+    provider.open()?;
     for number in 0..load.subscribers.min(1_000_000) {
         let topic = match load.kind {
             Kind::Topics => number,
@@ -81,7 +80,7 @@ pub(crate) fn filled(alloc: Global, load: Load) -> Result<Provider, Refusal> {
         };
         provider.send(held)?;
     }
-    Ok(provider)
+    Ok(())
 }
 
 /// Who receives in a round: the first and the last of the consumers.
