@@ -10,9 +10,13 @@ use Rattle.jm_pending.specs.declared.row.State.TheVariants.{Waiting, Out}
 use Rattle.jm_pending.specs.declared.row.Outs.{Outs}
 use Rattle.jm_pending.specs.declared.row.Outs.TheVariants.{To, Through}
 
--- the row of a message that comes, at its place: it waits, and was never delivered
+-- the row of a message that was delivered so often, at its place: it waits
+abbrev pub waiting : ℕ → Content → ℕ → Row
+waiting place m count = record { place = place; count = count; state = Waiting; priority = m.priority; expiration = m.expiration }
+
+-- the row of a message that comes, at its place: it was never delivered
 abbrev pub fresh : ℕ → Content → Row
-fresh place m = record { place = place; count = 0; state = Waiting; priority = m.priority; expiration = m.expiration }
+fresh place m = waiting place m 0
 
 -- a state of waiting
 abbrev pub waits : State → Bool

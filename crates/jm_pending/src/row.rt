@@ -65,9 +65,17 @@ impl Row {
         ensures row { result ≡ spec.fresh place message.now }
         ensures priority { result.priority < 10 }
     {
+        Row::with_count(place, message, 0)
+    }
+
+    /// The row of a message that was delivered so often, at its place. It waits.
+    pub fn with_count(place: u64, message: &Message, count: u32) -> Row
+        ensures row { result ≡ spec.waiting place message.now count }
+        ensures priority { result.priority < 10 }
+    {
         Row {
             place,
-            count: 0,
+            count,
             state: State::Waiting,
             priority: message.priority(),
             expiration: message.expiration(),

@@ -53,6 +53,10 @@ offered_more is row init lists i d h l new =
     get_or_any (x ∷ xs) zero a b q = refl
     get_or_any (x ∷ xs) (suc j) a b q = get_or_any xs j a b (omega arith)
 
+-- one index alone is named
+pub named_one : (i k : ℕ) → is_named (i ∷ []) k ≡ (i == k)
+named_one i k = named_more [] i k
+
 -- an index is not among those before it, where all are distinct
 none_named : (i : ℕ) (is : List ℕ) (n d : ℕ) → AllByRecursion (λ y. nat_eq i y ≡ false) is → n < length is → (i == get_or is n d) ≡ false
 none_named i [] n d h l = absurd (omega arith)

@@ -4,14 +4,15 @@ use Rattle.std.specs.List.{filter, All}
 use Rattle.std.proofs.lemmas.List.{map-append, length-map}
 use Rattle.std.proofs.lemmas.List.Elements.{All-nil, All-cons, All-head, All-tail, All-filter, All-weaker, All-push}
 use Rattle.jm_header.specs.declared.content.Content.{Content}
+use Rattle.jm_machine.specs.declared.state.Row.{Row as MachineRow}
 use Rattle.jm_machine.specs.declared.state.PlacedRow.{PlacedRow}
 use Rattle.jm_pending.specs.declared.row.Row.{Row}
-use Rattle.jm_pending.specs.Rows.{Held, IsRising, is_waiting, is_at_limit, fresh, stays, next}
+use Rattle.jm_pending.specs.Rows.{Held, IsRising, is_waiting, is_at_limit, waiting, stays, next}
 use Rattle.jm_pending.specs.Holders.{Messages, KeepsMessages, Covers, message_of}
 use Rattle.jm_pending.specs.Placed.{placed, all_placed, message_or_none, IsRowOf}
 use Rattle.jm_pending.specs.Counts.{IsCounted}
 use Rattle.jm_pending.proofs.Counting.{placed_same, rows_same}
-use Rattle.jm_stations.specs.Backlogs.{Backlog, is_named, added, changed_at, received}
+use Rattle.jm_stations.specs.Backlogs.{Backlog, is_named, joined, changed_at, received}
 use Rattle.jm_stations.specs.Kept.{all_rows, shown, all_shown, with_row, settled, is_left, AreBelow, IsBacklog, IsOffered}
 use Rattle.jm_stations.proofs.Holders.{covers_one}
 use Rattle.jm_stations.proofs.Delivery.{IsPlain, plain_rows, settled_same}
@@ -67,7 +68,7 @@ changed_backlogs t place now k [] b = All-nil (IsBacklog t place)
 changed_backlogs t place now zero (h ∷ lists) b = All-cons (IsBacklog t place) (settled now h) lists (settled_backlog t place now h (All-head (IsBacklog t place) h lists b)) (All-tail (IsBacklog t place) h lists b)
 changed_backlogs t place now (suc k) (h ∷ lists) b = All-cons (IsBacklog t place) h (changed_at k (settled now) lists) (All-head (IsBacklog t place) h lists b) (changed_backlogs t place now k lists (All-tail (IsBacklog t place) h lists b))
 
-pub changed_is_set : (k : ℕ) (f : Held → Held) (d : Held) (lists : List Held) → k < length lists → set lists k (f (get_or lists k d)) ≡ changed_at k f lists
+pub changed_is_set : {X : Type 0} (k : ℕ) (f : X → X) (d : X) (lists : List X) → k < length lists → set lists k (f (get_or lists k d)) ≡ changed_at k f lists
 changed_is_set k f d [] l = absurd (omega arith)
 changed_is_set zero f d (h ∷ lists) l = refl
 changed_is_set (suc k) f d (h ∷ lists) l = ap (λ xs. h ∷ xs) (changed_is_set k f d lists (omega arith))
@@ -98,54 +99,54 @@ pub put_backlog : (old new : Messages) (place : ℕ) (h : Held) → ((p : ℕ) �
 put_backlog old new place h same b = record { below = later place h.rows b.below; waiting = b.waiting; own = record { each = rows_below old new place h.rows same b.below b.own.each } }
 
 -- a row that comes, of what stands for its message
-abbrev pub fresh_at : ℕ → Option Content → PlacedRow
-fresh_at place o = record { place = place; row = record { message = message_or_none o; count = 0 } }
+abbrev pub row_at : ℕ → ℕ → Option Content → PlacedRow
+row_at place count o = record { place = place; row = record { message = message_or_none o; count = count } }
 
-fresh_row : (t : Messages) (place : ℕ) (m : Content) → message_of t place ≡ Some m → placed t (fresh place m) ≡ fresh_at place (Some m)
-fresh_row t place m is = ap (fresh_at place) is
+row_shown : (t : Messages) (place : ℕ) (x : MachineRow) → message_of t place ≡ Some x.message → placed t (waiting place x.message x.count) ≡ row_at place x.count (Some x.message)
+row_shown t place x is = ap (row_at place x.count) is
 
 length_placed : (t : Messages) (rows : List Row) → length (all_placed t rows) ≡ length rows
 length_placed t rows = length-map rows (placed t)
 
 -- a list that takes the message
-pub with_row_shown : (t : Messages) (place : ℕ) (m : Content) (h : Held) → message_of t place ≡ Some m → shown t (with_row (fresh place m) h) ≡ added place m (shown t h)
-with_row_shown t place m h is = go (is_at_limit h.limit (length h.rows)) refl
+pub with_row_shown : (t : Messages) (place : ℕ) (x : MachineRow) (h : Held) → message_of t place ≡ Some x.message → shown t (with_row (waiting place x.message x.count) h) ≡ joined place x (shown t h)
+with_row_shown t place x h is = go (is_at_limit h.limit (length h.rows)) refl
   where
-    go : (b : Bool) → is_at_limit h.limit (length h.rows) ≡ b → shown t (with_row (fresh place m) h) ≡ added place m (shown t h)
+    go : (b : Bool) → is_at_limit h.limit (length h.rows) ≡ b → shown t (with_row (waiting place x.message x.count) h) ≡ joined place x (shown t h)
     go true e = rw (length_placed t h.rows, e) refl
-    go false e = rw (length_placed t h.rows, e, map-append (placed t) h.rows (fresh place m ∷ []), fresh_row t place m is) refl
+    go false e = rw (length_placed t h.rows, e, map-append (placed t) h.rows (waiting place x.message x.count ∷ []), row_shown t place x is) refl
 
-pub with_row_backlog : (t : Messages) (place : ℕ) (m : Content) (h : Held) → message_of t place ≡ Some m → IsBacklog t (place + 1) h → IsBacklog t (place + 1) (with_row (fresh place m) h)
-with_row_backlog t place m h is b = go (is_at_limit h.limit (length h.rows)) refl
+pub with_row_backlog : (t : Messages) (place : ℕ) (x : MachineRow) (h : Held) → message_of t place ≡ Some x.message → IsBacklog t (place + 1) h → IsBacklog t (place + 1) (with_row (waiting place x.message x.count) h)
+with_row_backlog t place x h is b = go (is_at_limit h.limit (length h.rows)) refl
   where
-    own : IsRowOf t (fresh place m)
+    own : IsRowOf t (waiting place x.message x.count)
     own = record { priority = rw is refl; expiration = rw is refl }
 
-    go : (c : Bool) → is_at_limit h.limit (length h.rows) ≡ c → IsBacklog t (place + 1) (with_row (fresh place m) h)
+    go : (c : Bool) → is_at_limit h.limit (length h.rows) ≡ c → IsBacklog t (place + 1) (with_row (waiting place x.message x.count) h)
     go true e = rw e (record { below = b.below; waiting = b.waiting; own = b.own })
     go false e = rw e (record {
-      below = All-push (λ (r : Row). r.place < place + 1) h.rows (fresh place m) b.below (omega arith);
-      waiting = All-push (λ (r : Row). is_waiting r ≡ true) h.rows (fresh place m) b.waiting refl;
-      own = record { each = All-push (IsRowOf t) h.rows (fresh place m) b.own.each own };
+      below = All-push (λ (r : Row). r.place < place + 1) h.rows (waiting place x.message x.count) b.below (omega arith);
+      waiting = All-push (λ (r : Row). is_waiting r ≡ true) h.rows (waiting place x.message x.count) b.waiting refl;
+      own = record { each = All-push (IsRowOf t) h.rows (waiting place x.message x.count) b.own.each own };
     })
 
 -- all lists, once the message is put and offered
-pub offered_backlogs : (old new : Messages) (place : ℕ) (m : Content) (indexes : List ℕ) (lists after : List Held) → ((p : ℕ) → p ≢ place → message_of new p ≡ message_of old p) → message_of new place ≡ Some m → IsOffered indexes (fresh place m) lists after → All (IsBacklog old place) lists → All (IsBacklog new (place + 1)) after
-offered_backlogs old new place m indexes lists after same is o b = λ k d l.
+pub offered_backlogs : (old new : Messages) (place : ℕ) (x : MachineRow) (indexes : List ℕ) (lists after : List Held) → ((p : ℕ) → p ≢ place → message_of new p ≡ message_of old p) → message_of new place ≡ Some x.message → IsOffered indexes (waiting place x.message x.count) lists after → All (IsBacklog old place) lists → All (IsBacklog new (place + 1)) after
+offered_backlogs old new place x indexes lists after same is o b = λ k d l.
     let inside : k < length lists = omega (arith, o.number, l) in
     let here = put_backlog old new place (get_or lists k d) same (b k d inside) in
     rw (o.each k d inside) (go (is_named indexes k) k d here)
   where
-    go : (c : Bool) (k : ℕ) (d : Held) → IsBacklog new (place + 1) (get_or lists k d) → IsBacklog new (place + 1) (cond c (with_row (fresh place m) (get_or lists k d)) (get_or lists k d))
-    go true k d here = with_row_backlog new place m (get_or lists k d) is here
+    go : (c : Bool) (k : ℕ) (d : Held) → IsBacklog new (place + 1) (get_or lists k d) → IsBacklog new (place + 1) (cond c (with_row (waiting place x.message x.count) (get_or lists k d)) (get_or lists k d))
+    go true k d here = with_row_backlog new place x (get_or lists k d) is here
     go false k d here = here
 
-pub offered_shown : (old new : Messages) (place : ℕ) (m : Content) (indexes : List ℕ) (lists after : List Held) (k : ℕ) (d : Held) → k < length lists → ((p : ℕ) → p ≢ place → message_of new p ≡ message_of old p) → message_of new place ≡ Some m → IsOffered indexes (fresh place m) lists after → All (IsBacklog old place) lists
-    → shown new (get_or after k d) ≡ cond (is_named indexes k) (added place m (shown old (get_or lists k d))) (shown old (get_or lists k d))
-offered_shown old new place m indexes lists after k d inside same is o b =
+pub offered_shown : (old new : Messages) (place : ℕ) (x : MachineRow) (indexes : List ℕ) (lists after : List Held) (k : ℕ) (d : Held) → k < length lists → ((p : ℕ) → p ≢ place → message_of new p ≡ message_of old p) → message_of new place ≡ Some x.message → IsOffered indexes (waiting place x.message x.count) lists after → All (IsBacklog old place) lists
+    → shown new (get_or after k d) ≡ cond (is_named indexes k) (joined place x (shown old (get_or lists k d))) (shown old (get_or lists k d))
+offered_shown old new place x indexes lists after k d inside same is o b =
     let put = put_shown old new place (get_or lists k d) same (b k d inside) in
     rw (o.each k d inside) (go (is_named indexes k) put)
   where
-    go : (c : Bool) → shown new (get_or lists k d) ≡ shown old (get_or lists k d) → shown new (cond c (with_row (fresh place m) (get_or lists k d)) (get_or lists k d)) ≡ cond c (added place m (shown old (get_or lists k d))) (shown old (get_or lists k d))
-    go true put = with_row_shown new place m (get_or lists k d) is ∙ ap (added place m) put
+    go : (c : Bool) → shown new (get_or lists k d) ≡ shown old (get_or lists k d) → shown new (cond c (with_row (waiting place x.message x.count) (get_or lists k d)) (get_or lists k d)) ≡ cond c (joined place x (shown old (get_or lists k d))) (shown old (get_or lists k d))
+    go true put = with_row_shown new place x (get_or lists k d) is ∙ ap (joined place x) put
     go false put = put

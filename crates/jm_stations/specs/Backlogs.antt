@@ -4,6 +4,7 @@ use Rattle.std.specs.List.{list_any, IsDistinct}
 use Rattle.std.specs.Option.{option_or}
 use Rattle.jm_base.specs.declared.mode.Mode.TheVariants.{Auto}
 use Rattle.jm_header.specs.declared.content.Content.{Content}
+use Rattle.jm_machine.specs.declared.state.Row.{Row}
 use Rattle.jm_machine.specs.declared.state.PlacedRow.{PlacedRow}
 use Rattle.jm_machine.specs.declared.answer.Answer.{Answer}
 use Rattle.jm_machine.specs.declared.answer.Answer.TheVariants.{Delivered, Nothing}
@@ -46,17 +47,25 @@ changed_at (suc i) f (x ∷ xs) = x ∷ changed_at i f xs
 abbrev pub is_named : List ℕ → ℕ → Bool
 is_named indexes k = list_any (λ i. i == k) indexes
 
--- a message comes, at its place; at the limit it is missed
-abbrev pub added : ℕ → Content → Backlog → Backlog
-added place m b =
+-- a row comes, at its place; at the limit it is missed
+abbrev pub joined : ℕ → Row → Backlog → Backlog
+joined place row b =
     if is_at_limit b.limit (length b.rows)
     then record b { missed = min (b.missed + 1) (2 ^ 64 - 1) }
-    else record b { rows = b.rows ++ record { place = place; row = fresh m } ∷ []; room = b.room - 1 }
+    else record b { rows = b.rows ++ record { place = place; row = row } ∷ []; room = b.room - 1 }
+
+-- the row of a message that comes, which was never delivered
+abbrev pub added : ℕ → Content → Backlog → Backlog
+added place m b = joined place (fresh m) b
+
+-- each that is named has one row more, and each other is as before
+pub record HasCome (indexes : List ℕ) (place : ℕ) (row : Row) (old new : List Backlog) : Type 0 where
+  pub number : length new ≡ length old
+  pub each : (k : ℕ) (d : Backlog) → k < length old → slice_index_or new k d ≡ (if is_named indexes k then joined place row (slice_index_or old k d) else slice_index_or old k d)
 
 -- each that is named has one message more, and each other is as before
-pub record IsPublished (indexes : List ℕ) (place : ℕ) (m : Content) (old new : List Backlog) : Type 0 where
-  pub number : length new ≡ length old
-  pub each : (k : ℕ) (d : Backlog) → k < length old → slice_index_or new k d ≡ (if is_named indexes k then added place m (slice_index_or old k d) else slice_index_or old k d)
+abbrev pub IsPublished : List ℕ → ℕ → Content → List Backlog → List Backlog → Type 0
+IsPublished indexes place m old new = HasCome indexes place (fresh m) old new
 
 -- expired rows go, and the next one is delivered and settled
 abbrev pub received : ℕ → Backlog → Backlog

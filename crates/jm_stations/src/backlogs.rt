@@ -10,7 +10,7 @@ ghost use Rattle.jm_stations.specs.Kept as kept;
 use crate::{copies, lists};
 use jm_dest::Moment;
 use jm_header::Message;
-use jm_machine::{Answer, Delivery, PlacedRow};
+use jm_machine::{Answer, Delivery, PlacedRow, Row as MachineRow};
 use jm_pending::{Held, Row, Table, Taken};
 use std::alloc::{AllocError, Global};
 use std::marker::Model;
@@ -209,8 +209,47 @@ impl Backlogs {
         ensures next_place { self.new.next_place ≡ self.old.next_place + 1 }
         ensures room { self.old.message_room ≤ self.new.message_room + 1 }
     {
+        self.bring(message, 0, indexes);
+    }
+
+    /// A row of a message that was delivered so often takes the next place, and comes to the list with that index; at
+    /// its limit the list misses it instead. Takes no memory, since room was reserved.
+    pub fn load(&mut self, index: usize, row: MachineRow)
+        requires places { self.old.next_place < places_end }
+        requires messages { 0 < self.old.message_room }
+        requires within { index < length self.old.list }
+        requires rows { (d : Backlog) → 0 < (slice_index_or self.old.list index d).room }
+        ensures list { self.new.list ≡ spec.changed_at index (spec.joined self.old.next_place row) self.old.list }
+        ensures next_place { self.new.next_place ≡ self.old.next_place + 1 }
+        ensures room { self.old.message_room ≤ self.new.message_room + 1 }
+    {
+        let MachineRow { message, count } = row;
+        self.bring(message, count, &[index]);
+    }
+
+    /// The next publication will be at that place. Takes no memory.
+    pub fn skip_to(&mut self, place: u64)
+        requires from { self.old.next_place ≤ place }
+        requires places { place ≤ places_end }
+        ensures { self.new ≡ record self.old { next_place = place } }
+    {
+        self.next_place = place;
+    }
+
+    /// A message that was delivered so often takes the next place, and a row of it comes to each list with one of those
+    /// indexes; at its limit a list misses it instead.
+    fn bring(&mut self, message: Message, count: u32, indexes: &[usize])
+        requires places { self.old.next_place < places_end }
+        requires messages { 0 < self.old.message_room }
+        requires within { All (λ i. i < length self.old.list) indexes.now }
+        requires once { IsDistinct nat_eq indexes.now }
+        requires rows { All (λ i. (d : Backlog) → 0 < (slice_index_or self.old.list i d).room) indexes.now }
+        ensures list { spec.HasCome indexes.now self.old.next_place (record { message = message; count = count }) self.old.list self.new.list }
+        ensures next_place { self.new.next_place ≡ self.old.next_place + 1 }
+        ensures room { self.old.message_room ≤ self.new.message_room + 1 }
+    {
         let place = self.next_place;
-        let row = Row::new(place, &message);
+        let row = Row::with_count(place, &message, count);
         self.table.put(place, message);
         lists::offer_each(&mut self.lists, &mut self.table, &row, indexes);
         let _ = self.table.release(place);

@@ -13,7 +13,7 @@ use crate::copies;
 use indexmap::IndexSet;
 use jm_dest::{Key, Moment};
 use jm_header::Message;
-use jm_machine::{Answer, PlacedRow};
+use jm_machine::{Answer, PlacedRow, Row};
 use std::alloc::{AllocError, Global};
 use std::marker::Model;
 
@@ -206,6 +206,32 @@ impl Stations {
         ensures room { self.old.message_room ≤ self.new.message_room + 1 }
     {
         self.backlogs.publish(message, indexes);
+    }
+
+    /// A row that was held elsewhere, with the count of its deliveries, takes the next place, and comes to what is held
+    /// under the key with that index; at its limit it is missed there instead. Takes no memory, since room was
+    /// reserved.
+    pub fn load(&mut self, index: usize, row: Row)
+        requires places { self.old.next_place < places_end }
+        requires messages { 0 < self.old.message_room }
+        requires within { index < length self.old.list }
+        requires rows { (d : Backlog) → 0 < (slice_index_or self.old.list index d).room }
+        ensures keys { self.new.keys ≡ self.old.keys }
+        ensures list { self.new.list ≡ spec.changed_at index (spec.joined self.old.next_place row) self.old.list }
+        ensures next_place { self.new.next_place ≡ self.old.next_place + 1 }
+        ensures room { self.old.message_room ≤ self.new.message_room + 1 }
+    {
+        self.backlogs.load(index, row);
+    }
+
+    /// The next publication, or the next row that is loaded, will be at that place, which is not below the one that it
+    /// would have had. Takes no memory.
+    pub fn skip_to(&mut self, place: u64)
+        requires from { self.old.next_place ≤ place }
+        requires places { place ≤ places_end }
+        ensures { self.new ≡ record self.old { next_place = place } }
+    {
+        self.backlogs.skip_to(place);
     }
 
     /// The copy that a delivery from the rows under the key with that index wants at that moment: of the next row's

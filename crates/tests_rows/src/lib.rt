@@ -5,6 +5,8 @@
 #[cfg(test)]
 mod keys;
 #[cfg(test)]
+mod loaded;
+#[cfg(test)]
 mod messages;
 #[cfg(test)]
 mod steps;
