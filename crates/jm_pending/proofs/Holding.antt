@@ -10,7 +10,7 @@ use Rattle.std.proofs.lemmas.List.Sums.{sum_by-cons, sum_by-append, get_or-le-su
 use Rattle.jm_dest.specs.declared.session.SessionId.{SessionId}
 use Rattle.jm_pending.specs.declared.row.Row.{Row}
 use Rattle.jm_pending.specs.Lists.{sorted, put}
-use Rattle.jm_pending.specs.Rows.{IsRising, is_waiting, is_elsewhere, sent, sent_at}
+use Rattle.jm_pending.specs.Rows.{IsRising, is_elsewhere, sent, sent_at}
 use Rattle.jm_pending.specs.Lanes.{Lane, all_rows, rows_of, is_lower, EachBecomes, IsApart}
 use Rattle.jm_pending.specs.Holders.{Messages, holders_of, last_message, rows_at, Follows, Covers, KeepsMessages, GainsHolder, LosesHolder}
 use Rattle.jm_pending.proofs.Rising.{filter_elsewhere}
@@ -112,14 +112,14 @@ covers_all t xs c = covers_same t (rows_of xs) (all_rows xs) (λ p. sym (shown_c
 pub follows_all : (origin t : Messages) (xs ys : List Lane) → Follows origin t (all_rows xs) (all_rows ys) → Follows origin t (rows_of xs) (rows_of ys)
 follows_all origin t xs ys f = follows_shown origin t xs ys (rows_of xs) (rows_of ys) (λ p. shown_count p xs) (λ p. shown_count p ys) f
 
-taken_count : (s : SessionId) (c : ℕ) (ys zs : List Lane) (res o : Option Row) → MatchOption o ((res ≡ None) × (zs ≡ ys)) (λ r. (res ≡ Some (sent s c r)) × EachBecomes (map (sent_at r.place s c)) ys zs) → (p : ℕ) → rows_at p (all_rows zs) ≡ rows_at p (all_rows ys)
-taken_count s c ys zs res None m p = ap (λ ls. rows_at p (all_rows ls)) m.1
+taken_count : (s : SessionId) (c : ℕ) (ys zs : List Lane) (res o : Option Row) → MatchOption o ((res ≡ None) × EachBecomes (λ rs. rs) ys zs) (λ r. (res ≡ Some (sent s c r)) × EachBecomes (map (sent_at r.place s c)) ys zs) → (p : ℕ) → rows_at p (all_rows zs) ≡ rows_at p (all_rows ys)
+taken_count s c ys zs res None m p = ap (rows_at p) (all_rows_each (λ rs. rs) refl (λ us vs. refl) ys zs m.1)
 taken_count s c ys zs res (Some r) m p =
     ap (rows_at p) (all_rows_each (map (sent_at r.place s c)) refl (map-append (sent_at r.place s c)) ys zs m.1) ∙ map_count (sent_at r.place s c) (sent_at_place r.place s c) p (all_rows ys)
 
-pub follows_taken : (origin t : Messages) (s : SessionId) (c : ℕ) (xs ys zs : List Lane) (res : Option Row) → MatchOption (find is_waiting (all_rows ys)) ((res ≡ None) × (zs ≡ ys)) (λ r. (res ≡ Some (sent s c r)) × EachBecomes (map (sent_at r.place s c)) ys zs) → Follows origin t (all_rows xs) (all_rows ys) → Follows origin t (rows_of xs) (rows_of zs)
-follows_taken origin t s c xs ys zs res m f =
-    follows_shown origin t xs ys (rows_of xs) (rows_of zs) (λ p. shown_count p xs) (λ p. shown_count p zs ∙ taken_count s c ys zs res (find is_waiting (all_rows ys)) m p) f
+pub follows_taken : (origin t : Messages) (s : SessionId) (c : ℕ) (xs ys zs : List Lane) (res o : Option Row) → MatchOption o ((res ≡ None) × EachBecomes (λ rs. rs) ys zs) (λ r. (res ≡ Some (sent s c r)) × EachBecomes (map (sent_at r.place s c)) ys zs) → Follows origin t (all_rows xs) (all_rows ys) → Follows origin t (rows_of xs) (rows_of zs)
+follows_taken origin t s c xs ys zs res o m f =
+    follows_shown origin t xs ys (rows_of xs) (rows_of zs) (λ p. shown_count p xs) (λ p. shown_count p zs ∙ taken_count s c ys zs res o m p) f
 
 pub follows_held : (origin t : Messages) (xs : List Row) (row : Row) → GainsHolder origin t row.place → KeepsMessages origin t → Follows origin t xs (xs ++ row ∷ [])
 follows_held origin t xs row h k =
@@ -156,19 +156,19 @@ apart_once p (x ∷ xs) h = go (x.place == p) refl (apart_once p xs h.1)
         let zero : cond {A = ℕ} (x.place == p) 1 0 ≡ 0 = rw e refl in
         omega (arith, zero, row_first p x xs, rest)
 
--- the first that waits goes: its place has one row less
-pub elsewhere_count : (p : ℕ) (xs : List Row) (r : Row) → IsApart xs → find is_waiting xs ≡ Some r → rows_at p (filter (is_elsewhere r.place) xs) + cond {A = ℕ} (p == r.place) 1 0 ≡ rows_at p xs
-elsewhere_count p [] r h f = absurd (cc)
-elsewhere_count p (x ∷ xs) r h f = go (is_waiting x) (elsewhere_count p xs r h.1) (find_has (λ (y : Row). y.place ≢ x.place) is_waiting xs h.0) f
+-- a row that is found goes: its place has one row less
+pub elsewhere_count : (q : Row → Bool) (p : ℕ) (xs : List Row) (r : Row) → IsApart xs → find q xs ≡ Some r → rows_at p (filter (is_elsewhere r.place) xs) + cond {A = ℕ} (p == r.place) 1 0 ≡ rows_at p xs
+elsewhere_count q p [] r h f = absurd (cc)
+elsewhere_count q p (x ∷ xs) r h f = go (q x) (elsewhere_count q p xs r h.1) (find_has (λ (y : Row). y.place ≢ x.place) q xs h.0) f
   where
-    go : (b : Bool) → (find is_waiting xs ≡ Some r → rows_at p (filter (is_elsewhere r.place) xs) + cond {A = ℕ} (p == r.place) 1 0 ≡ rows_at p xs) → IfSome (find is_waiting xs) (λ (y : Row). y.place ≢ x.place) → cond b (Some x) (find is_waiting xs) ≡ Some r → rows_at p (filter (is_elsewhere r.place) (x ∷ xs)) + cond {A = ℕ} (p == r.place) 1 0 ≡ rows_at p (x ∷ xs)
+    go : (b : Bool) → (find q xs ≡ Some r → rows_at p (filter (is_elsewhere r.place) xs) + cond {A = ℕ} (p == r.place) 1 0 ≡ rows_at p xs) → IfSome (find q xs) (λ (y : Row). y.place ≢ x.place) → cond b (Some x) (find q xs) ≡ Some r → rows_at p (filter (is_elsewhere r.place) (x ∷ xs)) + cond {A = ℕ} (p == r.place) 1 0 ≡ rows_at p (x ∷ xs)
     go true rec other e =
         let is : x ≡ r = cc in
         let kept : filter (is_elsewhere x.place) (x ∷ xs) ≡ xs = rw (eq-eqb x.place x.place refl) (filter_elsewhere x.place xs h.0) in
-        subst (λ (q : Row). rows_at p (filter (is_elsewhere q.place) (x ∷ xs)) + cond {A = ℕ} (p == q.place) 1 0 ≡ rows_at p (x ∷ xs)) is (omega (arith, row_first p x xs, same_test p x.place, ap (rows_at p) kept))
+        subst (λ (s : Row). rows_at p (filter (is_elsewhere s.place) (x ∷ xs)) + cond {A = ℕ} (p == s.place) 1 0 ≡ rows_at p (x ∷ xs)) is (omega (arith, row_first p x xs, same_test p x.place, ap (rows_at p) kept))
     go false rec other e =
         let ne : r.place ≢ x.place = subst (λ o. IfSome o (λ (y : Row). y.place ≢ x.place)) e other in
-        rw (ne_eqb x.place r.place (λ q. ne (sym q))) (omega (arith, rec e, row_first p x (filter (is_elsewhere r.place) xs), row_first p x xs))
+        rw (ne_eqb x.place r.place (λ s. ne (sym s))) (omega (arith, rec e, row_first p x (filter (is_elsewhere r.place) xs), row_first p x xs))
 
 -- what is covered stays so while the holders follow
 pub covers_after : (old new : Messages) (before after : List Row) → Covers old before → Follows old new before after → Covers new after
@@ -181,23 +181,23 @@ follows_then origin second third us vs ws fewer f g = record {
   messages = record { same = λ p h. g.messages.same p h ∙ f.messages.same p (omega (arith, h, g.holders p, fewer p)); room = omega (arith, g.messages.room, f.messages.room) };
 }
 
--- the first that waits lets its message go
-pub first_settled : (t t' : Messages) (ys : List Row) (r : Row) → IsApart ys → find is_waiting ys ≡ Some r → LosesHolder t t' r.place → KeepsMessages t t' → Follows t t' ys (filter (is_elsewhere r.place) ys)
-first_settled t t' ys r apart found lost kept =
-    record { holders = λ p. omega (arith, elsewhere_count p ys r apart found, lost.holders p); messages = kept }
+-- a row that is found lets its message go
+pub first_settled : (q : Row → Bool) (t t' : Messages) (ys : List Row) (r : Row) → IsApart ys → find q ys ≡ Some r → LosesHolder t t' r.place → KeepsMessages t t' → Follows t t' ys (filter (is_elsewhere r.place) ys)
+first_settled q t t' ys r apart found lost kept =
+    record { holders = λ p. omega (arith, elsewhere_count q p ys r apart found, lost.holders p); messages = kept }
 
 -- its place has a holder
-pub first_holder : (t : Messages) (ys : List Row) (r : Row) → IsApart ys → find is_waiting ys ≡ Some r → Covers t ys → 0 < holders_of t r.place
-first_holder t ys r apart found c =
+pub first_holder : (q : Row → Bool) (t : Messages) (ys : List Row) (r : Row) → IsApart ys → find q ys ≡ Some r → Covers t ys → 0 < holders_of t r.place
+first_holder q t ys r apart found c =
     let one : cond {A = ℕ} (r.place == r.place) 1 0 ≡ 1 = rw (eq-eqb r.place r.place refl) refl in
-    omega (arith, one, elsewhere_count r.place ys r apart found, c.held r.place)
+    omega (arith, one, elsewhere_count q r.place ys r apart found, c.held r.place)
 
 -- and what was dropped before changes neither its holders nor its message
-pub first_message : (origin second : Messages) (xs : List Row) (p : Row → Bool) (r : Row) → IsApart xs → IsApart (filter p xs) → find is_waiting (filter p xs) ≡ Some r → Covers origin xs → Follows origin second xs (filter p xs) → last_message second r.place ≡ last_message origin r.place
-first_message origin second xs p r apart apart' found c f =
-    let there : 0 < holders_of second r.place = first_holder second (filter p xs) r apart' found (covers_after origin second xs (filter p xs) c f) in
+pub first_message : (q : Row → Bool) (origin second : Messages) (xs : List Row) (p : Row → Bool) (r : Row) → IsApart xs → IsApart (filter p xs) → find q (filter p xs) ≡ Some r → Covers origin xs → Follows origin second xs (filter p xs) → last_message second r.place ≡ last_message origin r.place
+first_message q origin second xs p r apart apart' found c f =
+    let there : 0 < holders_of second r.place = first_holder q second (filter p xs) r apart' found (covers_after origin second xs (filter p xs) c f) in
     let one : cond {A = ℕ} (r.place == r.place) 1 0 ≡ 1 = rw (eq-eqb r.place r.place refl) refl in
-    let same : holders_of second r.place ≡ holders_of origin r.place = omega (arith, one, f.holders r.place, apart_once r.place xs apart, filter_count p r.place xs, elsewhere_count r.place (filter p xs) r apart' found) in
+    let same : holders_of second r.place ≡ holders_of origin r.place = omega (arith, one, f.holders r.place, apart_once r.place xs apart, filter_count p r.place xs, elsewhere_count q r.place (filter p xs) r apart' found) in
     rw (same, f.messages.same r.place there) refl
 
 -- rows that rise have no two of one place

@@ -12,6 +12,7 @@ mod Pushing
 mod Letting
 pub mod Holding
 mod Ranks
+mod Soonest
 mod Shown
 mod Standing
 pub mod Counting

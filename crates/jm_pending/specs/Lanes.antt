@@ -1,5 +1,5 @@
--- How rows stand in lanes: one lane for each priority, from 9 down, each by place.
-use Rattle.std.specs.Prelude.{◌≡◌, ◌≢◌, ℕ, ◌+◌, ◌++◌, ◌≤◌, ◌<◌, ◌==◌, nat_lt, nat_le, Bool, true, false, not, ◌&&◌, ◌||◌, List, [], ◌∷◌, All, find, IsSome, take, drop, length, slice_index_or}
+-- How rows stand in lanes: three for each priority, from 9 down, each by place.
+use Rattle.std.specs.Prelude.{◌≡◌, ◌≢◌, ℕ, ◌+◌, ◌*◌, ◌++◌, ◌≤◌, ◌<◌, ◌==◌, nat_lt, nat_le, Bool, true, false, not, ◌&&◌, ◌||◌, List, [], ◌∷◌, All, Contains, find, Option, Some, None, MatchOption, if◌then◌else◌, IsSome, take, drop, length, slice_index_or}
 use Rattle.std.specs.List.{flat_map}
 use Rattle.jm_pending.specs.Lists.{sorted}
 use Rattle.jm_dest.specs.Numbers.{long_end}
@@ -64,23 +64,41 @@ rows_of lanes = sorted is_lower (all_rows lanes)
 abbrev pub is_sooner : Row → Row → Bool
 is_sooner a b = nat_lt b.priority a.priority || (a.priority == b.priority && nat_lt a.place b.place)
 
--- each row goes before those that follow
-abbrev pub IsInOrder : List Row → Type 0
-IsInOrder [] = Unit {0}
-IsInOrder (x ∷ xs) = All (λ y. is_sooner x y ≡ true) xs × IsInOrder xs
+-- the one of two rows that goes before the other, where one is there
+abbrev pub sooner : Option Row → Option Row → Option Row
+sooner None b = b
+sooner (Some x) None = Some x
+sooner (Some x) (Some y) = if is_sooner y x then Some y else Some x
+
+-- the row passes, is one of those, and none that passes goes before it
+pub record IsSoonest (passes : Row → Bool) (rows : List Row) (r : Row) : Type 0 where
+  pub pass : passes r ≡ true
+  pub there : Contains rows r
+  pub first : All (λ y. passes y ≡ true → is_sooner y r ≡ false) rows
+
+-- the same of a row that may be absent, where none passes
+abbrev pub IsSoonestOf : (Row → Bool) → List Row → Option Row → Type 0
+IsSoonestOf passes rows o = MatchOption o (All (λ y. passes y ≡ false) rows) (IsSoonest passes rows)
+
+-- the first row that waits in the lane at an index, and none past all lanes
+abbrev pub waiting_in : List Lane → ℕ → Option Row
+waiting_in lanes k = find is_waiting (slice_index_or lanes k (record { priority = 0; rows = []; spare = 0 })).rows
+
+-- the lane at that index is one of the priority's three
+pub record IsLaneOf (k priority : ℕ) : Type 0 where
+  pub from : 27 ≤ 3 * priority + k
+  pub to : 3 * priority + k < 30
 
 -- no two rows of one place
 abbrev pub IsApart : List Row → Type 0
 IsApart [] = Unit {0}
 IsApart (x ∷ xs) = All (λ (y : Row). y.place ≢ x.place) xs × IsApart xs
 
--- ten lanes, from the highest priority on, each row in its own, no two rows of one place, places below 2^63, and room
--- for `room` more rows whatever their priority
+-- three lanes for each priority, from the highest on, no two rows of one place, places below 2^63, and room for `room`
+-- more rows in each
 pub record IsHeld (lanes : List Lane) (room : ℕ) : Type 0 where
-  pub ten : length lanes ≡ 10
-  pub priorities : (k : ℕ) (d : Lane) → k < length lanes → (slice_index_or lanes k d).priority + k ≡ 9
-  pub same : All (λ (l : Lane). All (λ (r : Row). r.priority ≡ l.priority) l.rows) lanes
-  pub ordered : IsInOrder (all_rows lanes)
+  pub number : length lanes ≡ 30
+  pub priorities : (k : ℕ) (d : Lane) → k < length lanes → IsLaneOf k (slice_index_or lanes k d).priority
   pub rising : IsRising (rows_of lanes)
   pub bounded : All (λ (r : Row). r.place < long_end) (all_rows lanes)
   pub spare : All (λ (l : Lane). room ≤ l.spare) lanes

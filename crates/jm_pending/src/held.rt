@@ -26,7 +26,7 @@ pub struct Taken {
 /// their number, how many publications were missed at the limit, and for how many more rows there is room.
 #[derive(Drop)]
 pub struct Held {
-    lanes: [Lane; 10],
+    lanes: [Lane; 30],
     limit: Option<u32>,
     missed: u64,
     room: usize,
@@ -51,14 +51,34 @@ impl Held {
         Held {
             lanes: [
                 Lane::new(alloc, 9),
+                Lane::new(alloc, 9),
+                Lane::new(alloc, 9),
+                Lane::new(alloc, 8),
+                Lane::new(alloc, 8),
                 Lane::new(alloc, 8),
                 Lane::new(alloc, 7),
+                Lane::new(alloc, 7),
+                Lane::new(alloc, 7),
+                Lane::new(alloc, 6),
+                Lane::new(alloc, 6),
                 Lane::new(alloc, 6),
                 Lane::new(alloc, 5),
+                Lane::new(alloc, 5),
+                Lane::new(alloc, 5),
+                Lane::new(alloc, 4),
+                Lane::new(alloc, 4),
                 Lane::new(alloc, 4),
                 Lane::new(alloc, 3),
+                Lane::new(alloc, 3),
+                Lane::new(alloc, 3),
+                Lane::new(alloc, 2),
+                Lane::new(alloc, 2),
                 Lane::new(alloc, 2),
                 Lane::new(alloc, 1),
+                Lane::new(alloc, 1),
+                Lane::new(alloc, 1),
+                Lane::new(alloc, 0),
+                Lane::new(alloc, 0),
                 Lane::new(alloc, 0),
             ],
             limit,
@@ -163,7 +183,7 @@ impl Held {
 
     /// The row that a delivery at that moment would take: of those that wait and are not expired the
     /// one of highest priority, then of least place.
-    #[tactic(auto, using(crate::proofs::Order::next_in_order))]
+    #[tactic(auto, using(crate::proofs::Soonest::next_soonest))]
     pub fn next(&self, now: Moment) -> Option<Row>
         ensures next { result ≡ spec.next now self.now.rows }
         ensures rising { spec.IsRising self.now.rows }

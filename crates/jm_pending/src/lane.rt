@@ -5,7 +5,7 @@ ghost use Rattle.jm_pending.specs.declared.row.Row.{Row};
 ghost use Rattle.jm_pending.specs.Rows.{IsRising, back, is_among, is_elsewhere, is_ready, is_waiting, keeps, sent_at, stays};
 ghost use Rattle.jm_pending.specs.Rows as spec;
 ghost use Rattle.jm_dest.specs.Numbers.{long_end};
-ghost use Rattle.jm_pending.specs.Lanes.{IsCopied, IsPlaceFrom, is_at, is_below};
+ghost use Rattle.jm_pending.specs.Lanes.{IsCopied, IsPlaceFrom, IsSoonestOf, is_at, is_below};
 ghost use Rattle.jm_pending.specs.Holders.{Covers, Follows};
 
 use crate::row::{Outs, Row};
@@ -141,9 +141,15 @@ impl Lane {
         self.rows.push_back_reserved(Row { ..row });
     }
 
+    /// Whether its rows still expire in turn with that one more.
+    pub(crate) fn takes(&self, row: &Row) -> bool {
+        walks::is_steady_with(&self.rows, row, self.steady)
+    }
+
     /// The first row that waits.
     pub(crate) fn waiting(&self) -> Option<Row>
-        ensures { result ≡ find is_waiting self.now.rows }
+        ensures found { result ≡ find is_waiting self.now.rows }
+        ensures soonest { IsSoonestOf is_waiting self.now.rows result }
     {
         let at = walks::first_waiting(&self.rows, self.low);
         self.get(at)
@@ -151,7 +157,7 @@ impl Lane {
 
     /// The first row that is ready.
     pub(crate) fn next(&self, now: Moment) -> Option<Row>
-        ensures { result ≡ find (is_ready now) self.now.rows }
+        ensures { IsSoonestOf (is_ready now) self.now.rows result }
     {
         let at = walks::first_ready(&self.rows, self.low, now);
         self.get(at)

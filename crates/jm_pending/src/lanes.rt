@@ -1,11 +1,13 @@
-//! The lanes of one subscription, from the highest priority on.
+//! The lanes of one subscription, three for each priority, from the highest on. Which of the three a row stands in is
+//! free: rows that expire in turn stand together, so that a delivery drops those of them that are expired from the front.
 
-ghost use Rattle.std.specs.Prelude.{◌≡◌, ℕ, ◌+◌, ◌-◌, ◌^◌, ◌<◌, ◌≤◌, [], length, All, find, filter, map, take, true, false, None, Some, OnOk, IsSome, MatchOption, slice_get, slice_index_or, slice_set};
+ghost use Rattle.std.specs.Prelude.{◌≡◌, ℕ, ◌+◌, ◌-◌, ◌^◌, ◌<◌, ◌≤◌, [], length, All, find, filter, map, take, true, false, None, Some, Option, OnOk, MatchOption, slice_get, slice_index_or, slice_set};
 ghost use Rattle.jm_dest.specs.Numbers.{long_end};
 ghost use Rattle.jm_pending.specs.declared.row.Row.{Row};
 ghost use Rattle.jm_pending.specs.Rows.{IsRising, back, is_among, is_elsewhere, is_ready, is_waiting, keeps, sent_at, stays};
 ghost use Rattle.jm_pending.specs.Rows as spec;
-ghost use Rattle.jm_pending.specs.Lanes.{EachBecomes, IsApart, IsPlaceFrom, IsPushed, Lane, all_rows, is_at, is_below, rows_of};
+ghost use Rattle.jm_pending.specs.Lanes.{EachBecomes, IsApart, IsLaneOf, IsPlaceFrom, IsPushed, IsSoonestOf, Lane, all_rows, is_at, is_below, rows_of};
+ghost use Rattle.jm_pending.specs.Lanes as by_lane;
 ghost use Rattle.jm_pending.specs.Holders.{Covers, Follows};
 
 use crate::lane::Lane;
@@ -118,33 +120,64 @@ pub(crate) fn reserve(lanes: &mut [Lane], additional: usize) -> Result<(), Alloc
     Ok(())
 }
 
-/// Adds a row to the lane of its priority.
+/// Which lane of its priority a row goes to: the first whose rows still expire in turn with it, or the last.
+fn lane_for(lanes: &[Lane], row: &Row) -> usize
+    requires number { length lanes.now ≡ 30 }
+    requires priority { row.now.priority < 10 }
+    ensures { IsLaneOf result row.now.priority }
+{
+    let first = (9 - row.priority as usize) * 3;
+    if lanes[first].takes(row) {
+        return first;
+    }
+    if lanes[first + 1].takes(row) {
+        return first + 1;
+    }
+    first + 2
+}
+
+/// Adds a row to a lane of its priority.
 pub(crate) fn push(lanes: &mut [Lane], row: Row)
-    requires ten { length lanes.old ≡ 10 }
+    requires number { length lanes.old ≡ 30 }
     requires priority { row.priority < 10 }
-    requires priorities { (k : ℕ) (d : Lane) → k < length lanes.old → (slice_index_or lanes.old k d).priority + k ≡ 9 }
+    requires priorities { (k : ℕ) (d : Lane) → k < length lanes.old → IsLaneOf k (slice_index_or lanes.old k d).priority }
     requires room { All (λ l. 0 < l.spare) lanes.old }
     requires waiting { is_waiting row ≡ true }
     requires above { All (λ (r : Row). r.place < row.place) (all_rows lanes.old) }
-    ensures { (after : Lane) × (lanes.new ≡ slice_set lanes.old (9 - row.priority) after) ×
-        IsPushed row (slice_index_or lanes.old (9 - row.priority) after) after }
+    ensures { (at : ℕ) × (after : Lane) × (at < length lanes.old) × (lanes.new ≡ slice_set lanes.old at after) ×
+        IsPushed row (slice_index_or lanes.old at after) after }
 {
-    let at = 9 - row.priority as usize;
+    let at = lane_for(lanes, &row);
     let lane = &mut lanes[at];
     lane.push(row);
 }
 
-/// The first row that is ready.
-pub(crate) fn next(lanes: &[Lane], now: Moment) -> Option<Row>
-    ensures { result ≡ find (is_ready now) (all_rows lanes.now) }
+/// The one of two rows that goes before the other, where one is there.
+fn sooner(one: Option<Row>, other: Option<Row>) -> Option<Row>
+    ensures { result ≡ by_lane.sooner one other }
 {
-    for lane in lanes.iter() {
-        let found = lane.next(now);
-        if found.is_some() {
-            return found;
-        }
+    let Some(first) = one else {
+        return other;
+    };
+    let Some(second) = other else {
+        return Some(first);
+    };
+    if second.is_sooner(&first) {
+        Some(second)
+    } else {
+        Some(first)
     }
-    None
+}
+
+/// The row that goes first of those that are ready.
+pub(crate) fn next(lanes: &[Lane], now: Moment) -> Option<Row>
+    ensures { IsSoonestOf (is_ready now) (all_rows lanes.now) result }
+{
+    let mut best = None;
+    for lane in lanes.iter() {
+        best = sooner(best, lane.next(now));
+    }
+    best
 }
 
 /// Drops the waiting rows that are expired.
@@ -158,29 +191,56 @@ pub(crate) fn drop_expired(lanes: &mut [Lane], table: &mut Table, now: Moment)
     }
 }
 
-/// The first lane with a row that waits.
-fn first_lane(lanes: &[Lane]) -> usize
-    ensures within { result ≤ length lanes.now }
-    ensures before { find is_waiting (all_rows (take result lanes.now)) ≡ None }
-    ensures found { (d : Lane) → result < length lanes.now → IsSome (find is_waiting (slice_index_or lanes.now result d).rows) }
+/// The first row that waits in the lane at that index, and none past all lanes.
+fn waiting_in(lanes: &[Lane], index: usize) -> Option<Row>
+    ensures found { result ≡ by_lane.waiting_in lanes.now index }
+    ensures soonest { (d : Lane) → index < length lanes.now → IsSoonestOf is_waiting (slice_index_or lanes.now index d).rows result }
 {
-    for (i, lane) in lanes.iter().enumerate() {
-        if lane.waiting().is_some() {
-            return i;
-        }
+    if index < lanes.len() {
+        lanes[index].waiting()
+    } else {
+        None
     }
-    lanes.len()
 }
 
-/// Sends the first row that waits.
+/// The index of the one of two lanes whose first waiting row goes before that of the other, where one is there.
+fn sooner_lane(lanes: &[Lane], one: usize, other: usize) -> usize
+    requires one { one ≤ length lanes.now }
+    requires other { other < length lanes.now }
+    ensures within { result ≤ length lanes.now }
+    ensures row { by_lane.waiting_in lanes.now result ≡ by_lane.sooner (by_lane.waiting_in lanes.now one) (by_lane.waiting_in lanes.now other) }
+    ensures other { (d : Lane) → IsSoonestOf is_waiting (slice_index_or lanes.now other d).rows (by_lane.waiting_in lanes.now other) }
+{
+    let Some(second) = waiting_in(lanes, other) else {
+        return one;
+    };
+    let Some(first) = waiting_in(lanes, one) else {
+        return other;
+    };
+    if second.is_sooner(&first) { other } else { one }
+}
+
+/// The lane of the row that goes first of those that wait, or how many lanes there are.
+fn first_lane(lanes: &[Lane]) -> usize
+    ensures within { result ≤ length lanes.now }
+    ensures first { IsSoonestOf is_waiting (all_rows lanes.now) (by_lane.waiting_in lanes.now result) }
+{
+    let mut best = lanes.len();
+    for i in 0..lanes.len() {
+        best = sooner_lane(lanes, best, i);
+    }
+    best
+}
+
+/// Sends the row that goes first of those that wait.
 pub(crate) fn take_first(
     lanes: &mut [Lane],
     session: SessionId,
     consumer: ConsumerId,
 ) -> Option<Row>
     requires { IsApart (all_rows lanes.old) }
-    ensures { MatchOption (find is_waiting (all_rows lanes.old))
-        ((result ≡ None) × (lanes.new ≡ lanes.old))
+    ensures { (first : Option Row) × IsSoonestOf is_waiting (all_rows lanes.old) first × MatchOption first
+        ((result ≡ None) × EachBecomes (λ rows. rows) lanes.old lanes.new)
         (λ r. (result ≡ Some (spec.sent session consumer r)) ×
         EachBecomes (map (sent_at r.place session consumer)) lanes.old lanes.new) }
 {
@@ -193,11 +253,11 @@ pub(crate) fn take_first(
     }
 }
 
-/// Removes the first row that waits.
+/// Removes the row that goes first of those that wait.
 pub(crate) fn remove_first(lanes: &mut [Lane]) -> Option<Row>
     requires { IsApart (all_rows lanes.old) }
-    ensures { MatchOption (find is_waiting (all_rows lanes.old))
-        ((result ≡ None) × (lanes.new ≡ lanes.old))
+    ensures { (first : Option Row) × IsSoonestOf is_waiting (all_rows lanes.old) first × MatchOption first
+        ((result ≡ None) × EachBecomes (λ rows. rows) lanes.old lanes.new)
         (λ r. (result ≡ Some r) × EachBecomes (filter (is_elsewhere r.place)) lanes.old lanes.new) }
 {
     let at = first_lane(lanes);

@@ -153,6 +153,14 @@ impl Row {
         expiration == 0 || (first != 0 && first <= expiration)
     }
 
+    /// Whether the row goes before the other.
+    pub(crate) fn is_sooner(&self, other: &Row) -> bool
+        ensures { result ≡ by_lane.is_sooner self.now other.now }
+    {
+        other.priority < self.priority
+            || (self.priority == other.priority && self.place < other.place)
+    }
+
     /// A bound on the expiration of what has that bound, and of the row.
     pub(crate) fn earlier(&self, least: u64) -> u64
         ensures lower { result ≤ least }

@@ -1,14 +1,14 @@
-use Rattle.std.proofs.Common.{◌∙◌, ap, sym, arith, is_some}
-use Rattle.std.specs.List.{find}
+use Rattle.std.proofs.Common.{◌+◌, take, sym, subst}
 use Rattle.jm_pending.specs.Rows.{is_ready}
-use Rattle.jm_pending.specs.Lanes.{Lane}
-use Rattle.jm_pending.proofs.Found.{find_here, find_more, none_of}
+use Rattle.jm_pending.specs.Lanes.{Lane, all_rows, IsSoonestOf}
+use Rattle.jm_pending.proofs.Soonest.{soonest_more}
 use Rattle.jm_pending.proofs.lanes.next.Goals as goal
-
-pub returns-then-is_some : goal.returns-then-is_some
-returns-then-is_some c =
-    c.next-found.ensures ∙ ap (λ (x : Lane). find (is_ready c.args.now) x.rows) c.lane-item.is ∙ sym (find_here (is_ready c.args.now) c.args.lanes.now c.loop-lane.lane-index c.lane-item.result (omega arith) c.loop-lane.invariant (ap is_some (sym (c.next-found.ensures ∙ ap (λ (x : Lane). find (is_ready c.args.now) x.rows) c.lane-item.is)) ∙ sym c.is_some.ensures ∙ c.if-is_some.true))
 
 pub loop-lane-preserved : goal.loop-lane-preserved
 loop-lane-preserved c =
-    find_more (is_ready c.args.now) c.args.lanes.now c.loop-lane.lane-index c.lane-item.result (omega arith) c.loop-lane.invariant (ap (λ (x : Lane). find (is_ready c.args.now) x.rows) (sym c.lane-item.is) ∙ sym c.next-found.ensures ∙ none_of c.next-found.result (sym c.is_some.ensures ∙ c.if-is_some.false))
+    let passes = is_ready c.args.now in
+    let lanes = c.args.lanes.now in
+    let i = c.loop-lane.lane-index in
+    let lane : Lane = c.lane-item.result in
+    let here = subst (λ (x : Lane). IsSoonestOf passes x.rows c.next.result) c.lane-item.is c.next.ensures in
+    subst (IsSoonestOf passes (all_rows (take (i + 1) lanes))) (sym c.sooner-best.ensures) (soonest_more passes lanes i lane c.loop-lane.best c.next.result c.loop-lane-test.true c.loop-lane.invariant here)

@@ -1,4 +1,4 @@
-use Rattle.std.proofs.Common.{◌≡◌, ◌<◌, ◌-◌, ◌^◌, ℕ, refl, set, get_or, ◌++◌, ◌∷◌, [], List}
+use Rattle.std.proofs.Common.{length, ◌≡◌, ◌<◌, ◌-◌, ◌^◌, ℕ, refl, set, get_or, ◌++◌, ◌∷◌, [], List}
 use Rattle.std.specs.List.{All}
 use Rattle.jm_pending.specs.declared.row.Row.{Row}
 use Rattle.jm_pending.specs.Lanes.{Lane, all_rows, rows_of, IsHeld, IsPushed}
@@ -7,20 +7,20 @@ use Rattle.jm_pending.proofs.Holding.{follows_held}
 use Rattle.jm_pending.proofs.Pushing.{held_push}
 use Rattle.jm_pending.proofs.held.Held.add.Goals as goal
 
-pushed : (xs ys : List Lane) (room : ℕ) (row : Row) → IsHeld xs room → 0 < room → row.place < 2 ^ 63 → row.priority < 10 → All (λ (r : Row). r.place < row.place) (rows_of xs) → (after : Lane) × (ys ≡ set xs (9 - row.priority) after) × IsPushed row (get_or xs (9 - row.priority) after) after → IsHeld ys (room - 1) × (rows_of ys ≡ rows_of xs ++ row ∷ [])
-pushed xs ys room row h some bound ten above e = rw (e.1) (held_push xs room row e.0 h some bound ten above e.2)
+pushed : (xs ys : List Lane) (room : ℕ) (row : Row) → IsHeld xs room → 0 < room → row.place < 2 ^ 63 → All (λ (r : Row). r.place < row.place) (rows_of xs) → (at : ℕ) × (after : Lane) × (at < length xs) × (ys ≡ set xs at after) × IsPushed row (get_or xs at after) after → IsHeld ys (room - 1) × (rows_of ys ≡ rows_of xs ++ row ∷ [])
+pushed xs ys room row h some bound above e = rw (e.3) (held_push xs room e.0 row e.1 h some bound above e.2 e.4)
 
 pub push-requires-clause-above : goal.push-requires-clause-above
 push-requires-clause-above c = all_unsorted (λ (r : Row). r.place < c.args.row.place) (all_rows c.self.inside.lanes) (rw (← c.self.view_is) at c.requires.above)
 
 pub invariant_of-self-2 : goal.invariant_of-self-2
 invariant_of-self-2 c =
-    (pushed c.self.inside.lanes c.push.new.lanes c.self.inside.room c.args.row c.self.invariant (rw (← c.self.view_is) at c.requires.room) c.requires.place c.requires.priority (rw (← c.self.view_is) at c.requires.above) c.push.ensures).0
+    (pushed c.self.inside.lanes c.push.new.lanes c.self.inside.room c.args.row c.self.invariant (rw (← c.self.view_is) at c.requires.room) c.requires.place (rw (← c.self.view_is) at c.requires.above) c.push.ensures).0
 
 pub returns-clause-added : goal.returns-clause-added
 returns-clause-added c = λ no.
-    rw (← c.self.view_is, (pushed c.self.inside.lanes c.push.new.lanes c.self.inside.room c.args.row c.self.invariant (rw (← c.self.view_is) at c.requires.room) c.requires.place c.requires.priority (rw (← c.self.view_is) at c.requires.above) c.push.ensures).1) refl
+    rw (← c.self.view_is, (pushed c.self.inside.lanes c.push.new.lanes c.self.inside.room c.args.row c.self.invariant (rw (← c.self.view_is) at c.requires.room) c.requires.place (rw (← c.self.view_is) at c.requires.above) c.push.ensures).1) refl
 
 pub returns-clause-table : goal.returns-clause-table
 returns-clause-table c =
-    rw (← c.self.view_is, (pushed c.self.inside.lanes c.push.new.lanes c.self.inside.room c.args.row c.self.invariant (rw (← c.self.view_is) at c.requires.room) c.requires.place c.requires.priority (rw (← c.self.view_is) at c.requires.above) c.push.ensures).1) (follows_held c.args.table.now c.hold.new.self (rows_of c.self.inside.lanes) c.args.row c.hold.ensures.holders c.hold.ensures.messages)
+    rw (← c.self.view_is, (pushed c.self.inside.lanes c.push.new.lanes c.self.inside.room c.args.row c.self.invariant (rw (← c.self.view_is) at c.requires.room) c.requires.place (rw (← c.self.view_is) at c.requires.above) c.push.ensures).1) (follows_held c.args.table.now c.hold.new.self (rows_of c.self.inside.lanes) c.args.row c.hold.ensures.holders c.hold.ensures.messages)

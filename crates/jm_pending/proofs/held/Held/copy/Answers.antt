@@ -5,9 +5,9 @@ use Rattle.jm_pending.proofs.held.Held.copy.Goals as goal
 pub invariant_of-result : goal.invariant_of-result
 invariant_of-result c =
     let each = c.in_ok-clone.ensures.cases in
-    (held_copied c.self.inside.lanes c.in_ok-clone.field-0 c.self.inside.room c.self.invariant (each.long ∙ sym c.self.invariant.ten) (λ k d l. each.at k d d (omega (arith, l, c.self.invariant.ten)))).0
+    (held_copied c.self.inside.lanes c.in_ok-clone.field-0 c.self.inside.room c.self.invariant (each.long ∙ sym c.self.invariant.number) (λ k d l. each.at k d d (omega (arith, l, c.self.invariant.number)))).0
 
 pub returns : goal.returns
 returns c =
     let each = c.in_ok-clone.ensures.cases in
-    rw (← c.self.view_is, (held_copied c.self.inside.lanes c.in_ok-clone.field-0 c.self.inside.room c.self.invariant (each.long ∙ sym c.self.invariant.ten) (λ k d l. each.at k d d (omega (arith, l, c.self.invariant.ten)))).1) refl
+    rw (← c.self.view_is, (held_copied c.self.inside.lanes c.in_ok-clone.field-0 c.self.inside.room c.self.invariant (each.long ∙ sym c.self.invariant.number) (λ k d l. each.at k d d (omega (arith, l, c.self.invariant.number)))).1) refl

@@ -1,31 +1,37 @@
-use Rattle.std.proofs.Common.{ℕ, List, ◌≡◌, ◌∙◌, ap, sym, refl, Option, Some, None, map}
-use Rattle.std.specs.List.{find, filter}
+use Rattle.std.proofs.Common.{ℕ, List, ◌≡◌, ap, refl, subst, Option, Some, None, map}
+use Rattle.std.specs.List.{filter}
 use Rattle.std.specs.Option.{MatchOption}
 use Rattle.jm_pending.specs.declared.row.Row.{Row}
 use Rattle.jm_pending.specs.Rows.{stays, is_waiting, next, sent, sent_at}
 use Rattle.jm_pending.specs.Rows.{Held}
 use Rattle.jm_dest.specs.declared.session.SessionId.{SessionId}
-use Rattle.jm_pending.specs.Lanes.{Lane, all_rows, rows_of, IsHeld, EachBecomes}
+use Rattle.jm_pending.specs.Lanes.{Lane, all_rows, rows_of, IsHeld, EachBecomes, IsSoonestOf}
 use Rattle.jm_pending.proofs.Places.{apart_from_rising}
-use Rattle.jm_pending.proofs.Order.{next_in_order}
+use Rattle.jm_pending.proofs.Soonest.{next_soonest, soonest_ready}
 use Rattle.jm_pending.proofs.Edited.{all_rows_each}
 use Rattle.std.proofs.lemmas.List.Elements.{filter-append}
 use Rattle.jm_pending.proofs.Steps.{sent_at_place, sent_at_priority}
 use Rattle.jm_pending.proofs.Holding.{covers_all, follows_taken}
-use Rattle.jm_pending.proofs.Keeping.{held_filter, held_map, find_ready}
+use Rattle.jm_pending.proofs.Keeping.{held_filter, held_map, held_same}
 use Rattle.jm_pending.proofs.held.Held.take.Goals as goal
 
+-- what a take does to the lanes, where that row goes first
+abbrev Takes : SessionId → ℕ → List Lane → List Lane → Option Row → Option Row → Type 0
+Takes s c ys zs res o = MatchOption o ((res ≡ None) × EachBecomes (λ rs. rs) ys zs) (λ r. (res ≡ Some (sent s c r)) × EachBecomes (map (sent_at r.place s c)) ys zs)
+
 -- what the two steps do, from which row is next
-taken : (now : ℕ) (s : SessionId) (c : ℕ) (xs ys zs : List Lane) (room : ℕ) (res : Option Row) (shown : List Row → Held) → IsHeld xs room → EachBecomes (filter (stays now)) xs ys → MatchOption (find is_waiting (all_rows ys)) ((res ≡ None) × (zs ≡ ys)) (λ r. (res ≡ Some (sent s c r)) × EachBecomes (map (sent_at r.place s c)) ys zs)
+taken : (now : ℕ) (s : SessionId) (c : ℕ) (xs ys zs : List Lane) (room : ℕ) (res : Option Row) (shown : List Row → Held) → IsHeld xs room → EachBecomes (filter (stays now)) xs ys → (o : Option Row) × IsSoonestOf is_waiting (all_rows ys) o × Takes s c ys zs res o
     → IsHeld zs room × MatchOption (next now (rows_of xs)) ((res ≡ None) × (shown (rows_of zs) ≡ shown (filter (stays now) (rows_of xs)))) (λ r. (res ≡ Some (sent s c r)) × (shown (rows_of zs) ≡ shown (map (sent_at r.place s c) (filter (stays now) (rows_of xs)))))
 taken now s c xs ys zs room res shown h e m =
     let kept = held_filter (stays now) xs ys room h e in
-    let first : next now (rows_of xs) ≡ find is_waiting (all_rows ys) =
-    next_in_order now (all_rows xs) h.ordered h.rising ∙ find_ready now (all_rows xs) ∙ ap (find is_waiting) (sym (all_rows_each (filter (stays now)) refl (filter-append (stays now)) xs ys e)) in
-    rw (first, ← kept.1) (go (find is_waiting (all_rows ys)) kept.0 m)
+    let left : all_rows ys ≡ filter (stays now) (all_rows xs) = all_rows_each (filter (stays now)) refl (filter-append (stays now)) xs ys e in
+    let first : next now (rows_of xs) ≡ m.0 = next_soonest now (all_rows xs) m.0 h.rising (soonest_ready now (all_rows xs) m.0 (subst (λ rows. IsSoonestOf is_waiting rows m.0) left m.1)) in
+    rw (first, ← kept.1) (go m.0 kept.0 m.2)
   where
-    go : (o : Option Row) → IsHeld ys room → MatchOption o ((res ≡ None) × (zs ≡ ys)) (λ r. (res ≡ Some (sent s c r)) × EachBecomes (map (sent_at r.place s c)) ys zs) → IsHeld zs room × MatchOption o ((res ≡ None) × (shown (rows_of zs) ≡ shown (rows_of ys))) (λ r. (res ≡ Some (sent s c r)) × (shown (rows_of zs) ≡ shown (map (sent_at r.place s c) (rows_of ys))))
-    go None k m = (rw m.1 k, (m.0, ap (λ ls. shown (rows_of ls)) m.1))
+    go : (o : Option Row) → IsHeld ys room → Takes s c ys zs res o → IsHeld zs room × MatchOption o ((res ≡ None) × (shown (rows_of zs) ≡ shown (rows_of ys))) (λ r. (res ≡ Some (sent s c r)) × (shown (rows_of zs) ≡ shown (map (sent_at r.place s c) (rows_of ys))))
+    go None k m =
+        let after = held_same ys zs room k m.1 in
+        (after.0, (m.0, ap shown after.1))
     go (Some r) k m =
         let after = held_map (sent_at r.place s c) (sent_at_place r.place s c) (sent_at_priority r.place s c) ys zs room k m.1 in
         (after.0, (m.0, ap shown after.1))
@@ -47,4 +53,4 @@ drop_expired-requires c = covers_all c.args.table.now c.self.inside.lanes (rw (�
 
 pub returns-clause-table : goal.returns-clause-table
 returns-clause-table c =
-    rw (← c.self.view_is) (follows_taken c.args.table.now c.drop_expired.new.table c.args.session c.args.consumer c.self.inside.lanes c.drop_expired.new.lanes c.take_first.new.lanes c.take_first.result c.take_first.ensures c.drop_expired.ensures.table)
+    rw (← c.self.view_is) (follows_taken c.args.table.now c.drop_expired.new.table c.args.session c.args.consumer c.self.inside.lanes c.drop_expired.new.lanes c.take_first.new.lanes c.take_first.result c.take_first.ensures.0 c.take_first.ensures.2 c.drop_expired.ensures.table)
