@@ -118,12 +118,17 @@ impl Lane {
         }
     }
 
+    /// Makes room for that many more rows. A lane without rows, as most are, takes no more than that.
     pub(crate) fn reserve(&mut self, additional: usize) -> Result<(), AllocError>
         ensures ok { OnOk result (additional ≤ self.new.spare) }
         ensures same { (self.new.priority ≡ self.old.priority) × (self.new.rows ≡ self.old.rows) }
         ensures room { self.old.spare ≤ self.new.spare }
     {
-        self.rows.reserve(additional)
+        if self.rows.is_empty() {
+            self.rows.reserve_exact(additional)
+        } else {
+            self.rows.reserve(additional)
+        }
     }
 
     /// Adds a row behind all others.
