@@ -1,6 +1,6 @@
 -- Each call's reply and what it leaves are the machine's.
 use Rattle.std.proofs.Common.{◌≡◌, ◌≢◌, ℕ, Bool, true, false, cond, List, [], length, get_or, refl, ap, sym, subst, ◌∙◌, arith, Option, Some, None, Ok, Err}
-use Rattle.std.specs.Prelude.{◌&&◌, is_some, slice_get, MatchBool, MatchOption}
+use Rattle.std.specs.Prelude.{◌&&◌, IfSome, is_some, slice_get, MatchBool}
 use Rattle.std.proofs.lemmas.Option.{get_or_from_slice_get}
 use Rattle.jm_base.specs.declared.mode.Mode.{Mode}
 use Rattle.jm_base.specs.declared.mode.Mode.TheVariants.{Auto}
@@ -22,19 +22,21 @@ use Rattle.jm_machine.specs.Rows.{bare, deliver_placed, left_of, live, next}
 use Rattle.jm_machine.specs.Selectors.{selector_refusal}
 use Rattle.jm_machine.specs.Machine.{State, after, answer, at_key, consumer_of, defined, delivered, delivery, first_cause, held, holding_at, is_active, joined, key_at, may_begin, moved, put, receive, refusal, replied, reply, rows_of, station_of, step, unless, with_rows}
 use Rattle.jm_machine.specs.Wants.{is_want, is_next_shared, may_want, placed_rows}
-use Rattle.jm_stations.specs.Backlogs.{Backlog, copy_wanted}
+use Rattle.jm_session.specs.Known.{may_receive}
+use Rattle.jm_stations.specs.Backlogs.{Backlog, answered, copy_wanted}
 use Rattle.jm_stations.specs.Stations.{index_in}
 use Rattle.jm_sub.specs.Subscriptions.{Subscription}
 use Rattle.jm_core.specs.declared.receive.Taking.{Taking}
 use Rattle.jm_core.specs.State.{stations_of, keys_of, IsSound}
+use Rattle.jm_core.specs.Plans.{IsRefused}
 use Rattle.jm_core.specs.Steps.{StepFits}
-use Rattle.jm_core.specs.Takings.{IsTaken, backlog_at, taken_from, wants_copy, wants_from}
+use Rattle.jm_core.specs.Takings.{IsTaken, IsTold, backlog_at, receiving, taken_from, wants_copy, wants_from}
 use Rattle.jm_core.proofs.Stations.{found_at, found_none, fails_all, key_found, key_missing, copy_is_shared, length-keys}
 use Rattle.jm_core.proofs.Sound.{sound_received}
 
 -- a state of these parts
-abbrev pub state_of : ℕ → Life → List Consumer → List Subscription → List Backlog → ℕ → State
-state_of opening life consumers ss list place = record { opening = opening; life = life; consumers = consumers; stations = stations_of ss list; next_place = place }
+abbrev pub state_from : ℕ → Life → List Consumer → List Subscription → List Backlog → ℕ → State
+state_from opening life consumers ss list place = record { opening = opening; life = life; consumers = consumers; stations = stations_of ss list; next_place = place }
 
 -- ---- a consumer that is made, or refused
 
@@ -46,17 +48,17 @@ illegal_is_told r e = ap (λ x. is_want (Err x)) e
 
 pub create_refused : (state : State) (s : SessionId) (c : ℕ) (topic : List ℕ) (selector : Option (List ℕ)) (r : Refusal) →
     (may_begin state.life state.consumers s c ≡ false → r ≡ IllegalState) → (may_begin state.life state.consumers s c ≡ true → r ≢ Memory → selector_refusal selector ≡ Some r) →
-    StepFits state (Session s) (Ask (CreateConsumer c topic selector)) (Err r) state
-unfolding reply step refusal may_want
+    IsRefused state (Session s) (Ask (CreateConsumer c topic selector)) r
+unfolding reply refusal may_want
 create_refused state s c topic selector r f k =
-    go (may_begin state.life state.consumers s c) (answer state.life state.consumers (held state (Session s) (CreateConsumer c topic selector)) (Session s) (CreateConsumer c topic selector)) (after state (Session s) (CreateConsumer c topic selector)) (is_want (Err r)) refl f k
+    go (may_begin state.life state.consumers s c) (answer state.life state.consumers (held state (Session s) (CreateConsumer c topic selector)) (Session s) (CreateConsumer c topic selector)) (is_want (Err r)) refl f k
   where
-    go : (m : Bool) (a : Answer) (next : State) (b : Bool) → is_want (Err r) ≡ b → (m ≡ false → r ≡ IllegalState) → (m ≡ true → r ≢ Memory → selector_refusal selector ≡ Some r) →
-        MatchBool b ((m ≡ true) × (state ≡ state)) ((Err r ≡ replied (first_cause (unless m IllegalState) (selector_refusal selector)) a) × (state ≡ moved (first_cause (unless m IllegalState) (selector_refusal selector)) next state))
-    go true a next true e f k = (refl, refl)
-    go true a next false e f k = let is : selector_refusal selector ≡ Some r = k refl (not_wanted r e) in (rw is refl, rw is refl)
-    go false a next true e f k = absurd (let told = illegal_is_told r (f refl) in cc)
-    go false a next false e f k = (ap (λ x. Err x) (f refl), refl)
+    go : (m : Bool) (a : Answer) (b : Bool) → is_want (Err r) ≡ b → (m ≡ false → r ≡ IllegalState) → (m ≡ true → r ≢ Memory → selector_refusal selector ≡ Some r) →
+        MatchBool b (m ≡ true) (Err r ≡ replied (first_cause (unless m IllegalState) (selector_refusal selector)) a)
+    go true a true e f k = refl
+    go true a false e f k = let is : selector_refusal selector ≡ Some r = k refl (not_wanted r e) in rw is refl
+    go false a true e f k = absurd (let told = illegal_is_told r (f refl) in cc)
+    go false a false e f k = ap (λ x. Err x) (f refl)
 
 pub create_made : (state : State) (s : SessionId) (c : ℕ) (topic : List ℕ) (selector : Option (List ℕ)) (next : State) →
     may_begin state.life state.consumers s c ≡ true → selector_refusal selector ≡ None → next ≡ joined s c (Own s c) (put (Own s c) (defined topic selector) state) →
@@ -78,17 +80,17 @@ both_first : (a b : Bool) → (a && b) ≡ true → a ≡ true
 both_first true b h = refl
 both_first false b h = h
 
-pub receive_refused : (state : State) (s : SessionId) (c now : ℕ) (r : Refusal) → r ≡ IllegalState → (is_some (mode_of state.life s) && is_active (consumer_of state.consumers s c)) ≡ false → StepFits state (Session s) (Ask (Receive c now)) (Err r) state
-unfolding reply step refusal
-receive_refused state s c now r e m = rw (e, m) (refl, refl)
+pub receive_refused : (state : State) (s : SessionId) (c now : ℕ) (r : Refusal) → r ≡ IllegalState → may_receive state.life state.consumers s c ≡ false → IsRefused state (Session s) (Ask (Receive c now)) r
+unfolding reply refusal
+receive_refused state s c now r e m = rw (e, m) refl
 
 module _ (opening : ℕ) (life : Life) (consumers : List Consumer) (ss : List Subscription) (list : List Backlog) (place : ℕ) where
   -- before the receive
   abbrev before : State
-  before = state_of opening life consumers ss list place
+  before = state_from opening life consumers ss list place
 
   -- what was told, and what is left, where the consumer has that key
-  from_key : (now : ℕ) (key : Key) (o : Option Taking) (a : Answer) → length list ≡ length ss → IsTaken (Some key) now (keys_of ss) list o → MatchOption o (a ≡ Nothing) (λ x. (d : Backlog) → a ≡ delivery (next now (live now (bare (get_or list x.index d).rows)))) →
+  from_key : (now : ℕ) (key : Key) (o : Option Taking) (a : Answer) → length list ≡ length ss → IsTaken (Some key) now (keys_of ss) list o → IsTold o now list a →
       (a ≡ delivery (next now (live now (rows_of (station_of key (stations_of ss list)))))) × (stations_of ss (taken_from o now list) ≡ at_key key (with_rows (deliver_placed now (left_of (Some Auto)))) (stations_of ss list))
   from_key now key None a n t e =
       let none = key_missing key (with_rows (deliver_placed now (left_of (Some Auto)))) ss list (fails_all (λ x. key_eq x key) (keys_of ss) (found_none (λ x. key_eq x key) (keys_of ss) t)) in
@@ -99,20 +101,20 @@ module _ (opening : ℕ) (life : Life) (consumers : List Consumer) (ss : List Su
       let found = key_found key (deliver_placed now (left_of (Some Auto))) ss list d x.index n at.0 (omega (arith, at.1, length-keys ss)) in
       (e d ∙ ap (λ rows. delivery (next now (live now (bare rows)))) (sym found.1) ∙ ap (λ rows. delivery (next now (live now rows))) (sym (rows_bare (station_of key (stations_of ss list)))), sym found.0)
 
-  idle : (now : ℕ) (o : Option Taking) (a : Answer) → o ≡ None → MatchOption o (a ≡ Nothing) (λ x. (d : Backlog) → a ≡ delivery (next now (live now (bare (get_or list x.index d).rows)))) → (a ≡ Nothing) × (state_of opening life consumers ss (taken_from o now list) place ≡ before)
+  idle : (now : ℕ) (o : Option Taking) (a : Answer) → o ≡ None → IsTold o now list a → (a ≡ Nothing) × (state_from opening life consumers ss (taken_from o now list) place ≡ before)
   idle now None a t told = (told, refl)
   idle now (Some x) a t told = cc
 
-  pub receive_made : (s : SessionId) (c now : ℕ) (k : Option Key) (o : Option Taking) (a : Answer) → length list ≡ length ss → (is_some (mode_of life s) && is_active (consumer_of consumers s c)) ≡ true → k ≡ cond (is_started life s.connection) (key_at (consumer_of consumers s c)) None →
-      IsTaken k now (keys_of ss) list o → MatchOption o (a ≡ Nothing) (λ x. (d : Backlog) → a ≡ delivery (next now (live now (bare (get_or list x.index d).rows)))) →
-      StepFits before (Session s) (Ask (Receive c now)) (Ok a) (state_of opening life consumers ss (taken_from o now list) place)
+  pub receive_made : (s : SessionId) (c now : ℕ) (k : Option Key) (o : Option Taking) (a : Answer) → length list ≡ length ss → may_receive life consumers s c ≡ true → k ≡ receiving life consumers s c →
+      IsTaken k now (keys_of ss) list o → IsTold o now list a →
+      StepFits before (Session s) (Ask (Receive c now)) (Ok a) (state_from opening life consumers ss (taken_from o now list) place)
   unfolding reply step refusal answer after
   receive_made s c now k o a n m e t told =
       let mode : mode_of life s ≡ Some Auto = mode_auto (mode_of life s) (both_first (is_some (mode_of life s)) (is_active (consumer_of consumers s c)) m) in
       let r = go (is_started life s.connection) (key_at (consumer_of consumers s c)) (subst (λ x. IsTaken x now (keys_of ss) list o) e t) in
       rw (m, mode) (ap (λ x. Ok x) r.0, r.1)
     where
-      go : (started : Bool) (key : Option Key) → IsTaken (cond started key None) now (keys_of ss) list o → (a ≡ delivered started now (holding_at key before).rows) × (state_of opening life consumers ss (taken_from o now list) place ≡ cond started (receive (left_of (Some Auto)) now key before) before)
+      go : (started : Bool) (key : Option Key) → IsTaken (cond started key None) now (keys_of ss) list o → (a ≡ delivered started now (holding_at key before).rows) × (state_from opening life consumers ss (taken_from o now list) place ≡ cond started (receive (left_of (Some Auto)) now key before) before)
       go false key t = idle now o a t told
       go true None t = idle now o a t told
       go true (Some key) t =
@@ -133,10 +135,10 @@ module _ (opening : ℕ) (life : Life) (consumers : List Consumer) (ss : List Su
       there None e w = cc
       there (Some i) e w = at i (slice_get list i) refl e w
 
-  pub receive_wants : (s : SessionId) (c now : ℕ) (k : Option Key) (r : Refusal) → length list ≡ length ss → (is_some (mode_of life s) && is_active (consumer_of consumers s c)) ≡ true → k ≡ cond (is_started life s.connection) (key_at (consumer_of consumers s c)) None →
-      wants_copy k now (keys_of ss) list ≡ true → r ≡ Memory → StepFits before (Session s) (Ask (Receive c now)) (Err r) before
+  pub receive_wants : (s : SessionId) (c now : ℕ) (k : Option Key) (r : Refusal) → length list ≡ length ss → may_receive life consumers s c ≡ true → k ≡ receiving life consumers s c →
+      wants_copy k now (keys_of ss) list ≡ true → r ≡ Memory → IsRefused before (Session s) (Ask (Receive c now)) r
   unfolding may_want
-  receive_wants s c now k r n m e w is = rw is (go (is_some (mode_of life s)) (is_started life s.connection) (key_at (consumer_of consumers s c)) (both_first (is_some (mode_of life s)) (is_active (consumer_of consumers s c)) m) (subst (λ x. wants_copy x now (keys_of ss) list ≡ true) e w), refl)
+  receive_wants s c now k r n m e w is = rw is (go (is_some (mode_of life s)) (is_started life s.connection) (key_at (consumer_of consumers s c)) (both_first (is_some (mode_of life s)) (is_active (consumer_of consumers s c)) m) (subst (λ x. wants_copy x now (keys_of ss) list ≡ true) e w))
     where
       go : (mode started : Bool) (key : Option Key) → mode ≡ true → wants_copy (cond started key None) now (keys_of ss) list ≡ true → ((mode && started) && is_next_shared now key (stations_of ss list)) ≡ true
       go mode false key m w = cc
@@ -148,3 +150,9 @@ pub sound_taken : (consumers : List Consumer) (ss : List Subscription) (keys : L
 sound_taken consumers ss keys list place now k None h t = h
 sound_taken consumers ss keys list place now None (Some x) h t = cc
 sound_taken consumers ss keys list place now (Some key) (Some x) h t = sound_received consumers ss keys list place x.index now key h t.0
+
+-- the copy is that which the delivery wants
+pub copy_taken : (keys : List Key) (list : List Backlog) (now : ℕ) (k : Option Key) (o : Option Taking) → IsTaken k now keys list o → IfSome o (λ x. (d : Backlog) → x.copy ≡ copy_wanted now list (get_or list x.index d).rows)
+copy_taken keys list now k None t = tt
+copy_taken keys list now None (Some x) t = cc
+copy_taken keys list now (Some key) (Some x) t = t.1

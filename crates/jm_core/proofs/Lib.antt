@@ -5,5 +5,6 @@ pub mod Sound
 pub mod Fits
 pub mod Published
 pub mod Seen
+pub mod Planned
 mod Sends
 mod Reached

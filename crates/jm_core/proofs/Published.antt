@@ -16,7 +16,7 @@ use Rattle.jm_core.specs.Steps.{published_stations}
 use Rattle.jm_core.proofs.Stations.{more_room, room_unlimited}
 use Rattle.jm_core.proofs.Publishing.{published_all, published_is}
 use Rattle.jm_core.proofs.Sound.{sound_room, sound_published}
-use Rattle.jm_core.proofs.Fits.{state_of}
+use Rattle.jm_core.proofs.Fits.{state_from}
 
 -- the message of a publication, where it goes, and for how many there is room there
 abbrev pub message_of : Publication → Content
@@ -51,9 +51,9 @@ publication_sound consumers ss keys old mid new place next xs h r sent p le = so
 
 -- what callers see
 pub publication_seen : (opening : ℕ) (life : Life) (consumers : List Consumer) (ss : List Subscription) (keys : List Key) (old mid new : List Backlog) (place next : ℕ) (xs : List Publication) (ms : List Content) → IsSound consumers ss keys old place → HasMoreRoom old mid → All (IsSent ss) xs →
-    map message_of xs ≡ ms → ArePublished xs place mid new → next ≡ place + length ms → state_of opening life consumers ss new next ≡ published (state_of opening life consumers ss old place) ms
+    map message_of xs ≡ ms → ArePublished xs place mid new → next ≡ place + length ms → state_from opening life consumers ss new next ≡ published (state_from opening life consumers ss old place) ms
 publication_seen opening life consumers ss keys old mid new place next xs ms h r sent is p end =
     let number : length mid ≡ length ss = r.number ∙ h.number in
     let made = (published_all life ss xs place mid new number (room_unlimited old mid r h.unlimited) sent p).0 in
     let seen : stations_of ss new ≡ published_stations life place ms (stations_of ss old) = made ∙ (λ i. published_stations life place (is i) (more_room ss old mid r i)) in
-    (λ i. record { opening = opening; life = life; consumers = consumers; stations = seen i; next_place = end i }) ∙ sym (published_is (state_of opening life consumers ss old place) ms)
+    (λ i. record { opening = opening; life = life; consumers = consumers; stations = seen i; next_place = end i }) ∙ sym (published_is (state_from opening life consumers ss old place) ms)

@@ -1,9 +1,19 @@
 -- Deliveries that are prepared: from which rows, and with which copy.
-use Rattle.std.specs.Prelude.{◌≡◌, ℕ, Bool, false, List, Option, Some, None, is_some, slice_get, slice_index_or}
+use Rattle.std.specs.Prelude.{◌≡◌, ℕ, Bool, false, List, Option, Some, None, is_some, slice_get, slice_index_or, if◌then◌else◌}
+use Rattle.jm_dest.specs.declared.session.SessionId.{SessionId}
 use Rattle.jm_dest.specs.declared.key.Key.{Key}
-use Rattle.jm_stations.specs.Backlogs.{Backlog, changed_at, copy_wanted, received}
+use Rattle.jm_machine.specs.declared.answer.Answer.{Answer}
+use Rattle.jm_machine.specs.declared.answer.Answer.TheVariants.{Nothing}
+use Rattle.jm_machine.specs.declared.state.Consumer.{Consumer}
+use Rattle.jm_machine.specs.Life.{Life, is_started}
+use Rattle.jm_machine.specs.Machine.{consumer_of, key_at}
+use Rattle.jm_stations.specs.Backlogs.{Backlog, answered, changed_at, copy_wanted, received}
 use Rattle.jm_stations.specs.Stations.{index_in}
 use Rattle.jm_core.specs.declared.receive.Taking.{Taking}
+
+-- the key that a consumer receives from, while its connection is started
+abbrev pub receiving : Life → List Consumer → SessionId → ℕ → Option Key
+receiving life consumers s c = if is_started life s.connection then key_at (consumer_of consumers s c) else None
 
 -- a delivery takes nothing where there is no key, or nothing stands under it; else the next row there, with the copy
 -- that is wanted
@@ -31,3 +41,8 @@ wants_copy (Some key) now keys list = wants_from now list (backlog_at list (inde
 abbrev pub taken_from : Option Taking → ℕ → List Backlog → List Backlog
 taken_from None now list = list
 taken_from (Some x) now list = changed_at x.index (received now) list
+
+-- the answer is that of the delivery
+abbrev pub IsTold : Option Taking → ℕ → List Backlog → Answer → Type 0
+IsTold None now list a = a ≡ Nothing
+IsTold (Some x) now list a = (d : Backlog) → a ≡ answered now (slice_index_or list x.index d).rows

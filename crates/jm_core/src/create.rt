@@ -25,13 +25,17 @@ pub(crate) fn prepare_create(
     selector: &Option<Str>,
 ) -> Result<Decision, Refusal>
     ensures begins { OnOk result (machine.may_begin sessions.old.life sessions.old.consumers session.now id ≡ true) }
-    ensures decided { IfOk result (λ d. d ≡ record { key = Key.Own session.now id; definition = machine.defined topic.now selector.now }) }
+    ensures decided { IfOk result (λ d.
+        d ≡ record { key = Key.Own session.now id; definition = machine.defined topic.now selector.now }) }
     ensures valid { OnOk result (selector_refusal selector.now ≡ None) }
     ensures room { OnOk result (0 < sessions.new.spare) }
     ensures subs_room { OnOk result (0 < subs.new.spare) }
     ensures key_room { OnOk result (0 < stations.new.key_room) }
-    ensures illegal { IfErr result (λ refusal. machine.may_begin sessions.old.life sessions.old.consumers session.now id ≡ false → refusal ≡ IllegalState) }
-    ensures refused { IfErr result (λ refusal. machine.may_begin sessions.old.life sessions.old.consumers session.now id ≡ true → refusal ≢ Memory → selector_refusal selector.now ≡ Some refusal) }
+    ensures illegal { IfErr result (λ refusal.
+        machine.may_begin sessions.old.life sessions.old.consumers session.now id ≡ false → refusal ≡ IllegalState) }
+    ensures refused { IfErr result (λ refusal.
+        machine.may_begin sessions.old.life sessions.old.consumers session.now id ≡ true →
+        refusal ≢ Memory → selector_refusal selector.now ≡ Some refusal) }
     ensures life { sessions.new.life ≡ sessions.old.life }
     ensures consumers { sessions.new.consumers ≡ sessions.old.consumers }
     ensures subs { subs.new.list ≡ subs.old.list }
@@ -61,7 +65,8 @@ pub(crate) fn make_create(
     requires subs_room { 0 < subs.old.spare }
     requires key_room { 0 < stations.old.key_room }
     ensures life { sessions.new.life ≡ sessions.old.life }
-    ensures consumers { sessions.new.consumers ≡ sessions.old.consumers ++ machine.new_consumer session.now id (Key.Own session.now id) ∷ [] }
+    ensures consumers { sessions.new.consumers ≡
+        sessions.old.consumers ++ machine.new_consumer session.now id (Key.Own session.now id) ∷ [] }
     ensures subs { subs.new.list ≡ put decision subs.old.list }
     ensures keys { stations.new.keys ≡ stations.old.keys ++ Key.Own session.now id ∷ [] }
     ensures list { stations.new.list ≡ stations.old.list ++ empty None ∷ [] }

@@ -4,7 +4,9 @@
 #![tactic(auto)]
 
 mod create;
+mod install;
 mod life;
+mod plan;
 mod provider;
 mod publish;
 mod receive;
@@ -15,4 +17,5 @@ pub use jm_machine::{
     Answer, Call, ClientCall, ConnectionState, Consumer, Definition, Delivery, PlacedRow, Reply,
     Request, Row, SessionState, Station, Step, Who, copy_reply,
 };
+pub use plan::Plan;
 pub use provider::{Core, law_core_reached, law_rows_in_order};

@@ -3,7 +3,7 @@
 
 ghost use Rattle.std.specs.Prelude.{◌≡◌, ◌<◌, true, not, is_some, IfErr, OnOk, None};
 ghost use Rattle.jm_machine.specs.declared.call.Who.TheVariants.{Connection, Session};
-ghost use Rattle.jm_machine.specs.declared.call.Request.TheVariants.{Open, CreateSession};
+ghost use Rattle.jm_machine.specs.declared.call.Request.TheVariants.{Open, Start, Stop, CreateSession};
 ghost use Rattle.jm_machine.specs.Life as life;
 ghost use Rattle.jm_session.specs.Known.{cause};
 
@@ -15,7 +15,8 @@ use jm_session::Sessions;
 pub(crate) fn prepare_open(sessions: &mut Sessions, id: ConnectionId) -> Result<(), Refusal>
     ensures ok { OnOk result (life.connection_of sessions.old.life.connections id ≡ None) }
     ensures room { OnOk result (0 < sessions.new.spare) }
-    ensures refused { IfErr result (λ refusal. refusal ≡ cause (not (is_some (life.connection_of sessions.old.life.connections id)))) }
+    ensures refused { IfErr result (λ refusal.
+        refusal ≡ cause (not (is_some (life.connection_of sessions.old.life.connections id)))) }
     ensures life { sessions.new.life ≡ sessions.old.life }
     ensures consumers { sessions.new.consumers ≡ sessions.old.consumers }
 {
@@ -34,6 +35,24 @@ pub(crate) fn make_open(sessions: &mut Sessions, id: ConnectionId)
     ensures consumers { sessions.new.consumers ≡ sessions.old.consumers }
 {
     let _ = sessions.open(id);
+}
+
+/// Starts the connection.
+pub(crate) fn make_start(sessions: &mut Sessions, id: ConnectionId)
+    requires { is_some (life.connection_of sessions.old.life.connections id) ≡ true }
+    ensures life { sessions.new.life ≡ life.life_after sessions.old.life (Connection id) Start }
+    ensures consumers { sessions.new.consumers ≡ sessions.old.consumers }
+{
+    let _ = sessions.start(id);
+}
+
+/// Stops the connection.
+pub(crate) fn make_stop(sessions: &mut Sessions, id: ConnectionId)
+    requires { is_some (life.connection_of sessions.old.life.connections id) ≡ true }
+    ensures life { sessions.new.life ≡ life.life_after sessions.old.life (Connection id) Stop }
+    ensures consumers { sessions.new.consumers ≡ sessions.old.consumers }
+{
+    let _ = sessions.stop(id);
 }
 
 /// Finds why the session may not be opened, and else makes room for it.

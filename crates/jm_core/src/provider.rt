@@ -1,12 +1,15 @@
-ghost use Rattle.std.specs.Prelude.{◌≡◌, ◌≤◌, length, MatchResult, IfOk, OnErr};
+ghost use Rattle.std.specs.Prelude.{◌≡◌, ◌≤◌, length, MatchResult, IfOk, IfErr, OnErr};
 ghost use Rattle.jm_base.specs.declared.refusal.Refusal.TheVariants.{OutOfRange};
 ghost use Rattle.jm_machine.specs.Machine as machine;
 ghost use Rattle.jm_machine.specs.Client.{Progress, begun, RunOwed};
 ghost use Rattle.jm_machine.specs.Isolation.{Reached};
 ghost use Rattle.jm_core.specs.Accepted.{HoldsAccepted};
 ghost use Rattle.jm_core.specs.Kept.{IsNumberOfMessages};
+ghost use Rattle.jm_core.specs.Plans.{InstallFits, IsPlan, IsPlanned, IsRefused};
+ghost use Rattle.jm_core.specs.Provider.{state_of};
 ghost use Rattle.jm_core.specs.Steps.{StepFits};
 
+use crate::plan::Plan;
 use crate::state::CoreState;
 use jm_base::Refusal;
 use jm_dest::{Key, Number};
@@ -16,8 +19,9 @@ use jm_machine::{
 use std::alloc::{AllocError, Global};
 use std::marker::Model;
 
-/// The provider. Contracts see it as the machine's state, and every core's state is one that the
-/// provider reaches.
+/// The provider. Contracts see it as a `Provider`: the parts of the machine's state, each with the room that
+/// there is for more. What a call answers and leaves is said of that state alone (`state_of`), and every
+/// core's state is one that the provider reaches.
 pub struct Core {
     state: CoreState,
 }
@@ -31,14 +35,14 @@ impl Drop for Core {
 }
 
 impl Model for Core {
-    ghost use Rattle.jm_machine.specs.Machine.{State};
     ghost use Rattle.jm_machine.specs.Isolation.{Reached};
+    ghost use Rattle.jm_core.specs.Provider.{Provider, state_of};
 
-    ghost Value = { State };
+    ghost Value = { Provider };
 
     ghost view = { λ c. c.state };
 
-    ghost invariant = { λ c. Reached c.state };
+    ghost invariant = { λ c. Reached (state_of c.state) };
 }
 
 /// The law that each core's state is reached, proved; the function itself does nothing.
@@ -46,7 +50,7 @@ impl Model for Core {
 /// The state of every core is one that the provider reaches: that of a new core, or what steps lead to
 /// from one. So the law of isolation holds of whatever list of calls is run on it next.
 pub fn law_core_reached(core: &Core)
-    ensures { Reached core.now }
+    ensures { Reached (state_of core.now) }
 {
     let _ = &core.state;
 }
@@ -57,8 +61,8 @@ pub fn law_core_reached(core: &Core)
 /// selector is TRUE for it, or there is no selector. The rows of each subscription stand by place, below the
 /// next place.
 pub fn law_rows_in_order(core: &Core)
-    ensures accepted { HoldsAccepted core.now.stations }
-    ensures ordered { machine.AllInOrder core.now.next_place core.now.stations }
+    ensures accepted { HoldsAccepted (state_of core.now).stations }
+    ensures ordered { machine.AllInOrder (state_of core.now).next_place (state_of core.now).stations }
 {
     core.state.law_accepted();
 }
@@ -67,7 +71,9 @@ impl Core {
     /// A core that holds nothing, in that opening of the provider. `OutOfRange` exactly where the
     /// number is 0.
     pub fn new(alloc: Global, opening: u32) -> Result<Core, Refusal>
-        ensures { MatchResult result (λ core. (core ≡ machine.new_core opening) × (1 ≤ opening)) (λ refusal. (refusal ≡ OutOfRange) × (opening ≡ 0)) }
+        ensures { MatchResult result
+            (λ core. (state_of core ≡ machine.new_core opening) × (1 ≤ opening))
+            (λ refusal. (refusal ≡ OutOfRange) × (opening ≡ 0)) }
     {
         let state = CoreState::new(alloc, opening)?;
         Ok(Core { state })
@@ -75,7 +81,7 @@ impl Core {
 
     /// An equal core. `AllocError` where a request for memory was refused.
     pub fn copy(&self) -> Result<Core, AllocError>
-        ensures { IfOk result (λ copy. copy ≡ self.now) }
+        ensures { IfOk result (λ copy. state_of copy ≡ state_of self.now) }
     {
         let state = self.state.copy()?;
         Ok(Core { state })
@@ -83,42 +89,42 @@ impl Core {
 
     /// The number of this opening of the provider, from 1.
     pub fn opening(&self) -> Number
-        ensures { result ≡ self.now.opening }
+        ensures { result ≡ (state_of self.now).opening }
     {
         self.state.opening()
     }
 
     /// The connections that were opened, in order.
     pub fn connections(&self) -> &[ConnectionState]
-        ensures { result.now ≡ self.now.life.connections }
+        ensures { result.now ≡ (state_of self.now).life.connections }
     {
         self.state.connections()
     }
 
     /// The sessions that were opened, in order.
     pub fn sessions(&self) -> &[SessionState]
-        ensures { result.now ≡ self.now.life.sessions }
+        ensures { result.now ≡ (state_of self.now).life.sessions }
     {
         self.state.sessions()
     }
 
     /// The consumers that were made, in order.
     pub fn consumers(&self) -> &[Consumer]
-        ensures { result.now ≡ self.now.consumers }
+        ensures { result.now ≡ (state_of self.now).consumers }
     {
         self.state.consumers()
     }
 
     /// How many subscriptions there are.
     pub fn stations_len(&self) -> usize
-        ensures { result ≡ length self.now.stations }
+        ensures { result ≡ length (state_of self.now).stations }
     {
         self.state.stations_len()
     }
 
     /// How many messages are held, each counted once, however many rows hold it.
     pub fn kept(&self) -> usize
-        ensures { IsNumberOfMessages result self.now.stations }
+        ensures { IsNumberOfMessages result (state_of self.now).stations }
     {
         self.state.kept()
     }
@@ -126,27 +132,50 @@ impl Core {
     /// A copy of the subscription of that key with its rows, where there is one. `AllocError` where a request
     /// for memory was refused.
     pub fn station(&self, key: &Key) -> Result<Option<Station>, AllocError>
-        ensures { IfOk result (λ station. station ≡ machine.station_of key.now self.now.stations) }
+        ensures { IfOk result (λ station. station ≡ machine.station_of key.now (state_of self.now).stations) }
     {
         self.state.station(key)
     }
 
     /// The place of the next publication, from 1.
     pub fn next_place(&self) -> u64
-        ensures { result ≡ self.now.next_place }
+        ensures { result ≡ (state_of self.now).next_place }
     {
         self.state.next_place()
     }
 
-    /// Makes one step. A refusal is the first cause that stands, in the order of `Refusal`, and leaves
+    /// Plans one step: finds why it is refused, or takes all the memory that it needs. Either way the core is
+    /// as it was, but for its room. A plan is made by `install`; one that is let go changes nothing.
+    ///
+    /// A refusal is the first cause that stands, and `Memory` comes where `step` says.
+    pub fn plan(&mut self, step: &Step) -> Result<Plan, Refusal>
+        ensures same { state_of self.new ≡ state_of self.old }
+        ensures ok { IfOk result (λ plan. IsPlan self.new step.now.who step.now.call plan) }
+        ensures err { IfErr result (λ refusal. IsRefused (state_of self.old) step.now.who step.now.call refusal) }
+    {
+        let change = self.state.plan(step)?;
+        Ok(Plan { change })
+    }
+
+    /// Makes the step that was planned on this core as it stands, and gives its answer. Takes no memory, and
+    /// cannot fail.
+    pub fn install(&mut self, plan: Plan) -> Answer
+        requires { IsPlanned self.old plan }
+        ensures { InstallFits self.old plan result self.new }
+    {
+        self.state.install(plan.into_change())
+    }
+
+    /// Plans one step and installs it. A refusal is the first cause that stands, in the order of `Refusal`, and leaves
     /// the core as it was; so does `Memory`, which comes only to a call that takes memory, and only where no
     /// other cause stands, or in place of `InvalidSelector`. Memory is taken to open a connection or a session,
     /// to make a consumer, to publish, and by a `Receive` whose message another subscription holds too, which
     /// hands out a copy. Any other `Receive` takes none, nor do `Start` and `Stop`.
     pub fn step(&mut self, step: &Step) -> Result<Answer, Refusal>
-        ensures { StepFits self.old step.now.who step.now.call result self.new }
+        ensures { StepFits (state_of self.old) step.now.who step.now.call result (state_of self.new) }
     {
-        self.state.step(step)
+        let plan = self.plan(step)?;
+        Ok(self.install(plan))
     }
 
     /// Makes the calls in turn, and gives the reply to each. The numbers of each session's sends count
@@ -155,8 +184,9 @@ impl Core {
     /// `Memory`, the core is as it was before that call, and the run goes on; a send has used its number
     /// then.
     pub fn run(&mut self, calls: Vec<ClientCall>) -> Result<Vec<Reply>, AllocError>
-        ensures ok { IfOk result (λ replies. (end : Progress) × RunOwed (begun self.old) calls.items replies.items end × (self.new ≡ end.state)) }
-        ensures err { OnErr result (self.new ≡ self.old) }
+        ensures ok { IfOk result (λ replies. (end : Progress)
+            × RunOwed (begun (state_of self.old)) calls.items replies.items end × (state_of self.new ≡ end.state)) }
+        ensures err { OnErr result (state_of self.new ≡ state_of self.old) }
     {
         self.state.run(calls)
     }

@@ -81,7 +81,8 @@ pub(crate) fn make_publication(stations: &mut Stations, publication: Publication
     requires messages { 0 < stations.old.message_room }
     requires reserved { IsReserved 1 stations.old.list publication.indexes.items }
     ensures keys { stations.new.keys ≡ stations.old.keys }
-    ensures list { IsPublished publication.indexes.items stations.old.next_place publication.message stations.old.list stations.new.list }
+    ensures list { IsPublished publication.indexes.items stations.old.next_place publication.message
+        stations.old.list stations.new.list }
     ensures next_place { stations.new.next_place ≡ stations.old.next_place + 1 }
     ensures room { stations.old.message_room ≤ stations.new.message_room + 1 }
 {
@@ -93,7 +94,8 @@ pub(crate) fn make_publication(stations: &mut Stations, publication: Publication
 pub(crate) fn make_publications(stations: &mut Stations, publications: Vec<Publication>)
     requires places { stations.old.next_place + length publications.items ≤ places_end }
     requires messages { length publications.items ≤ stations.old.message_room }
-    requires reserved { All (λ (x : Publication). IsReserved (length publications.items) stations.old.list x.indexes.items) publications.items }
+    requires reserved { All (λ (x : Publication).
+        IsReserved (length publications.items) stations.old.list x.indexes.items) publications.items }
     ensures keys { stations.new.keys ≡ stations.old.keys }
     ensures list { ArePublished publications.items stations.old.next_place stations.old.list stations.new.list }
     ensures next_place { stations.new.next_place ≡ stations.old.next_place + length publications.items }

@@ -1,15 +1,12 @@
 //! Delivers the next row under a key. A delivery is prepared first, which makes the copy that it wants, and
 //! then made, which takes no memory.
 
-ghost use Rattle.std.specs.Prelude.{◌≡◌, ◌<◌, ◌&&◌, true, false, length, is_some, slice_index_or, MatchOption, IfSome, IfOk, IfErr, OnErr, None, if◌then◌else◌};
+ghost use Rattle.std.specs.Prelude.{◌≡◌, ◌<◌, true, false, length, slice_index_or, IfSome, IfOk, IfErr, OnOk, OnErr};
 ghost use Rattle.std.specs.Option.{option_copied};
 ghost use Rattle.jm_base.specs.declared.refusal.Refusal.TheVariants.{IllegalState};
-ghost use Rattle.jm_machine.specs.declared.answer.Answer.TheVariants.{Nothing};
-ghost use Rattle.jm_machine.specs.Life as life;
-ghost use Rattle.jm_machine.specs.Machine as machine;
-ghost use Rattle.jm_machine.specs.Rows.{bare, live, next};
+ghost use Rattle.jm_session.specs.Known.{may_receive};
 ghost use Rattle.jm_stations.specs.Backlogs.{Backlog, copy_wanted};
-ghost use Rattle.jm_core.specs.Takings.{IsTaken, wants_copy, taken_from};
+ghost use Rattle.jm_core.specs.Takings.{IsTaken, IsTold, receiving, taken_from, wants_copy};
 
 use jm_base::Refusal;
 use jm_dest::{ConsumerId, Key, Moment, SessionId};
@@ -32,10 +29,11 @@ pub(crate) fn receiving_key<'a>(
     session: &SessionId,
     id: ConsumerId,
 ) -> Result<Option<&'a Key>, Refusal>
-    ensures ok { IfOk result (λ key. (is_some (life.mode_of sessions.now.life session.now) && machine.is_active (machine.consumer_of sessions.now.consumers session.now id)) ≡ true) }
-    ensures key { IfOk result (λ key. option_copied key ≡ (if life.is_started sessions.now.life session.now.connection then machine.key_at (machine.consumer_of sessions.now.consumers session.now id) else None)) }
+    ensures ok { OnOk result (may_receive sessions.now.life sessions.now.consumers session.now id ≡ true) }
+    ensures key { IfOk result (λ key.
+        option_copied key ≡ receiving sessions.now.life sessions.now.consumers session.now id) }
     ensures illegal { IfErr result (λ refusal. refusal ≡ IllegalState) }
-    ensures refused { OnErr result ((is_some (life.mode_of sessions.now.life session.now) && machine.is_active (machine.consumer_of sessions.now.consumers session.now id)) ≡ false) }
+    ensures refused { OnErr result (may_receive sessions.now.life sessions.now.consumers session.now id ≡ false) }
 {
     if !sessions.is_open(session) {
         return Err(Refusal::IllegalState);
@@ -58,7 +56,8 @@ pub(crate) fn prepare_delivery(
     key: Option<&Key>,
     now: Moment,
 ) -> Result<Option<Taking>, AllocError>
-    ensures ok { IfOk result (λ taking. IsTaken (option_copied key.entry) now stations.now.keys stations.now.list taking) }
+    ensures ok { IfOk result (λ taking.
+        IsTaken (option_copied key.entry) now stations.now.keys stations.now.list taking) }
     ensures within { IfOk result (λ taking. IfSome taking (λ x. x.index < length stations.now.list)) }
     ensures err { OnErr result (wants_copy (option_copied key.entry) now stations.now.keys stations.now.list ≡ true) }
 {
@@ -77,8 +76,9 @@ pub(crate) fn prepare_delivery(
 /// Delivers and settles the next row, where there is one.
 pub(crate) fn make_delivery(stations: &mut Stations, taking: Option<Taking>, now: Moment) -> Answer
     requires within { IfSome taking (λ x. x.index < length stations.old.list) }
-    requires copy { IfSome taking (λ x. (d : Backlog) → x.copy ≡ copy_wanted now stations.old.list (slice_index_or stations.old.list x.index d).rows) }
-    ensures answer { MatchOption taking (result ≡ Nothing) (λ x. (d : Backlog) → result ≡ machine.delivery (next now (live now (bare (slice_index_or stations.old.list x.index d).rows)))) }
+    requires copy { IfSome taking (λ x. (d : Backlog) →
+        x.copy ≡ copy_wanted now stations.old.list (slice_index_or stations.old.list x.index d).rows) }
+    ensures answer { IsTold taking now stations.old.list result }
     ensures keys { stations.new.keys ≡ stations.old.keys }
     ensures list { stations.new.list ≡ taken_from taking now stations.old.list }
     ensures next_place { stations.new.next_place ≡ stations.old.next_place }

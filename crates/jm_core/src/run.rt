@@ -3,6 +3,7 @@
 ghost use Rattle.std.specs.Prelude.{◌≡◌, ◌+◌, ◌≤◌, ◌<◌, IfOk, OnErr};
 ghost use Rattle.jm_machine.specs.Client.{Progress, begun, stamp_of, CallOwed, RunOwed};
 ghost use Rattle.jm_session.specs.Sends.{room};
+ghost use Rattle.jm_core.specs.Provider.{state_of};
 ghost use Rattle.jm_core.specs.Runs.{progress};
 
 use crate::state::CoreState;
@@ -23,7 +24,7 @@ impl CoreState {
         destination: Destination,
         now: Moment,
     ) -> Result<Message, Refusal>
-        ensures { result ≡ stamp_of (progress self.now sends.now) session.now draft destination now }
+        ensures { result ≡ stamp_of (progress (state_of self.now) sends.now) session.now draft destination now }
     {
         if !self.is_open_session(session) {
             return Err(Refusal::IllegalState);
@@ -50,7 +51,8 @@ impl CoreState {
         now: Moment,
     ) -> Result<Answer, Refusal>
         requires { 0 < room sends.old }
-        ensures owed { CallOwed (progress self.old sends.old) (ClientCall.Send session.now draft destination now) result (progress self.new sends.new) }
+        ensures owed { CallOwed (progress (state_of self.old) sends.old)
+            (ClientCall.Send session.now draft destination now) result (progress (state_of self.new) sends.new) }
         ensures room { room sends.old ≤ room sends.new + 1 }
     {
         match self.stamp_next(sends, session, draft, destination, now) {
@@ -70,7 +72,8 @@ impl CoreState {
 
     fn answer(&mut self, sends: &mut Sends, call: ClientCall) -> Result<Answer, Refusal>
         requires { 0 < room sends.old }
-        ensures owed { CallOwed (progress self.old sends.old) call result (progress self.new sends.new) }
+        ensures owed { CallOwed (progress (state_of self.old) sends.old) call result
+            (progress (state_of self.new) sends.new) }
         ensures room { room sends.old ≤ room sends.new + 1 }
     {
         match call {
@@ -87,8 +90,9 @@ impl CoreState {
     /// Makes the calls in turn, and gives the reply to each. `AllocError` where no room was found for the
     /// replies and the counts of sends; then no call was made.
     pub(crate) fn run(&mut self, calls: Vec<ClientCall>) -> Result<Vec<Reply>, AllocError>
-        ensures ok { IfOk result (λ replies. (end : Progress) × RunOwed (begun self.old) calls.items replies.items end × (self.new ≡ end.state)) }
-        ensures err { OnErr result (self.new ≡ self.old) }
+        ensures ok { IfOk result (λ replies. (end : Progress)
+            × RunOwed (begun (state_of self.old)) calls.items replies.items end × (state_of self.new ≡ end.state)) }
+        ensures err { OnErr result (state_of self.new ≡ state_of self.old) }
     {
         let alloc = self.alloc();
         let mut replies = Vec::with_capacity(alloc, calls.len())?;

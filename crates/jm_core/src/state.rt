@@ -1,60 +1,56 @@
 //! What the core holds, and each call on it.
 
-ghost use Rattle.std.specs.Prelude.{◌≡◌, ◌≢◌, ◌+◌, ◌≤◌, ◌&&◌, [], ◌∷◌, nat_le, is_some, length, MatchResult, IfOk, IfErr, OnOk, OnErr, Some, None};
+ghost use Rattle.std.specs.Prelude.{◌≡◌, ◌+◌, ◌≤◌, ◌&&◌, [], ◌∷◌, nat_le, is_some, length, MatchResult, IfOk, IfErr, OnOk, OnErr, Some, None};
 ghost use Rattle.jm_base.specs.declared.refusal.Refusal.TheVariants.{OutOfRange, Memory};
-ghost use Rattle.jm_header.specs.declared.content.Content.{Content};
 ghost use Rattle.jm_machine.specs.Life as life;
 ghost use Rattle.jm_machine.specs.Machine as machine;
 ghost use Rattle.jm_core.specs.Accepted.{HoldsAccepted};
 ghost use Rattle.jm_core.specs.Kept.{IsNumberOfMessages};
+ghost use Rattle.jm_core.specs.Provider.{state_of};
 ghost use Rattle.jm_core.specs.Steps.{StepFits, PublishFits};
 
-use crate::create::{make_create, prepare_create};
-use crate::life::{make_open, make_session, prepare_open, prepare_session};
-use crate::publish::{
-    make_publication, make_publications, prepare_publication, prepare_publications,
-};
-use crate::receive::{make_delivery, prepare_delivery, receiving_key};
-use jm_base::{List, Mode, Refusal, Str};
-use jm_dest::{ConnectionId, ConsumerId, Key, Moment, Name, Number, SessionId};
+use crate::publish::{make_publication, prepare_publication};
+use jm_base::{List, Refusal};
+use jm_dest::{Key, Number, SessionId};
 use jm_header::Message;
 use jm_machine::find::same_session;
-use jm_machine::{
-    Answer, Call, ConnectionState, Consumer, Request, SessionState, Station, Step, Who,
-};
+use jm_machine::{Answer, Call, ConnectionState, Consumer, Request, SessionState, Station, Who};
 use jm_session::Sessions;
 use jm_stations::Stations;
 use jm_sub::Subs;
 use std::alloc::{AllocError, Global};
 use std::marker::Model;
 
-/// What the core holds. Contracts see it as the machine's state: the stations are the subscriptions, each
-/// with what is held under its key.
+/// What the core holds. Contracts see it as a `Provider`: the parts of the machine's state, each with its
+/// room. In that state (`state_of`) the stations are the subscriptions, each with what is held under its key.
 #[derive(Drop)]
 pub(crate) struct CoreState {
-    alloc: Global,
-    opening: Number,
-    sessions: Sessions,
-    subs: Subs,
-    stations: Stations,
+    pub alloc: Global,
+    pub opening: Number,
+    pub sessions: Sessions,
+    pub subs: Subs,
+    pub stations: Stations,
 }
 
 impl Model for CoreState {
-    ghost use Rattle.jm_machine.specs.Machine.{State};
-    ghost use Rattle.jm_core.specs.State.{IsSound, stations_of};
+    ghost use Rattle.jm_core.specs.Provider.{Provider};
+    ghost use Rattle.jm_core.specs.State.{IsSound};
 
-    ghost Value = { State };
+    ghost Value = { Provider };
 
     ghost view = { λ c. record {
       opening = c.opening;
-      life = c.sessions.life;
-      consumers = c.sessions.consumers;
-      stations = stations_of c.subs.list c.stations.list;
-      next_place = c.stations.next_place;
+      known = c.sessions;
+      subscriptions = c.subs;
+      held = c.stations;
     } };
 
-    ghost invariant = { λ c. IsSound c.sessions.consumers c.subs.list c.stations.keys c.stations.list c.stations.next_place };
+    ghost invariant = { λ c.
+        IsSound c.sessions.consumers c.subs.list c.stations.keys c.stations.list c.stations.next_place };
 }
+
+/// The first number that is no place (ours).
+const PLACES_END: u64 = 1 << 63;
 
 /// Whether the message was stamped by this session in this opening.
 fn is_stamped_by(opening: Number, session: &SessionId, message: &Message) -> bool
@@ -78,7 +74,9 @@ impl CoreState {
     /// A core that holds nothing, in that opening of the provider. `OutOfRange` exactly where the
     /// number is 0.
     pub(crate) fn new(alloc: Global, opening: u32) -> Result<CoreState, Refusal>
-        ensures { MatchResult result (λ core. (core ≡ machine.new_core opening) × (1 ≤ opening)) (λ refusal. (refusal ≡ OutOfRange) × (opening ≡ 0)) }
+        ensures { MatchResult result
+            (λ core. (state_of core ≡ machine.new_core opening) × (1 ≤ opening))
+            (λ refusal. (refusal ≡ OutOfRange) × (opening ≡ 0)) }
     {
         let opening = Number::new(opening)?;
         Ok(CoreState {
@@ -103,35 +101,35 @@ impl CoreState {
 
     /// The connections that were opened, in order.
     pub(crate) fn connections(&self) -> &[ConnectionState]
-        ensures { result.now ≡ self.now.life.connections }
+        ensures { result.now ≡ (state_of self.now).life.connections }
     {
         self.sessions.connections()
     }
 
     /// The sessions that were opened, in order.
     pub(crate) fn sessions(&self) -> &[SessionState]
-        ensures { result.now ≡ self.now.life.sessions }
+        ensures { result.now ≡ (state_of self.now).life.sessions }
     {
         self.sessions.sessions()
     }
 
     /// The consumers that were made, in order.
     pub(crate) fn consumers(&self) -> &[Consumer]
-        ensures { result.now ≡ self.now.consumers }
+        ensures { result.now ≡ (state_of self.now).consumers }
     {
         self.sessions.consumers()
     }
 
     /// The place of the next publication, from 1.
     pub(crate) fn next_place(&self) -> u64
-        ensures { result ≡ self.now.next_place }
+        ensures { result ≡ (state_of self.now).next_place }
     {
         self.stations.next_place()
     }
 
     /// An equal core. `AllocError` where a request for memory was refused.
     pub(crate) fn copy(&self) -> Result<CoreState, AllocError>
-        ensures { IfOk result (λ copy. copy ≡ self.now) }
+        ensures { IfOk result (λ copy. state_of copy ≡ state_of self.now) }
     {
         let sessions = self.sessions.copy()?;
         let subs = self.subs.copy()?;
@@ -147,14 +145,14 @@ impl CoreState {
 
     /// How many subscriptions there are.
     pub(crate) fn stations_len(&self) -> usize
-        ensures { result ≡ length self.now.stations }
+        ensures { result ≡ length (state_of self.now).stations }
     {
         self.subs.len()
     }
 
     /// How many messages are held, each counted once.
     pub(crate) fn kept(&self) -> usize
-        ensures { IsNumberOfMessages result self.now.stations }
+        ensures { IsNumberOfMessages result (state_of self.now).stations }
     {
         self.stations.kept()
     }
@@ -162,7 +160,7 @@ impl CoreState {
     /// A copy of the subscription of the key with its rows, where there is one. `AllocError` where a request
     /// for memory was refused.
     pub(crate) fn station(&self, key: &Key) -> Result<Option<Station>, AllocError>
-        ensures { IfOk result (λ station. station ≡ machine.station_of key.now self.now.stations) }
+        ensures { IfOk result (λ station. station ≡ machine.station_of key.now (state_of self.now).stations) }
     {
         match self.stations.index_of(key) {
             None => Ok(None),
@@ -180,160 +178,38 @@ impl CoreState {
 
     /// Each row is accepted by the subscription that holds it; the function itself does nothing.
     pub(crate) fn law_accepted(&self)
-        ensures { HoldsAccepted self.now.stations }
+        ensures { HoldsAccepted (state_of self.now).stations }
     {
         let _ = &self.stations;
     }
 
-    /// Makes one step, as `Core::step` says.
-    #[tactic(auto, unfolding(jm_machine::specs::Machine::reply, jm_machine::specs::Machine::step))]
-    pub(crate) fn step(&mut self, step: &Step) -> Result<Answer, Refusal>
-        ensures { StepFits self.old step.now.who step.now.call result self.new }
-    {
-        match &step.call {
-            Call::Ask(request) => self.ask(step.who, request),
-            Call::Publish(messages) => self.publish_by(step.who, messages.as_slice()),
-        }
-    }
-
-    #[tactic(auto, unfolding(jm_machine::specs::Machine::refusal, jm_machine::specs::Machine::reply, jm_machine::specs::Machine::step, jm_machine::specs::Machine::after, jm_machine::specs::Machine::answer, jm_machine::specs::Life::life_after))]
-    pub(crate) fn ask(&mut self, who: Who, request: &Request) -> Result<Answer, Refusal>
-        ensures { StepFits self.old who (Call.Ask request.now) result self.new }
-    {
-        match who {
-            Who::Connection(connection) => match request {
-                Request::Open => self.open(connection),
-                Request::Start => self.start(connection),
-                Request::Stop => self.stop(connection),
-                _ => Err(Refusal::IllegalState),
-            },
-            Who::Session(session) => match request {
-                Request::CreateSession { mode } => self.create_session(&session, *mode),
-                Request::CreateConsumer {
-                    consumer,
-                    topic,
-                    selector,
-                } => self.create_consumer(&session, *consumer, topic, selector),
-                Request::Receive { consumer, now } => self.receive(&session, *consumer, *now),
-                _ => Err(Refusal::IllegalState),
-            },
-        }
-    }
-
     pub(crate) fn is_open_session(&self, id: &SessionId) -> bool
-        ensures { result ≡ is_some (life.mode_of self.now.life id.now) }
+        ensures { result ≡ is_some (life.mode_of (state_of self.now).life id.now) }
     {
         self.sessions.is_open(id)
     }
 
+    /// Whether the session is open, and stamped each of the messages.
+    pub(crate) fn has_stamped(&self, session: &SessionId, messages: &[Message]) -> bool
+        ensures { result ≡ (is_some (life.mode_of (state_of self.now).life session.now)
+            && machine.is_stamped self.now.opening session.now messages.now) }
+    {
+        self.is_open_session(session) && is_stamped(self.opening, session, messages)
+    }
+
     /// Whether places are left for that many messages.
-    fn has_places(&self, number: usize) -> bool
-        ensures { result ≡ nat_le (self.now.next_place + number) machine.places_end }
+    pub(crate) fn has_places(&self, number: usize) -> bool
+        ensures { result ≡ nat_le ((state_of self.now).next_place + number) machine.places_end }
     {
-        number as u64 <= 9_223_372_036_854_775_808 - self.stations.next_place()
+        number as u64 <= PLACES_END - self.stations.next_place()
     }
 
-    #[tactic(auto, unfolding(jm_machine::specs::Machine::refusal, jm_machine::specs::Machine::reply, jm_machine::specs::Machine::step, jm_machine::specs::Machine::after, jm_machine::specs::Machine::answer, jm_machine::specs::Wants::may_want))]
-    fn open(&mut self, id: ConnectionId) -> Result<Answer, Refusal>
-        ensures { StepFits self.old (Who.Connection id) (Call.Ask Request.Open) result self.new }
+    /// Makes one request.
+    pub(crate) fn ask(&mut self, who: Who, request: &Request) -> Result<Answer, Refusal>
+        ensures { StepFits (state_of self.old) who (Call.Ask request.now) result (state_of self.new) }
     {
-        prepare_open(&mut self.sessions, id)?;
-        make_open(&mut self.sessions, id);
-        Ok(Answer::Done)
-    }
-
-    #[tactic(auto, unfolding(jm_machine::specs::Machine::refusal, jm_machine::specs::Machine::reply, jm_machine::specs::Machine::step, jm_machine::specs::Machine::after, jm_machine::specs::Machine::answer))]
-    fn start(&mut self, id: ConnectionId) -> Result<Answer, Refusal>
-        ensures { StepFits self.old (Who.Connection id) (Call.Ask Request.Start) result self.new }
-    {
-        self.sessions.start(id)?;
-        Ok(Answer::Done)
-    }
-
-    #[tactic(auto, unfolding(jm_machine::specs::Machine::refusal, jm_machine::specs::Machine::reply, jm_machine::specs::Machine::step, jm_machine::specs::Machine::after, jm_machine::specs::Machine::answer))]
-    fn stop(&mut self, id: ConnectionId) -> Result<Answer, Refusal>
-        ensures { StepFits self.old (Who.Connection id) (Call.Ask Request.Stop) result self.new }
-    {
-        self.sessions.stop(id)?;
-        Ok(Answer::Done)
-    }
-
-    #[tactic(auto, unfolding(jm_machine::specs::Machine::refusal, jm_machine::specs::Machine::reply, jm_machine::specs::Machine::step, jm_machine::specs::Machine::after, jm_machine::specs::Machine::answer, jm_machine::specs::Wants::may_want))]
-    fn create_session(&mut self, id: &SessionId, mode: Mode) -> Result<Answer, Refusal>
-        ensures { StepFits self.old (Who.Session id.now) (Call.Ask (Request.CreateSession mode)) result self.new }
-    {
-        prepare_session(&mut self.sessions, id)?;
-        make_session(&mut self.sessions, id, mode);
-        Ok(Answer::Done)
-    }
-
-    fn create_consumer(
-        &mut self,
-        session: &SessionId,
-        id: ConsumerId,
-        topic: &Name,
-        selector: &Option<Str>,
-    ) -> Result<Answer, Refusal>
-        ensures { StepFits self.old (Who.Session session.now) (Call.Ask (Request.CreateConsumer id topic.now selector.now)) result self.new }
-    {
-        let decision = prepare_create(
-            &mut self.sessions,
-            &mut self.subs,
-            &mut self.stations,
-            session,
-            id,
-            topic,
-            selector,
-        )?;
-        make_create(
-            &mut self.sessions,
-            &mut self.subs,
-            &mut self.stations,
-            session,
-            id,
-            decision,
-        );
-        Ok(Answer::Done)
-    }
-
-    fn receive(
-        &mut self,
-        session: &SessionId,
-        id: ConsumerId,
-        now: Moment,
-    ) -> Result<Answer, Refusal>
-        ensures { StepFits self.old (Who.Session session.now) (Call.Ask (Request.Receive id now)) result self.new }
-    {
-        let key = receiving_key(&self.sessions, session, id)?;
-        let taking = prepare_delivery(&self.stations, key, now)?;
-        Ok(make_delivery(&mut self.stations, taking, now))
-    }
-
-    #[tactic(auto, unfolding(jm_machine::specs::Machine::publish_refusal, jm_machine::specs::Machine::reply, jm_machine::specs::Machine::step))]
-    fn publish_by(&mut self, who: Who, messages: &[Message]) -> Result<Answer, Refusal>
-        ensures { StepFits self.old who (Call.Publish messages.now) result self.new }
-    {
-        match who {
-            Who::Connection(_) => Err(Refusal::IllegalState),
-            Who::Session(session) => {
-                self.publish_from(&session, messages)?;
-                Ok(Answer::Done)
-            }
-        }
-    }
-
-    /// Publishes copies of messages that the session stamped.
-    #[tactic(auto, unfolding(jm_machine::specs::Machine::publish_refusal, jm_machine::specs::Machine::reply, jm_machine::specs::Machine::step, jm_machine::specs::Wants::may_want))]
-    fn publish_from(&mut self, session: &SessionId, messages: &[Message]) -> Result<(), Refusal>
-        ensures { PublishFits self.old session.now messages.now result self.new }
-    {
-        if !(self.is_open_session(session) && is_stamped(self.opening, session, messages)) {
-            return Err(Refusal::IllegalState);
-        }
-        if !self.has_places(messages.len()) {
-            return Err(Refusal::Exhausted);
-        }
-        self.publish(messages)
+        let change = self.plan_request(who, request)?;
+        Ok(self.install(change))
     }
 
     /// Publishes a message that the session stamped.
@@ -343,7 +219,7 @@ impl CoreState {
         session: &SessionId,
         message: Message,
     ) -> Result<(), Refusal>
-        ensures { PublishFits self.old session.now (message ∷ []) result self.new }
+        ensures { PublishFits (state_of self.old) session.now (message ∷ []) result (state_of self.new) }
     {
         if !(self.is_open_session(session) && is_stamped_by(self.opening, session, &message)) {
             return Err(Refusal::IllegalState);
@@ -354,29 +230,12 @@ impl CoreState {
         self.publish_one(message)
     }
 
-    /// Brings copies of the messages to the subscriptions that accept them, each at a place of its own.
-    fn publish(&mut self, messages: &[Message]) -> Result<(), Refusal>
-        requires { self.old.next_place + length messages.now ≤ machine.places_end }
-        ensures ok { OnOk result (self.new ≡ machine.published self.old messages.now) }
-        ensures refused { IfErr result (λ refusal. refusal ≡ Memory) }
-        ensures err { OnErr result (self.new ≡ self.old) }
-    {
-        let publications = prepare_publications(
-            self.alloc,
-            &self.subs,
-            &mut self.stations,
-            messages,
-        )?;
-        make_publications(&mut self.stations, publications);
-        Ok(())
-    }
-
     /// Brings the message to the subscriptions that accept it, at the next place.
     fn publish_one(&mut self, message: Message) -> Result<(), Refusal>
-        requires { self.old.next_place + 1 ≤ machine.places_end }
-        ensures ok { OnOk result (self.new ≡ machine.published self.old (message ∷ [])) }
+        requires { self.old.held.next_place + 1 ≤ machine.places_end }
+        ensures ok { OnOk result (state_of self.new ≡ machine.published (state_of self.old) (message ∷ [])) }
         ensures refused { IfErr result (λ refusal. refusal ≡ Memory) }
-        ensures err { OnErr result (self.new ≡ self.old) }
+        ensures err { OnErr result (state_of self.new ≡ state_of self.old) }
     {
         let publication = prepare_publication(&self.subs, &mut self.stations, message, 1)?;
         make_publication(&mut self.stations, publication);

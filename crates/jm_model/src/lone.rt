@@ -10,6 +10,7 @@ ghost use Rattle.jm_machine.specs.Rows.{fresh};
 ghost use Rattle.jm_machine.specs.Machine as machine;
 ghost use Rattle.jm_machine.specs.Lone as spec;
 ghost use Rattle.jm_machine.specs.Lone.Item.{Called};
+ghost use Rattle.jm_core.specs.Provider.{state_of};
 ghost use Rattle.jm_model.specs.Owners.{scope};
 ghost use Rattle.jm_model.specs.Answers.{Answers};
 
@@ -181,7 +182,7 @@ impl Lone {
     /// What the opening holds of the owner's subscription.
     #[tactic(auto, unfolding(jm_machine::specs::Lone::lone_of, jm_machine::specs::Life::own_life))]
     pub(crate) fn of(alloc: Global, opening: &Core, owner: &Owner) -> Result<Lone, AllocError>
-        ensures { IfOk result (λ lone. lone ≡ spec.lone_of (scope owner.now) opening.now) }
+        ensures { IfOk result (λ lone. lone ≡ spec.lone_of (scope owner.now) (state_of opening.now)) }
     {
         let key = owner.key();
         let connections = own_connections(alloc, owner, opening.connections())?;

@@ -8,6 +8,7 @@ ghost use Rattle.jm_model.specs.Faults.{Stands};
 ghost use Rattle.std.specs.List.{list_all, list_any};
 ghost use Rattle.jm_dest.specs.Keys.{key_eq};
 ghost use Rattle.jm_machine.specs.Lone as spec;
+ghost use Rattle.jm_core.specs.Provider.{state_of};
 ghost use Rattle.jm_model.specs.Owners.{scope};
 
 use crate::fault::LoneFault;
@@ -111,7 +112,7 @@ fn is_made(consumers: &[Consumer], entries: &[Entry], session: &SessionId, id: C
 /// Whether the key is that of an unshared topic subscription, and its number names nothing else in the
 /// opening.
 fn is_unshared(key: &Key, opening: &Core) -> bool
-    ensures { result ≡ isolation.is_unshared key.now opening.now }
+    ensures { result ≡ isolation.is_unshared key.now (state_of opening.now) }
 {
     match key {
         Key::Own(session, consumer) => {
@@ -135,8 +136,8 @@ pub fn lone_replies(
     key: &Key,
 ) -> Result<Vec<(usize, Reply)>, LoneFault>
     ensures { MatchResult result
-        (λ replies. (replies.items ≡ isolation.alone key.now opening.now entries.now) × (isolation.is_unshared key.now opening.now ≡ true))
-        (λ fault. Stands fault (isolation.is_unshared key.now opening.now)) }
+        (λ replies. (replies.items ≡ isolation.alone key.now (state_of opening.now) entries.now) × (isolation.is_unshared key.now (state_of opening.now) ≡ true))
+        (λ fault. Stands fault (isolation.is_unshared key.now (state_of opening.now))) }
 {
     if !is_unshared(key, opening) {
         return Err(LoneFault::NotUnshared);

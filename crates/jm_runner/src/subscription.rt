@@ -1,4 +1,5 @@
 ghost use Rattle.std.specs.Prelude.{◌≡◌, ◌≤◌, ◌+◌, Some, true, string_bytes, IfOk, IfErr, MatchResult};
+ghost use Rattle.jm_core.specs.Provider.{state_of};
 ghost use Rattle.jm_machine.specs.Isolation.{is_unshared};
 ghost use Rattle.jm_machine.specs.Machine.{new_core};
 ghost use Rattle.jm_scenario.specs.Key.{key_of_text};
@@ -136,7 +137,7 @@ fn lines_from(
     calls: &[ClientCall],
     replies: &[Reply],
 ) -> Result<String, Fault>
-    requires { opening.now ≡ new_core 1 }
+    requires { state_of opening.now ≡ new_core 1 }
     ensures ok { IfOk result (λ lines. (string_bytes lines ≡ spec.lines_alone key.now calls.now replies.now)
         × (is_unshared key.now (new_core 1) ≡ true)) }
     ensures err { IfErr result (spec.RefusesKey key.now) }

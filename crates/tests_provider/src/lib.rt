@@ -10,6 +10,8 @@ mod copies;
 #[cfg(test)]
 mod lone;
 #[cfg(test)]
+mod plans;
+#[cfg(test)]
 mod runs;
 #[cfg(test)]
 mod sends;

@@ -55,7 +55,7 @@ fn each_has_rows(core: &Core) -> Result<bool, AllocError> {
 
 /// Whether the core holds two connections, two sessions, two consumers, and two subscriptions, each with a row of its own
 /// message, has used two places, and is of opening 1.
-fn has_run(core: &Core) -> bool {
+pub(crate) fn has_run(core: &Core) -> bool {
     core.connections().len() == 2
         && core.sessions().len() == 2
         && core.consumers().len() == 2

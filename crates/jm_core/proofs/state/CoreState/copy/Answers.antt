@@ -1,4 +1,4 @@
-use Rattle.std.proofs.Common.{ap}
+use Rattle.std.proofs.Common.{ap, refl}
 use Rattle.jm_session.specs.Known.{Known}
 use Rattle.jm_stations.specs.Stations.{Stations}
 use Rattle.jm_core.proofs.Seen.{stations_copied, sound_copied}
@@ -20,4 +20,4 @@ returns c =
     let consumers = ap (λ (x : Known). x.consumers) c.in_ok-sessions.ensures in
     let list = ap (λ (x : Stations). x.list) c.in_ok-stations.ensures in
     let place = ap (λ (x : Stations). x.next_place) c.in_ok-stations.ensures in
-    rw (life, consumers, c.in_ok-subs.ensures, list, place, stations_copied i.subs.list i.stations.list) c.self.view_is
+    rw (life, consumers, c.in_ok-subs.ensures, list, place, stations_copied i.subs.list i.stations.list, ← c.self.view_is) refl

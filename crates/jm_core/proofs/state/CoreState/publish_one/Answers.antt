@@ -1,6 +1,7 @@
-use Rattle.std.proofs.Common.{◌≤◌, ◌+◌, ◌∷◌, [], ◌∙◌, ap, sym, subst}
+use Rattle.std.proofs.Common.{◌≤◌, ◌+◌, ◌∷◌, [], ◌∙◌, ap, refl, sym, subst}
 use Rattle.std.proofs.lemmas.Result.{err_from_is_err_and}
-use Rattle.jm_machine.specs.Machine.{State, places_end}
+use Rattle.jm_machine.specs.Machine.{places_end}
+use Rattle.jm_core.specs.Provider.{Provider}
 use Rattle.jm_core.proofs.Stations.{more_room}
 use Rattle.jm_core.proofs.Sound.{sound_room}
 use Rattle.jm_core.proofs.Published.{one_sent, one_published, publication_sound, publication_seen}
@@ -17,7 +18,7 @@ returns-in_err-publication-clause-err c =
     let p = err_from_is_err_and c.from_residual.result c.from_residual.ensures.1 in
     let h = c.in_err-publication.ensures in
     let i = c.self.inside in
-    rw (p.1, h.next_place, more_room i.subs.list i.stations.list c.prepare_publication.new.stations.list h.list) c.self.view_is
+    rw (p.1, h.next_place, more_room i.subs.list i.stations.list c.prepare_publication.new.stations.list h.list, ← c.self.view_is) refl
 
 pub invariant_of-self-2 : goal.invariant_of-self-2
 invariant_of-self-2 c =
@@ -27,7 +28,7 @@ invariant_of-self-2 c =
     let mid = c.prepare_publication.new.stations.list in
     let new = c.make_publication.new.stations.list in
     let x = c.in_ok-publication.publication in
-    let Room : State → Type 0 = λ s. s.next_place + 1 ≤ places_end in
+    let Room : Provider → Type 0 = λ p. p.held.next_place + 1 ≤ places_end in
     let room = subst Room (sym c.self.view_is) c.requires in
     rw (m.keys, m.next_place, h.keys, h.next_place)
     (publication_sound i.sessions.consumers i.subs.list i.stations.keys i.stations.list mid new i.stations.next_place (i.stations.next_place + 1) (x ∷ []) c.self.invariant h.list (one_sent 1 i.subs.list mid x h.ready) (one_published i.stations.next_place mid new x (rw h.next_place at m.list)) room)

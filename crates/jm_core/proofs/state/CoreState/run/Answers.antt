@@ -1,13 +1,14 @@
 use Rattle.std.proofs.Common.{◌∙◌, refl, sym, ap, arith, ◌++◌, length, [], ◌∷◌}
 use Rattle.std.proofs.lemmas.List.{length-append}
 use Rattle.std.specs.Vec.Iter.{into_iter_items}
+use Rattle.jm_core.specs.Provider.{state_of}
 use Rattle.jm_core.specs.Runs.{progress}
 use Rattle.jm_core.proofs.Sends.{begins, fits_more, list_assoc, nothing_left}
 use Rattle.jm_core.proofs.state.CoreState.run.Goals as goal
 
 pub loop-call-init : goal.loop-call-init
 loop-call-init c = (
-  rw c.in_ok-replies.ensures.items (begins c.args.self.now c.in_ok-sends.sends c.in_ok-sends.ensures.sent),
+  rw c.in_ok-replies.ensures.items (begins (state_of c.args.self.now) c.in_ok-sends.sends c.in_ok-sends.ensures.sent),
   c.in_ok-replies.ensures.len,
   (let room = c.in_ok-replies.ensures.capacity in let calls = c.len.ensures in omega (arith, room, calls, c.args.calls.ok)),
   sym c.into_iter-call-iterator.ensures.into_iter_gives.0,
@@ -27,7 +28,7 @@ push_reserved-requires c =
 
 pub loop-call-preserved : goal.loop-call-preserved
 loop-call-preserved c = (
-  rw c.push_reserved.ensures.items (fits_more _ c.loop-call.yielded c.loop-call.replies.items (progress c.loop-call.self c.loop-call.sends) c.in-Some.call c.answer.result (progress c.answer.new.self c.answer.new.sends) c.loop-call.invariant.0 c.answer.ensures.owed),
+  rw c.push_reserved.ensures.items (fits_more _ c.loop-call.yielded c.loop-call.replies.items (progress (state_of c.loop-call.self) c.loop-call.sends) c.in-Some.call c.answer.result (progress (state_of c.answer.new.self) c.answer.new.sends) c.loop-call.invariant.0 c.answer.ensures.owed),
   omega (arith, length-append c.loop-call.yielded (c.in-Some.call ∷ [])),
   omega arith,
   c.loop-call.invariant.3 ∙ ap (λ rest. c.loop-call.yielded ++ rest) c.in-Some.ensures.steps.0 ∙ list_assoc c.loop-call.yielded (c.in-Some.call ∷ []) (into_iter_items c.next.new.self),
@@ -36,7 +37,7 @@ loop-call-preserved c = (
 
 pub returns-clause-ok : goal.returns-clause-ok
 returns-clause-ok c = (
-  progress c.loop-call.self c.loop-call.sends,
+  progress (state_of c.loop-call.self) c.loop-call.sends,
   rw (← nothing_left c.args.calls.items c.loop-call.yielded (into_iter_items c.loop-call.call-iterator) c.loop-call.invariant.3 (sym c.loop-call.call-iterator.rest.ok.0 ∙ c.in-None.ensures.steps.0)) c.loop-call.invariant.0,
   refl,
 )

@@ -1,0 +1,106 @@
+-- Plans: steps that are prepared. No cause stands against the step, and there is room for what it changes.
+use Rattle.std.specs.Prelude.{◌≡◌, ◌≤◌, ◌<◌, ◌+◌, ◌&&◌, ℕ, true, All, IfSome, List, Option, Result, Ok, Err, MatchBool, MatchResult, map, length, None, is_some}
+use Rattle.jm_base.specs.declared.refusal.Refusal.{Refusal}
+use Rattle.jm_dest.specs.declared.session.SessionId.{SessionId}
+use Rattle.jm_dest.specs.declared.key.Key.TheVariants.{Own}
+use Rattle.jm_header.specs.declared.content.Content.{Content}
+use Rattle.jm_machine.specs.declared.answer.Answer.{Answer}
+use Rattle.jm_machine.specs.declared.call.Who.{Who}
+use Rattle.jm_machine.specs.declared.call.Who.TheVariants.{Connection, Session}
+use Rattle.jm_machine.specs.declared.call.Call.{Call}
+use Rattle.jm_machine.specs.declared.call.Call.TheVariants.{Ask, Publish}
+use Rattle.jm_machine.specs.declared.call.Request.TheVariants as request
+use Rattle.jm_machine.specs.Life.{connection_of, is_new_session, mode_of}
+use Rattle.jm_machine.specs.Machine.{State, defined, is_stamped, may_begin, places_end, reply}
+use Rattle.jm_machine.specs.Selectors.{selector_refusal}
+use Rattle.jm_machine.specs.Wants.{is_want, may_want}
+use Rattle.jm_session.specs.Known.{may_receive}
+use Rattle.jm_sub.specs.Subscriptions.{Subscription}
+use Rattle.jm_core.specs.declared.publish.Publication.{Publication}
+use Rattle.jm_core.specs.declared.receive.Taking.{Taking}
+use Rattle.jm_core.specs.declared.plan.Change.{Change}
+use Rattle.jm_core.specs.declared.plan.Change.TheVariants as change
+use Rattle.jm_core.specs.declared.plan.Plan.{Plan}
+use Rattle.jm_core.specs.Provider.{Provider, state_of}
+use Rattle.jm_core.specs.Publications.{IsReady}
+use Rattle.jm_core.specs.Steps.{StepFits}
+use Rattle.jm_core.specs.Takings.{IsTaken, receiving}
+
+-- the call makes the session's consumer of that number: the number is free, the decision is that of the call's topic and
+-- selector, which is read, and there is room for the consumer, its subscription and its key
+pub record IsCreating (p : Provider) (who : Who) (call : Call) (s : SessionId) (c : ℕ) (decision : Subscription) : Type 0 where
+  pub topic : List ℕ
+  pub selector : Option (List ℕ)
+  pub sender : who ≡ Session s
+  pub asked : call ≡ Ask (request.CreateConsumer c topic selector)
+  pub decided : decision ≡ record { key = Own s c; definition = defined topic selector }
+  pub valid : selector_refusal selector ≡ None
+  pub begins : may_begin p.known.life p.known.consumers s c ≡ true
+  pub room : 0 < p.known.spare
+  pub subs_room : 0 < p.subscriptions.spare
+  pub key_room : 0 < p.held.key_room
+
+-- the call receives at that moment, as it may, and takes what stands under the consumer's key, with the copy that it wants
+pub record IsReceiving (p : Provider) (who : Who) (call : Call) (taking : Option Taking) (now : ℕ) : Type 0 where
+  pub session : SessionId
+  pub consumer : ℕ
+  pub sender : who ≡ Session session
+  pub asked : call ≡ Ask (request.Receive consumer now)
+  pub allowed : may_receive p.known.life p.known.consumers session consumer ≡ true
+  pub taken : IsTaken (receiving p.known.life p.known.consumers session consumer) now p.held.keys p.held.list taking
+  pub within : IfSome taking (λ x. x.index < length p.held.list)
+
+-- the call publishes those messages: its open session stamped them, each goes to the subscriptions that accept it, and
+-- there are places and room for all of them
+pub record IsPublishing (p : Provider) (who : Who) (call : Call) (publications : List Publication) : Type 0 where
+  pub session : SessionId
+  pub messages : List Content
+  pub sender : who ≡ Session session
+  pub asked : call ≡ Publish messages
+  pub same : map (λ (x : Publication). x.message) publications ≡ messages
+  pub stamped : (is_some (mode_of p.known.life session) && is_stamped p.opening session messages) ≡ true
+  pub places : p.held.next_place + length messages ≤ places_end
+  pub ready : All (IsReady (length messages) p.subscriptions.list p.held.list) publications
+  pub room : length messages ≤ p.held.message_room
+
+-- the change is that of the caller's call on what is held: no cause stands against it, and there is room for it
+abbrev pub IsChange : Provider → Who → Call → Change → Type 0
+IsChange p who call (change.Open c) =
+    (who ≡ Connection c) × (call ≡ Ask request.Open) × (connection_of p.known.life.connections c ≡ None) × (0 < p.known.spare)
+IsChange p who call (change.Start c) =
+    (who ≡ Connection c) × (call ≡ Ask request.Start) × (is_some (connection_of p.known.life.connections c) ≡ true)
+IsChange p who call (change.Stop c) =
+    (who ≡ Connection c) × (call ≡ Ask request.Stop) × (is_some (connection_of p.known.life.connections c) ≡ true)
+IsChange p who call (change.CreateSession s mode) =
+    (who ≡ Session s) × (call ≡ Ask (request.CreateSession mode)) × (is_new_session p.known.life s ≡ true) × (0 < p.known.spare)
+IsChange p who call (change.CreateConsumer s c decision) = IsCreating p who call s c decision
+IsChange p who call (change.Receive taking now) = IsReceiving p who call taking now
+IsChange p who call (change.Publish publications) = IsPublishing p who call publications.items
+
+-- the plan is that of the caller's call, on the core as it stands
+abbrev pub IsPlan : Provider → Who → Call → Plan → Type 0
+IsPlan p who call plan = IsChange p who call plan.change
+
+-- the change is that of some call, on what is held
+abbrev pub IsPlannedChange : Provider → Change → Type 0
+IsPlannedChange p change = (who : Who) × (call : Call) × IsChange p who call change
+
+-- the plan is that of some call, on the core as it stands
+abbrev pub IsPlanned : Provider → Plan → Type 0
+IsPlanned p plan = IsPlannedChange p plan.change
+
+-- the refusal is the machine's; or it says that memory is wanted, only where the call takes memory
+abbrev pub IsRefused : State → Who → Call → Refusal → Type 0
+IsRefused state who call refusal = MatchBool (is_want (Err refusal)) (may_want state who call ≡ true) (Err refusal ≡ reply state who call)
+
+-- planning leaves the state as it was, and gives the change of the call, or why it is refused
+abbrev pub PlanFits : Provider → Who → Call → Result Change Refusal → Provider → Type 0
+PlanFits old who call result new = (state_of new ≡ state_of old) × MatchResult result (λ change. IsChange new who call change) (λ refusal. IsRefused (state_of old) who call refusal)
+
+-- the answer and the state are those of the machine's step, for the call that the change is of
+abbrev pub ChangeFits : Provider → Change → Answer → Provider → Type 0
+ChangeFits old change answer new = (who : Who) (call : Call) → IsChange old who call change → StepFits (state_of old) who call (Ok answer) (state_of new)
+
+-- the same of a plan
+abbrev pub InstallFits : Provider → Plan → Answer → Provider → Type 0
+InstallFits old plan answer new = ChangeFits old plan.change answer new
