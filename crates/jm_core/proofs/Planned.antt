@@ -1,6 +1,6 @@
 -- What is planned, once it is made, is the machine's step.
 use Rattle.std.proofs.Common.{◌≡◌, ◌≤◌, ◌+◌, ◌++◌, ◌∷◌, [], ℕ, Bool, true, false, List, map, length, refl, ap, sym, subst, ◌∙◌, arith, Option, Some, None, Ok, Err}
-use Rattle.std.specs.Prelude.{◌&&◌, MatchBool, is_some, nat_le}
+use Rattle.std.specs.Prelude.{◌&&◌, IfErr, MatchBool, OnErr, OnOk, Result, is_some, nat_le}
 use Rattle.std.proofs.lemmas.Bool.Decides.{nat_tests}
 use Rattle.std.proofs.lemmas.List.{length-map}
 use Rattle.jm_base.specs.declared.mode.Mode.{Mode}
@@ -27,7 +27,7 @@ use Rattle.jm_core.specs.declared.publish.Publication.{Publication}
 use Rattle.jm_core.specs.declared.plan.Change.TheVariants as change
 use Rattle.jm_core.specs.Plans.{IsChange, IsCreating, IsPublishing, IsRefused}
 use Rattle.jm_core.specs.Provider.{Provider, state_of}
-use Rattle.jm_core.specs.Steps.{StepFits}
+use Rattle.jm_core.specs.Steps.{PublishFits, StepFits}
 use Rattle.jm_core.proofs.Fits.{create_made}
 
 -- what callers see, of these parts
@@ -112,3 +112,10 @@ pub all_published : (p : Provider) (who : Who) (call : Call) (xs : List Publicat
 unfolding reply step publish_refusal
 all_published p who call xs new h e =
     rw (h.sender, h.asked, h.stamped, places_left p.held.next_place (length h.messages) h.places) (refl, e)
+
+-- one message
+pub one_fits : (state new : State) (s : SessionId) (m : Content) (r : Result (Unit {0}) Refusal) → (is_some (mode_of state.life s) && is_stamped state.opening s (m ∷ [])) ≡ true → nat_le (state.next_place + 1) places_end ≡ true →
+    OnOk r (new ≡ published state (m ∷ [])) → IfErr r (λ e. e ≡ Memory) → OnErr r (new ≡ state) → PublishFits state s (m ∷ []) r new
+unfolding reply step publish_refusal
+one_fits state new s m (Ok u) e f ok refused err = rw (e, f) (refl, ok)
+one_fits state new s m (Err r) e f ok refused err = refused_fits state new (Session s) (Publish (m ∷ [])) r err (wants_room state s (m ∷ []) r e f refused)

@@ -1,5 +1,5 @@
 -- Plans: steps that are prepared. No cause stands against the step, and there is room for what it changes.
-use Rattle.std.specs.Prelude.{◌≡◌, ◌≤◌, ◌<◌, ◌+◌, ◌&&◌, ℕ, true, All, IfSome, List, Option, Result, Ok, Err, MatchBool, MatchResult, map, length, None, is_some}
+use Rattle.std.specs.Prelude.{◌≡◌, ◌≤◌, ◌<◌, ◌+◌, ◌&&◌, ℕ, true, All, IfSome, List, Option, None, Result, Ok, Err, MatchBool, MatchResult, map, length, is_some}
 use Rattle.jm_base.specs.declared.refusal.Refusal.{Refusal}
 use Rattle.jm_dest.specs.declared.session.SessionId.{SessionId}
 use Rattle.jm_dest.specs.declared.key.Key.TheVariants.{Own}
@@ -91,15 +91,21 @@ IsPlanned p plan = IsPlannedChange p plan.change
 
 -- the refusal is the machine's; or it says that memory is wanted, only where the call takes memory
 abbrev pub IsRefused : State → Who → Call → Refusal → Type 0
-IsRefused state who call refusal = MatchBool (is_want (Err refusal)) (may_want state who call ≡ true) (Err refusal ≡ reply state who call)
+IsRefused state who call refusal =
+    MatchBool (is_want (Err refusal))
+    (may_want state who call ≡ true)
+    (Err refusal ≡ reply state who call)
 
 -- planning leaves the state as it was, and gives the change of the call, or why it is refused
 abbrev pub PlanFits : Provider → Who → Call → Result Change Refusal → Provider → Type 0
-PlanFits old who call result new = (state_of new ≡ state_of old) × MatchResult result (λ change. IsChange new who call change) (λ refusal. IsRefused (state_of old) who call refusal)
+PlanFits old who call result new =
+    (state_of new ≡ state_of old)
+    × MatchResult result (IsChange new who call) (IsRefused (state_of old) who call)
 
 -- the answer and the state are those of the machine's step, for the call that the change is of
 abbrev pub ChangeFits : Provider → Change → Answer → Provider → Type 0
-ChangeFits old change answer new = (who : Who) (call : Call) → IsChange old who call change → StepFits (state_of old) who call (Ok answer) (state_of new)
+ChangeFits old change answer new =
+    (who : Who) (call : Call) → IsChange old who call change → StepFits (state_of old) who call (Ok answer) (state_of new)
 
 -- the same of a plan
 abbrev pub InstallFits : Provider → Plan → Answer → Provider → Type 0

@@ -20,6 +20,7 @@ use jm_stations::Stations;
 use jm_sub::Subs;
 use std::alloc::{AllocError, Global};
 use std::marker::Model;
+use std::slice::from_ref;
 
 /// What the core holds. Contracts see it as a `Provider`: the parts of the machine's state, each with its
 /// room. In that state (`state_of`) the stations are the subscriptions, each with what is held under its key.
@@ -51,14 +52,6 @@ impl Model for CoreState {
 
 /// The first number that is no place (ours).
 const PLACES_END: u64 = 1 << 63;
-
-/// Whether the message was stamped by this session in this opening.
-fn is_stamped_by(opening: Number, session: &SessionId, message: &Message) -> bool
-    ensures { result ≡ machine.is_stamped opening session.now (message.now ∷ []) }
-{
-    let sender = message.sender();
-    sender.opening == opening && same_session(&sender.session, session)
-}
 
 /// Whether each message was stamped by this session in this opening.
 fn is_stamped(opening: Number, session: &SessionId, messages: &[Message]) -> bool
@@ -213,7 +206,6 @@ impl CoreState {
     }
 
     /// Publishes a message that the session stamped.
-    #[tactic(auto, unfolding(jm_machine::specs::Machine::publish_refusal, jm_machine::specs::Machine::reply, jm_machine::specs::Machine::step, jm_machine::specs::Wants::may_want))]
     pub(crate) fn publish_one_from(
         &mut self,
         session: &SessionId,
@@ -221,7 +213,7 @@ impl CoreState {
     ) -> Result<(), Refusal>
         ensures { PublishFits (state_of self.old) session.now (message ∷ []) result (state_of self.new) }
     {
-        if !(self.is_open_session(session) && is_stamped_by(self.opening, session, &message)) {
+        if !self.has_stamped(session, from_ref(&message)) {
             return Err(Refusal::IllegalState);
         }
         if !self.has_places(1) {
