@@ -1,8 +1,7 @@
 """Tests of tools/wrong-bodies: small repositories with planted edits, and the checker itself."""
 from __future__ import annotations
 
-import importlib.machinery
-import importlib.util
+import importlib
 import os
 import subprocess
 import sys
@@ -53,6 +52,9 @@ CRATES = {
         HEAD + LARGER + LIMITED,
         [
             ("limits_not_less", "limited", "if a < LIMIT", "if a <= LIMIT"),
+            # In twins, a wrong body and one that is right.
+            ("limits_to_ten", "limited", "else { LIMIT }", "else { LIMIT + 1 }"),
+            ("limits_to_nine", "limited", "else { LIMIT }", "else { 9 }"),
             ("names_nothing", "larger", "else { a }", "else { c }"),
             ("stands_twice", "larger", "a: u64", "c: u64"),
             ("stands_nowhere", "larger", "if a < c", "if a < d"),
@@ -111,6 +113,10 @@ class OverTheChecker(unittest.TestCase):
     def test_a_right_body_fails(self) -> None:
         self.assertEqual(self.line("limits_not_less"), "limited NOT REFUSED: it is still proved")
 
+    def test_each_edit_of_one_function_is_judged_alone(self) -> None:
+        self.assertRegex(self.line("limits_to_ten"), "^limited refused: `returns")
+        self.assertEqual(self.line("limits_to_nine"), "limited NOT REFUSED: it is still proved")
+
     def test_a_refusal_by_a_callee_alone_fails(self) -> None:
         told = self.line("largest_in_another_order")
         self.assertRegex(told, "^largest NOT REFUSED: it is still proved")
@@ -129,7 +135,7 @@ class OverTheChecker(unittest.TestCase):
         self.assertEqual(self.line("larger_is_first"), "NOT TRIED: unproved is not proved without it")
 
     def test_the_last_line_counts_them(self) -> None:
-        self.assertEqual((self.lines[-1], self.status), ("2 passed, 7 failed", 1))
+        self.assertEqual((self.lines[-1], self.status), ("3 passed, 8 failed", 1))
 
 
 class AlongsideTheChecker(unittest.TestCase):
@@ -160,16 +166,16 @@ class Groups(unittest.TestCase):
 
     @classmethod
     def setUpClass(cls) -> None:
-        loader = importlib.machinery.SourceFileLoader("wrong_bodies", TOOL)
-        cls.tool = importlib.util.module_from_spec(importlib.util.spec_from_loader("wrong_bodies", loader))
-        sys.modules["wrong_bodies"] = cls.tool
-        loader.exec_module(cls.tool)
+        cls.tool = importlib.import_module("edits")
 
     def test_a_text_inside_its_function_goes_by_the_function(self) -> None:
         self.assertEqual(self.tool.group_of(self.SOURCE, "    A\n", "a::one"), "a::one")
 
     def test_a_text_inside_a_cycle_goes_by_the_cycle(self) -> None:
         self.assertEqual(self.tool.group_of(self.SOURCE, "three()", "a::two"), "#[cycle(turn)]")
+
+    def test_a_function_ends_where_its_brace_does(self) -> None:
+        self.assertEqual(self.tool.function_of(self.SOURCE, "three()"), ("fn two() {\n    three()\n}\n", "#[cycle(turn)]\n"))
 
     def test_a_text_elsewhere_goes_alone(self) -> None:
         self.assertIsNone(self.tool.group_of(self.SOURCE, "= 1;", "a::one"))

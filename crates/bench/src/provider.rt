@@ -3,7 +3,7 @@
 use jm_base::{List, Mode, Refusal};
 use jm_core::{Answer, Call, Core, Request, Step, Who};
 use jm_dest::{ConnectionId, ConsumerId, Destination, Moment, Name, Number, SessionId};
-use jm_header::{Draft, Sender, stamp};
+use jm_header::{Draft, Message, Sender, stamp};
 use std::alloc::Global;
 
 /// A message to be sent.
@@ -31,6 +31,26 @@ pub(crate) struct Provider {
 
 fn topic_name(alloc: Global, topic: u32) -> Result<String, Refusal> {
     Ok(format!(in alloc; "topic{topic}")?)
+}
+
+fn topic(alloc: Global, topic: u32) -> Result<Destination, Refusal> {
+    let name = topic_name(alloc, topic)?;
+    Destination::topic(alloc, name.as_str())
+}
+
+/// Sets what the message of the parcel has beside its destination.
+fn set(draft: &mut Draft, parcel: Parcel) -> Result<(), Refusal> {
+    draft.set_text("work")?;
+    draft.set_priority(parcel.priority)?;
+    draft.set_time_to_live(parcel.time_to_live)
+}
+
+fn draft(alloc: Global, parcel: Parcel) -> Result<Draft, Refusal> {
+    let mut draft = Draft::new(alloc);
+    match set(&mut draft, parcel) {
+        Ok(()) => Ok(draft),
+        Err(refusal) => Err(refusal),
+    }
 }
 
 impl Provider {
@@ -92,30 +112,41 @@ impl Provider {
         Ok(())
     }
 
-    /// Publishes one message.
-    pub(crate) fn send(&mut self, parcel: Parcel) -> Result<(), Refusal> {
-        let alloc = self.alloc;
-        let mut draft = Draft::new(alloc);
-        draft.set_text("work")?;
-        draft.set_priority(parcel.priority)?;
-        draft.set_time_to_live(parcel.time_to_live)?;
-        let name = topic_name(alloc, parcel.topic)?;
-        let destination = Destination::topic(alloc, name.as_str())?;
+    /// The next message of the publisher.
+    fn message(&mut self, parcel: Parcel) -> Result<Message, Refusal> {
         let sender = Sender {
             opening: Number::new(1)?,
             session: self.publisher,
         };
         self.sent = self.sent.saturating_add(1);
         let now = Moment::new(parcel.now)?;
-        let message = stamp(draft, destination, sender, self.sent, now)?;
-        let mut messages = Vec::with_capacity(alloc, 1)?;
+        match (topic(self.alloc, parcel.topic), draft(self.alloc, parcel)) {
+            (Ok(topic), Ok(draft)) => stamp(draft, topic, sender, self.sent, now),
+            (Err(refusal), _) | (_, Err(refusal)) => Err(refusal),
+        }
+    }
+
+    fn publish(&mut self, message: Message) -> Result<(), Refusal> {
+        let Ok(mut messages) = Vec::with_capacity(self.alloc, 1) else {
+            return Err(Refusal::Memory);
+        };
         messages.push_reserved(message);
         let step = Step {
             who: Who::Session(self.publisher),
             call: Call::Publish(List::new(messages)),
         };
-        self.core.step(&step)?;
-        Ok(())
+        match self.core.step(&step) {
+            Ok(_) => Ok(()),
+            Err(refusal) => Err(refusal),
+        }
+    }
+
+    /// Publishes one message.
+    pub(crate) fn send(&mut self, parcel: Parcel) -> Result<(), Refusal> {
+        match self.message(parcel) {
+            Ok(message) => self.publish(message),
+            Err(refusal) => Err(refusal),
+        }
     }
 
     /// Receives for that consumer, and adds the number of the message to the sum.
