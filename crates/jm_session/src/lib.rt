@@ -4,6 +4,7 @@
 #![tactic(auto)]
 
 mod number;
+mod one;
 mod sends;
 mod sessions;
 

@@ -1,6 +1,6 @@
 //! What was opened and made, by number.
 
-ghost use Rattle.std.specs.Prelude.{◌≡◌, ◌+◌, ◌<◌, ◌≤◌, ◌&&◌, ◌++◌, [], ◌∷◌, true, not, is_ok, is_some, IfOk, IfErr, OnOk, OnErr, Some, None, if◌then◌else◌};
+ghost use Rattle.std.specs.Prelude.{◌≡◌, ◌+◌, ◌<◌, ◌≤◌, ◌&&◌, ◌++◌, [], ◌∷◌, true, not, is_ok, is_some, option_to_list, IfOk, IfErr, OnOk, OnErr, Some, None, if◌then◌else◌};
 ghost use Rattle.std.specs.Option.{option_copied};
 ghost use Rattle.jm_base.specs.declared.refusal.Refusal.TheVariants.{IllegalState};
 ghost use Rattle.jm_machine.specs.declared.call.Who.TheVariants.{Connection, Session};
@@ -10,6 +10,7 @@ ghost use Rattle.jm_machine.specs.Machine as machine;
 ghost use Rattle.jm_session.specs.Known.{cause, life_set, may_receive};
 
 use crate::number::ConsumerNumber;
+use crate::one::{one_connection, one_consumer, one_session};
 use indexmap::IndexMap;
 use jm_base::{Mode, Refusal};
 use jm_dest::{ConnectionId, ConsumerId, Key, SessionId};
@@ -59,6 +60,27 @@ impl Sessions {
             sessions: IndexMap::new(alloc),
             consumers: IndexMap::new(alloc),
         }
+    }
+
+    /// What is given of one session, as it is: its connection, the session, and a consumer. `AllocError` where a
+    /// request for memory was refused.
+    pub fn of_one(
+        alloc: Global,
+        connection: Option<ConnectionState>,
+        session: Option<SessionState>,
+        consumer: Option<Consumer>,
+    ) -> Result<Sessions, AllocError>
+        ensures life { IfOk result (λ one. one.life ≡ record { connections = option_to_list connection; sessions = option_to_list session }) }
+        ensures consumers { IfOk result (λ one. one.consumers ≡ option_to_list consumer) }
+    {
+        let connections = one_connection(alloc, connection)?;
+        let sessions = one_session(alloc, session)?;
+        let consumers = one_consumer(alloc, consumer)?;
+        Ok(Sessions {
+            connections,
+            sessions,
+            consumers,
+        })
     }
 
     /// The same connections, sessions and consumers; the room may differ. `AllocError` where a request for

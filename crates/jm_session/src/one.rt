@@ -1,0 +1,53 @@
+//! One connection, session or consumer, or none, by its number.
+
+ghost use Rattle.std.specs.Prelude.{◌≡◌, map, option_to_list, IfOk};
+ghost use Rattle.jm_session.specs.Numbers.{number_of};
+
+use crate::number::ConsumerNumber;
+use indexmap::IndexMap;
+use jm_dest::{ConnectionId, SessionId};
+use jm_machine::{ConnectionState, Consumer, SessionState};
+use std::alloc::{AllocError, Global};
+
+pub(crate) fn one_connection(
+    alloc: Global,
+    connection: Option<ConnectionState>,
+) -> Result<IndexMap<ConnectionId, ConnectionState>, AllocError>
+    ensures { IfOk result (λ one. one.entries ≡ map (λ x. (x.id, x)) (option_to_list connection)) }
+{
+    let mut one = IndexMap::new(alloc);
+    if let Some(connection) = connection {
+        one.insert(connection.id, connection)?;
+    }
+    Ok(one)
+}
+
+pub(crate) fn one_session(
+    alloc: Global,
+    session: Option<SessionState>,
+) -> Result<IndexMap<SessionId, SessionState>, AllocError>
+    ensures { IfOk result (λ one. one.entries ≡ map (λ x. (x.id, x)) (option_to_list session)) }
+{
+    let mut one = IndexMap::new(alloc);
+    if let Some(session) = session {
+        one.insert(session.id, session)?;
+    }
+    Ok(one)
+}
+
+pub(crate) fn one_consumer(
+    alloc: Global,
+    consumer: Option<Consumer>,
+) -> Result<IndexMap<ConsumerNumber, Consumer>, AllocError>
+    ensures { IfOk result (λ one. one.entries ≡ map (λ x. (number_of x, x)) (option_to_list consumer)) }
+{
+    let mut one = IndexMap::new(alloc);
+    if let Some(consumer) = consumer {
+        let number = ConsumerNumber {
+            session: consumer.session,
+            consumer: consumer.id,
+        };
+        one.insert(number, consumer)?;
+    }
+    Ok(one)
+}
