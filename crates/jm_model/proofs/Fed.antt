@@ -16,6 +16,9 @@ use Rattle.jm_machine.specs.Rows.{fresh}
 use Rattle.jm_machine.specs.Entries.{committed}
 use Rattle.jm_machine.specs.Lone.{Scope, Lone, came, lone_after, lone_told, placed, is_answered, lone_replies, lone_end, is_own_call, lone_accepts, fed, at_place}
 use Rattle.jm_machine.specs.Lone.Item.{Called}
+use Rattle.jm_model.specs.declared.owner.Owner.{Owner}
+use Rattle.jm_model.specs.Owners.{scope}
+use Rattle.jm_model.specs.Parts.{seen}
 use Rattle.jm_model.specs.Answers.{Answers}
 
 -- an own call is answered and taken up
@@ -56,11 +59,11 @@ fed_connection S life before l place c request r = go (is_own_connection S.sessi
     go false = (refl, refl)
 
 -- so what is answered to an own call, and held after it, is what an entry of it owes
-pub answers_own : {E : Type 0} (S : Scope) (l : Lone) (who : Who) (request : Request) (r : Result Answer Refusal) → is_own_call S who r ≡ true →
+pub answers_own : {E : Type 0} (o : Owner) (l : Lone) (who : Who) (request : Request) (r : Result Answer Refusal) → is_own_call (scope o) who r ≡ true →
     (answer : Result (Option (Result Answer Refusal)) E) (new : Lone) →
-    IfOk answer (λ o. (o ≡ lone_told S l (Called who request)) × (new ≡ lone_after S l (Called who request))) →
-    IfOk answer (λ o. Answers S l (Asked who request r) o new)
-answers_own S l who request r h (Ok o) new f = λ life before place.
-    let g = fed_own S life before l place who request r h in
-    (ap (placed place) f.0 ∙ sym g.0, f.1 ∙ sym g.1)
-answers_own S l who request r h (Err e) new f = f
+    IfOk answer (λ told. (told ≡ lone_told (scope o) l (Called who request)) × (new ≡ lone_after (scope o) l (Called who request))) →
+    IfOk answer (λ told. Answers o l (Asked who request r) told new)
+answers_own o l who request r h (Ok told) new f = λ life before place.
+    let g = fed_own (scope o) life before l place who request r h in
+    (ap (placed place) f.0 ∙ sym g.0, ap (seen o) (f.1 ∙ sym g.1))
+answers_own o l who request r h (Err e) new f = f

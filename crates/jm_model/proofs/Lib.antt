@@ -1,5 +1,9 @@
 pub mod Records
-pub mod Rows
 pub mod Owners
 pub mod Fed
+pub mod Seen
 pub mod Placing
+pub mod Loaded
+pub mod Accepted
+pub mod Taken
+pub mod Opening

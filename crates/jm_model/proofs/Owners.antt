@@ -1,5 +1,5 @@
 -- An owner's numbers and calls are those of its key.
-use Rattle.std.proofs.Common.{◌≡◌, ℕ, Bool, true, false, cond, List, [], ◌∷◌, refl, ap, sym, subst, ◌∙◌, arith, Option, Some, None}
+use Rattle.std.proofs.Common.{◌≡◌, ℕ, Bool, true, false, cond, List, [], ◌∷◌, refl, ap, sym, subst, ◌∙◌, arith, Option, Some}
 use Rattle.std.specs.Prelude.{◌&&◌, ◌||◌, ◌==◌, not, is_none, Result}
 use Rattle.std.specs.List.{list_all, list_any}
 use Rattle.std.proofs.lemmas.Bool.Decides.{nat_tests}
@@ -17,11 +17,10 @@ use Rattle.jm_machine.specs.declared.entry.Entry.TheVariants.{Asked, Sent}
 use Rattle.jm_machine.specs.declared.state.Consumer.{Consumer}
 use Rattle.jm_machine.specs.Machine.{State, has_number, consumer_of}
 use Rattle.jm_machine.specs.Owns.{is_own}
-use Rattle.jm_machine.specs.Life.{Life}
 use Rattle.jm_machine.specs.Lone.{Scope, Lone, lone_of, lone_replies, feed, belongs, about, is_answered, lone_refusal, lone_reply, lone_did, lone_told, lone_after, creates, first_named, named_by, is_made_for, scope_of}
 use Rattle.jm_machine.specs.Lone.Item.{Called}
 use Rattle.jm_machine.specs.Isolation.{is_unshared, alone}
-use Rattle.jm_model.specs.declared.lone.Owner.{Owner}
+use Rattle.jm_model.specs.declared.owner.Owner.{Owner}
 use Rattle.jm_model.specs.Owners.{scope}
 use Rattle.jm_law.proofs.Same.{session_same, session_refl}
 
@@ -46,7 +45,7 @@ taken_own owner lone new reply request a p q = rw a (ap (λ r. Some r) p, q)
 names_itself : (s : SessionId) (c : ℕ) → (is_own (s ∷ []) s && key_eq (Own s c) (Own s c)) ≡ true
 names_itself s c = grind (arith, nat_tests, session_refl s)
 
-second_true : (x y : Bool) → (x && y) ≡ true → y ≡ true
+pub second_true : (x y : Bool) → (x && y) ≡ true → y ≡ true
 second_true true y h = h
 second_true false y h = cc
 
@@ -121,11 +120,8 @@ owner_scope t d made opening entries u m = λ l. record {
     made_here = made_is t d (first_named (Own t d) entries t d) opening.consumers u ∙ ap (λ b. list_any (has_number t d) opening.consumers || b) (named_all t d entries) ∙ sym m
 
 -- what the owner answers alone is what its key does
-pub owner_alone : (t : SessionId) (d : ℕ) (made : Bool) (opening : State) (entries : List Entry) (lone : Lone) (replies : List (ℕ × Result Answer Refusal)) → is_unshared (Own t d) opening ≡ true → made ≡ numbered t d opening.consumers entries →
+pub owner_alone : (t : SessionId) (d : ℕ) (made : Bool) (opening : State) (entries : List Entry) (replies : List (ℕ × Result Answer Refusal)) → is_unshared (Own t d) opening ≡ true → made ≡ numbered t d opening.consumers entries →
     let S = scope (record { session = t; consumer = d; is_made = made }) in
-    lone ≡ lone_of S opening → ((life : Life) → replies ≡ lone_replies S lone (feed S 0 life [] lone entries)) → replies ≡ alone (Own t d) opening entries
-owner_alone t d made opening entries lone replies u m l r =
-    let S = scope (record { session = t; consumer = d; is_made = made }) in
-    r opening.life
-    ∙ ap (λ (x : Lone). lone_replies S x (feed S 0 opening.life [] x entries)) l
-    ∙ ap (λ (x : Scope). lone_replies x (lone_of x opening) (feed x 0 opening.life [] (lone_of x opening) entries)) (owner_scope t d made opening entries u m)
+    replies ≡ lone_replies S (lone_of S opening) (feed S 0 opening.life [] (lone_of S opening) entries) → replies ≡ alone (Own t d) opening entries
+owner_alone t d made opening entries replies u m r =
+    r ∙ ap (λ (x : Scope). lone_replies x (lone_of x opening) (feed x 0 opening.life [] (lone_of x opening) entries)) (owner_scope t d made opening entries u m)

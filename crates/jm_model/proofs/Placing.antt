@@ -1,5 +1,5 @@
 -- What is answered to an entry, at its place.
-use Rattle.std.proofs.Common.{◌≡◌, ℕ, suc, ◌+◌, ◌<◌, List, [], ◌∷◌, ◌++◌, length, drop, get_or, ap, sym, ◌∙◌, append_assoc, append-nil, Option, add-one}
+use Rattle.std.proofs.Common.{◌≡◌, ℕ, suc, ◌+◌, ◌<◌, List, [], ◌∷◌, ◌++◌, length, drop, get_or, refl, ap, sym, ◌∙◌, append_assoc, append-nil, Option, add-one}
 use Rattle.std.specs.Prelude.{Result}
 use Rattle.std.proofs.Math.Seq.{drop-cons}
 use Rattle.jm_base.specs.declared.refusal.Refusal.{Refusal}
@@ -8,16 +8,24 @@ use Rattle.jm_machine.specs.declared.entry.Entry.{Entry}
 use Rattle.jm_machine.specs.Life.{Life}
 use Rattle.jm_machine.specs.Entries.{life_after_entry}
 use Rattle.jm_machine.specs.Lone.{Scope, Lone, lone_replies, lone_end, fed, at_place, feed, placed}
+use Rattle.jm_model.specs.declared.owner.Owner.{Owner}
+use Rattle.jm_model.specs.Owners.{scope}
+use Rattle.jm_model.specs.Parts.{seen}
 use Rattle.jm_model.specs.Answers.{Answers}
 use Rattle.jm_law.proofs.Steps.{lone_replies-append}
+use Rattle.jm_model.proofs.Seen.{entry_same}
 
 -- what is still to be answered
 abbrev pub to_answer : Scope → ℕ → Life → List Entry → Lone → List Entry → List (ℕ × Result Answer Refusal)
 to_answer S place life before l entries = lone_replies S l (feed S place life before l entries)
 
--- what was answered so far, and is still to be answered, is all, whatever was before
-abbrev pub Remains : Scope → List (ℕ × Result Answer Refusal) → ℕ → Lone → List Entry → List (ℕ × Result Answer Refusal) → Type 0
-Remains S so_far place l entries all = (life : Life) × (before : List Entry) × (so_far ++ to_answer S place life before l entries ≡ all)
+-- what was answered so far, and is still to be answered to an owner that sees the same, is all, whatever was before
+pub record Remains (o : Owner) (so_far : List (ℕ × Result Answer Refusal)) (place : ℕ) (l : Lone) (entries : List Entry) (all : List (ℕ × Result Answer Refusal)) : Type 0 where
+  pub lone : Lone
+  pub life : Life
+  pub before : List Entry
+  pub same : seen o lone ≡ seen o l
+  pub rest : so_far ++ to_answer (scope o) place life before lone entries ≡ all
 
 one_entry : (S : Scope) (place : ℕ) (life : Life) (before : List Entry) (l next : Lone) (e : Entry) (entries : List Entry) (o : Option (Result Answer Refusal)) →
     placed place o ≡ lone_replies S l (at_place place (fed S life before l e)) → next ≡ lone_end S l (fed S life before l e) →
@@ -29,26 +37,35 @@ one_entry S place life before l next e entries o h n =
     ∙ ap (λ (x : Lone). placed place o ++ to_answer S (place + 1) (life_after_entry life e) (e ∷ before) x entries) (sym n)
 
 -- one turn over a list of entries
-pub answer_turn : (S : Scope) (place : ℕ) (l next : Lone) (entries : List Entry) (e : Entry) (o : Option (Result Answer Refusal)) (so_far all : List (ℕ × Result Answer Refusal)) →
-    place < length entries → e ≡ get_or entries place e → Answers S l e o next →
-    Remains S so_far place l (drop place entries) all → Remains S (so_far ++ placed place o) (place + 1) next (drop (place + 1) entries) all
-answer_turn S place l next entries e o so_far all h is f r = (
-  life_after_entry r.0 e,
-  e ∷ r.1,
-  append_assoc so_far (placed place o) (to_answer S (place + 1) (life_after_entry r.0 e) (e ∷ r.1) next (drop (place + 1) entries))
-      ∙ ap (λ xs. so_far ++ xs) (sym (one_entry S place r.0 r.1 l next e (drop (place + 1) entries) o told.0 told.1) ∙ sym (ap (to_answer S place r.0 r.1 l) front))
-      ∙ r.2,
-)
+pub answer_turn : (o : Owner) (place : ℕ) (l next : Lone) (entries : List Entry) (e : Entry) (reply : Option (Result Answer Refusal)) (so_far all : List (ℕ × Result Answer Refusal)) →
+    place < length entries → e ≡ get_or entries place e → Answers o l e reply next →
+    Remains o so_far place l (drop place entries) all → Remains o (so_far ++ placed place reply) (place + 1) next (drop (place + 1) entries) all
+answer_turn o place l next entries e reply so_far all h is f r = record {
+  lone = after;
+  life = life_after_entry r.life e;
+  before = e ∷ r.before;
+  same = both.1 ∙ sym told.1;
+  rest = append_assoc so_far (placed place reply) (to_answer (scope o) (place + 1) (life_after_entry r.life e) (e ∷ r.before) after (drop (place + 1) entries))
+      ∙ ap (λ xs. so_far ++ xs) (sym (one_entry (scope o) place r.life r.before r.lone after e (drop (place + 1) entries) reply (told.0 ∙ sym both.0) refl) ∙ sym (ap (to_answer (scope o) place r.life r.before r.lone) front))
+      ∙ r.rest;
+}
   where
-    told : (placed place o ≡ lone_replies S l (at_place place (fed S r.0 r.1 l e))) × (next ≡ lone_end S l (fed S r.0 r.1 l e))
-    told = f r.0 r.1 place
+    after : Lone
+    after = lone_end (scope o) r.lone (fed (scope o) r.life r.before r.lone e)
+
+    told : (placed place reply ≡ lone_replies (scope o) l (at_place place (fed (scope o) r.life r.before l e))) × (seen o next ≡ seen o (lone_end (scope o) l (fed (scope o) r.life r.before l e)))
+    told = f r.life r.before place
+
+    both : (lone_replies (scope o) r.lone (at_place place (fed (scope o) r.life r.before r.lone e)) ≡ lone_replies (scope o) l (at_place place (fed (scope o) r.life r.before l e)))
+        × (seen o after ≡ seen o (lone_end (scope o) l (fed (scope o) r.life r.before l e)))
+    both = entry_same o r.lone l r.life r.before place e r.same
 
     front : drop place entries ≡ e ∷ drop (place + 1) entries
     front = rw (add-one) (drop-cons entries place e h ∙ ap (λ x. x ∷ drop (suc place) entries) (sym is))
 
 -- where nothing is left, all is answered
-pub all_answered : (S : Scope) (so_far : List (ℕ × Result Answer Refusal)) (place : ℕ) (l : Lone) (entries : List Entry) (all : List (ℕ × Result Answer Refusal)) →
-    entries ≡ [] → Remains S so_far place l entries all → so_far ≡ all
+pub all_answered : (o : Owner) (so_far : List (ℕ × Result Answer Refusal)) (place : ℕ) (l : Lone) (entries : List Entry) (all : List (ℕ × Result Answer Refusal)) →
+    entries ≡ [] → Remains o so_far place l entries all → so_far ≡ all
 unfolding feed
-all_answered S so_far place l entries all e r =
-    sym (append-nil so_far) ∙ sym (ap (λ (xs : List Entry). so_far ++ to_answer S place r.0 r.1 l xs) e) ∙ r.2
+all_answered o so_far place l entries all e r =
+    sym (append-nil so_far) ∙ sym (ap (λ (xs : List Entry). so_far ++ to_answer (scope o) place r.life r.before r.lone xs) e) ∙ r.rest

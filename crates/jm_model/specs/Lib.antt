@@ -1,3 +1,4 @@
+pub mod Owners
+pub mod Parts
 pub mod Answers
 pub mod Faults
-pub mod Owners

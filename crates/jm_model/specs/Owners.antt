@@ -3,7 +3,7 @@ use Rattle.std.specs.Prelude.{◌==◌, ◌&&◌, [], ◌∷◌}
 use Rattle.jm_dest.specs.declared.key.Key.TheVariants.{Own}
 use Rattle.jm_dest.specs.Names.{session_eq}
 use Rattle.jm_machine.specs.Lone.{Scope}
-use Rattle.jm_model.specs.declared.lone.Owner.{Owner}
+use Rattle.jm_model.specs.declared.owner.Owner.{Owner}
 
 -- the owner's key, with its own session, and with its number where it was made
 abbrev pub scope : Owner → Scope

@@ -1,12 +1,13 @@
 //! The lone subscription, executable, and the law of isolation on a core; the laws of the definitions are given out again.
 #![tactic(auto)]
 
-mod delivery;
 mod fault;
 mod law;
 mod lone;
+mod owner;
 mod recorded;
 mod replies;
+mod rows;
 mod subscription;
 
 pub use fault::LoneFault;

@@ -1,242 +1,169 @@
 //! One subscription alone: what it holds, and what it answers to what it is fed.
 
-ghost use Rattle.std.specs.Prelude.{◌≡◌, ◌&&◌, ◌==◌, ◌++◌, [], ◌∷◌, is_some, is_none, filter, IfOk, OnOk, Some, option_and_then, if◌then◌else◌};
-ghost use Rattle.jm_dest.specs.Names.{session_eq};
+ghost use Rattle.std.specs.Prelude.{◌≡◌, ◌&&◌, ◌++◌, [], ◌∷◌, true, is_none, option_to_list, IfOk, OnOk, Some, if◌then◌else◌};
+ghost use Rattle.std.specs.Option.{option_copied};
+ghost use Rattle.jm_dest.specs.declared.key.Key.{Key};
+ghost use Rattle.jm_header.specs.declared.content.Content.{Content};
 ghost use Rattle.jm_machine.specs.Owns as owns;
 ghost use Rattle.jm_machine.specs.Life as life;
-ghost use Rattle.jm_dest.specs.Keys.{key_eq};
-ghost use Rattle.jm_machine.specs.Rows as rows_spec;
-ghost use Rattle.jm_machine.specs.Rows.{fresh};
+ghost use Rattle.jm_machine.specs.Rows.{bare, fresh};
 ghost use Rattle.jm_machine.specs.Machine as machine;
+ghost use Rattle.jm_machine.specs.Isolation.{is_unshared};
 ghost use Rattle.jm_machine.specs.Lone as spec;
 ghost use Rattle.jm_machine.specs.Lone.Item.{Called};
 ghost use Rattle.jm_core.specs.Provider.{state_of};
 ghost use Rattle.jm_model.specs.Owners.{scope};
+ghost use Rattle.jm_model.specs.Parts.{definition_in, seen};
 ghost use Rattle.jm_model.specs.Answers.{Answers};
 
-use crate::delivery::deliver;
-use crate::subscription::{Subscription, read};
+use crate::owner::Owner;
+use crate::rows::Rows;
+use crate::subscription::{accepts, created, restored};
 use jm_base::{Mode, Refusal, Str};
 use jm_core::Core;
-use jm_dest::{ConnectionId, ConsumerId, Key, Moment, Name, SessionId};
+use jm_dest::{ConnectionId, Moment, Name, SessionId};
 use jm_header::Message;
-use jm_machine::find::{
-    connection_of, consumer_of, is_started, mode_of, same_session, session_of, set_started,
-};
-use jm_machine::{
-    Answer, ConnectionState, Consumer, Entry, PlacedRow, Reply, Request, Row, SessionState,
-    Station, Who,
-};
+use jm_machine::find::{connection_of, consumer_of, session_of};
+use jm_machine::{Answer, Consumer, Entry, Reply, Request, Station, Who};
+use jm_session::Sessions;
+use jm_sub::Subs;
 use std::alloc::{AllocError, Global};
 use std::marker::Model;
 
-/// The consumer whose subscription it is.
-#[derive(Clone, Copy)]
-pub(crate) struct Owner {
-    pub session: SessionId,
-    pub consumer: ConsumerId,
-    /// Whether its number was made: a consumer of the opening has it, or a creating call among the entries
-    /// names it.
-    pub is_made: bool,
+/// What the subscription holds. Contracts see it as the lone subscription of the definitions. Its drop is its own, so
+/// that a function with several ways out does not drop part by part on each.
+pub(crate) struct Lone {
+    sessions: Sessions,
+    subs: Subs,
+    rows: Rows,
 }
 
-/// What the subscription holds. Contracts see it as the lone subscription of the definitions.
-#[derive(Drop)]
-pub(crate) struct Lone {
-    connections: Vec<ConnectionState>,
-    sessions: Vec<SessionState>,
-    consumers: Vec<Consumer>,
-    subscription: Option<Subscription>,
-    rows: Vec<Row>,
+impl Drop for Lone {
+    fn drop(self) {
+        let Lone {
+            sessions,
+            subs,
+            rows,
+        } = self;
+        drop(sessions);
+        drop(subs);
+        drop(rows);
+    }
 }
 
 impl Model for Lone {
     ghost use Rattle.jm_machine.specs.Lone.{Lone as LoneHeld};
+    ghost use Rattle.jm_model.specs.Parts.{definition_in};
 
     ghost Value = { LoneHeld };
 
     ghost view = { λ l. record {
-      life = record { connections = l.connections.items; sessions = l.sessions.items };
-      consumers = l.consumers.items;
-      definition = l.subscription;
-      rows = l.rows.items;
+      life = l.sessions.life;
+      consumers = l.sessions.consumers;
+      definition = definition_in l.subs.list;
+      rows = l.rows;
     } };
 }
 
-impl Owner {
-    /// Whether the session is the owner's.
-    fn is_own(&self, session: &SessionId) -> bool
-        ensures { result ≡ owns.is_own (scope self.now).sessions session.now }
-    {
-        same_session(session, &self.session)
-    }
-
-    /// Whether the connection is that of the owner's session.
-    fn is_own_connection(&self, id: ConnectionId) -> bool
-        ensures { result ≡ owns.is_own_connection (scope self.now).sessions id }
-    {
-        self.session.connection == id
-    }
-
-    /// Whether the session's number names the owner.
-    fn names(&self, session: &SessionId, id: ConsumerId) -> bool
-        ensures { result ≡ (owns.is_own (scope self.now).sessions session.now && key_eq (Key.Own session.now id) (scope self.now).key) }
-    {
-        same_session(session, &self.session) && id == self.consumer
-    }
-
-    /// Whether the session's number belongs to the owner.
-    fn is(&self, session: &SessionId, id: ConsumerId) -> bool
-        ensures { result ≡ spec.belongs (scope self.now) session.now id }
-    {
-        self.is_made && same_session(session, &self.session) && id == self.consumer
-    }
-
-    fn key(&self) -> Key
-        ensures { result ≡ (scope self.now).key }
-    {
-        Key::Own(self.session, self.consumer)
-    }
-}
-
-/// Whether a publication comes to the subscription, where there is one.
-fn accepts(subscription: &Option<Subscription>, owner: &Owner, message: &Message) -> bool
-    ensures { (publisher : machine.Publisher) → result ≡ spec.lone_accepts (scope owner.now).key subscription.now publisher message.now }
+fn copy_consumer(consumer: Option<&Consumer>) -> Result<Option<Consumer>, AllocError>
+    ensures { IfOk result (λ copy. copy ≡ option_copied consumer.entry) }
 {
-    match subscription {
-        None => false,
-        Some(subscription) => subscription.accepts(message),
+    match consumer {
+        None => Ok(None),
+        Some(consumer) => Ok(Some(consumer.copy()?)),
     }
 }
 
-fn own_connections(
+/// The connection of the owner's session, the session and the owner, where they are in the opening.
+fn own_sessions(alloc: Global, opening: &Core, owner: &Owner) -> Result<Sessions, AllocError>
+    ensures connection { IfOk result (λ own. own.life.connections ≡ option_to_list (life.connection_of (state_of opening.now).life.connections owner.now.session.connection)) }
+    ensures session { IfOk result (λ own. own.life.sessions ≡ option_to_list (life.session_of (state_of opening.now).life.sessions owner.now.session)) }
+    ensures consumer { IfOk result (λ own. own.consumers ≡ option_to_list (machine.consumer_of (state_of opening.now).consumers owner.now.session owner.now.consumer)) }
+{
+    let connection = connection_of(opening.connections(), owner.session.connection);
+    let session = session_of(opening.sessions(), &owner.session);
+    let consumer = consumer_of(opening.consumers(), &owner.session, owner.consumer);
+    Sessions::of_one(alloc, connection, session, copy_consumer(consumer)?)
+}
+
+/// What is held under the owner's key in the opening.
+fn own_station(opening: &Core, owner: &Owner) -> Result<Option<Station>, AllocError>
+    ensures { IfOk result (λ station. station ≡ machine.station_of (scope owner.now).key (state_of opening.now).stations) }
+{
+    let key = owner.key();
+    opening.station(&key)
+}
+
+/// The subscription that stands there, and its rows.
+fn parts_of(alloc: Global, owner: &Owner, station: Station) -> Result<(Subs, Rows), AllocError>
+    ensures accepts { (key : Key) (publisher : machine.Publisher) (m : Content) →
+        IfOk result (λ parts. spec.lone_accepts key (definition_in parts.0.list) publisher m ≡ machine.accepts key station.definition publisher m) }
+    ensures rows { IfOk result (λ parts. parts.1 ≡ bare station.rows) }
+{
+    let Station {
+        key,
+        definition,
+        rows,
+    } = station;
+    let subs = restored(alloc, key, &definition)?;
+    let rows = Rows::of(alloc, owner.key(), rows.into_inner())?;
+    Ok((subs, rows))
+}
+
+/// The same of a subscription that may stand there.
+fn own_parts(
     alloc: Global,
     owner: &Owner,
-    connections: &[ConnectionState],
-) -> Result<Vec<ConnectionState>, AllocError>
-    ensures { IfOk result (λ own. own.items ≡ filter (λ x. owns.is_own_connection (scope owner.now).sessions x.id) connections.now) }
-{
-    connections
-        .iter()
-        .copied()
-        .filter(|x| owner.is_own_connection(x.id))
-        .collect(alloc)
-}
-
-fn own_sessions(
-    alloc: Global,
-    owner: &Owner,
-    sessions: &[SessionState],
-) -> Result<Vec<SessionState>, AllocError>
-    ensures { IfOk result (λ own. own.items ≡ filter (λ x. owns.is_own (scope owner.now).sessions x.id) sessions.now) }
-{
-    sessions
-        .iter()
-        .copied()
-        .filter(|x| owner.is_own(&x.id))
-        .collect(alloc)
-}
-
-/// The consumers of the owner's subscription.
-fn own_consumers(
-    alloc: Global,
-    key: &Key,
-    consumers: &[Consumer],
-) -> Result<Vec<Consumer>, AllocError>
-    ensures { IfOk result (λ own. own.items ≡ filter (λ x. key_eq x.key key.now) consumers.now) }
-{
-    let mut own = Vec::new(alloc);
-    for consumer in consumers {
-        if consumer.key.is(key) {
-            own.push(consumer.copy()?)?;
-        }
-    }
-    Ok(own)
-}
-
-/// Rows without their places.
-fn bare(alloc: Global, rows: Vec<PlacedRow>) -> Result<Vec<Row>, AllocError>
-    ensures { IfOk result (λ bare. bare.items ≡ rows_spec.bare rows.items) }
-{
-    rows.into_iter().map(|placed| placed.row).collect(alloc)
-}
-
-/// The subscription that stands there, where there is one, and its rows without their places.
-fn parts_of(
-    alloc: Global,
     station: Option<Station>,
-) -> Result<(Option<Subscription>, Vec<Row>), AllocError>
-    ensures subscription { IfOk result (λ parts. parts.0 ≡ machine.definition_of station) }
-    ensures rows { IfOk result (λ parts. parts.1.items ≡ machine.rows_of station) }
+) -> Result<(Subs, Rows), AllocError>
+    ensures accepts { (key : Key) (publisher : machine.Publisher) (m : Content) →
+        IfOk result (λ parts. spec.lone_accepts key (definition_in parts.0.list) publisher m ≡ spec.lone_accepts key (machine.definition_of station) publisher m) }
+    ensures rows { IfOk result (λ parts. parts.1 ≡ machine.rows_of station) }
 {
     match station {
-        None => Ok((None, Vec::new(alloc))),
-        Some(station) => {
-            let rows = bare(alloc, station.rows.into_inner())?;
-            Ok((Some(Subscription::of(alloc, station.definition)?), rows))
-        }
+        None => Ok((Subs::new(alloc), Rows::new(alloc, owner.key())?)),
+        Some(station) => parts_of(alloc, owner, station),
     }
 }
 
 impl Lone {
     /// What the opening holds of the owner's subscription.
-    #[tactic(auto, unfolding(jm_machine::specs::Lone::lone_of, jm_machine::specs::Life::own_life))]
     pub(crate) fn of(alloc: Global, opening: &Core, owner: &Owner) -> Result<Lone, AllocError>
-        ensures { IfOk result (λ lone. lone ≡ spec.lone_of (scope owner.now) (state_of opening.now)) }
+        requires { is_unshared (scope owner.now).key (state_of opening.now) ≡ true }
+        ensures { IfOk result (λ lone. seen owner.now lone ≡ seen owner.now (spec.lone_of (scope owner.now) (state_of opening.now))) }
     {
-        let key = owner.key();
-        let connections = own_connections(alloc, owner, opening.connections())?;
-        let sessions = own_sessions(alloc, owner, opening.sessions())?;
-        let consumers = own_consumers(alloc, &key, opening.consumers())?;
-        let (subscription, rows) = parts_of(alloc, opening.station(&key)?)?;
+        let station = own_station(opening, owner)?;
+        let (subs, rows) = own_parts(alloc, owner, station)?;
+        let sessions = own_sessions(alloc, opening, owner)?;
         Ok(Lone {
-            connections,
             sessions,
-            consumers,
-            subscription,
+            subs,
             rows,
         })
     }
 }
 
 impl Lone {
-    fn is_started(&self, id: ConnectionId) -> bool
-        ensures { result ≡ life.is_started self.now.life id }
-    {
-        is_started(&self.connections, id)
-    }
-
-    fn is_open_session(&self, id: &SessionId) -> bool
-        ensures { result ≡ is_some (life.mode_of self.now.life id.now) }
-    {
-        mode_of(&self.sessions, id).is_some()
-    }
-
-    fn is_new_session(&self, id: &SessionId) -> bool
-        ensures { result ≡ life.is_new_session self.now.life id.now }
-    {
-        connection_of(&self.connections, id.connection).is_some()
-            && session_of(&self.sessions, id).is_none()
-    }
-
-    fn has_consumer(&self, session: &SessionId, id: ConsumerId) -> bool
-        ensures { result ≡ is_some (machine.consumer_of self.now.consumers session.now id) }
-    {
-        consumer_of(&self.consumers, session, id).is_some()
-    }
-
-    /// Takes up a connection's request that was accepted.
-    #[tactic(auto, unfolding(jm_machine::specs::Life::life_after))]
+    /// Takes up a connection's request that was accepted. One that opens a connection that is open is taken up too,
+    /// and nothing is seen of it.
+    #[tactic(auto, using(crate::proofs::Taken::taking_up), unfolding(jm_machine::specs::Life::life_after))]
     fn take_up(&mut self, id: ConnectionId, request: &Request) -> Result<(), AllocError>
-        ensures { OnOk result (self.new ≡ record self.old { life = life.life_after self.old.life (Who.Connection id) request.now }) }
+        ensures connection { OnOk result (life.connection_of self.new.life.connections id
+            ≡ life.connection_of (life.life_after self.old.life (Who.Connection id) request.now).connections id) }
+        ensures others { self.new ≡ record self.old { life = record self.old.life { connections = self.new.life.connections } } }
     {
         match request {
-            Request::Open => self.connections.push(ConnectionState {
-                id,
-                is_started: false,
-            })?,
-            Request::Start => set_started(&mut self.connections, id, true),
-            Request::Stop => set_started(&mut self.connections, id, false),
+            Request::Open => {
+                if let Err(Refusal::Memory) = self.sessions.open(id) {
+                    return Err(AllocError);
+                }
+            }
+            Request::Start => {
+                let _ = self.sessions.start(id);
+            }
+            Request::Stop => {
+                let _ = self.sessions.stop(id);
+            }
             _ => {}
         }
         Ok(())
@@ -247,45 +174,35 @@ impl Lone {
     fn create_session(&mut self, id: &SessionId, mode: Mode) -> Result<(), AllocError>
         ensures { OnOk result (self.new ≡ record self.old { life = life.life_after self.old.life (Who.Session id.now) (Request.CreateSession mode) }) }
     {
-        if self.is_new_session(id) {
-            self.sessions.push(SessionState { id: *id, mode })?;
+        match self.sessions.session(id, mode) {
+            Err(Refusal::Memory) => Err(AllocError),
+            _ => Ok(()),
         }
-        Ok(())
-    }
-
-    fn may_begin(&self, session: &SessionId, id: ConsumerId) -> bool
-        ensures { result ≡ machine.may_begin self.now.life self.now.consumers session.now id }
-    {
-        self.is_open_session(session) && !self.has_consumer(session, id)
-    }
-
-    fn may_receive(&self, session: &SessionId, id: ConsumerId) -> bool
-        ensures { result ≡ (is_some (life.mode_of self.now.life session.now) && machine.is_active (machine.consumer_of self.now.consumers session.now id)) }
-    {
-        self.is_open_session(session) && self.has_consumer(session, id)
     }
 
     /// Adds the owner with that subscription, empty, in place of any other.
-    fn subscribe(
-        &mut self,
-        alloc: Global,
-        owner: &Owner,
-        subscription: Subscription,
-    ) -> Result<(), AllocError>
-        ensures { OnOk result (self.new ≡ spec.lone_joined owner.now.session owner.now.consumer (scope owner.now).key (spec.lone_put subscription self.old)) }
+    fn join(&mut self, alloc: Global, owner: &Owner, subs: Subs) -> Result<(), AllocError>
+        requires { machine.may_begin self.old.life self.old.consumers owner.now.session owner.now.consumer ≡ true }
+        ensures { OnOk result (self.new ≡ record self.old {
+          consumers = self.old.consumers ++ machine.new_consumer owner.now.session owner.now.consumer (scope owner.now).key ∷ [];
+          definition = definition_in subs.list;
+          rows = [];
+        }) }
     {
-        self.subscription = Some(subscription);
-        self.rows = Vec::new(alloc);
-        self.consumers.push(Consumer {
-            session: owner.session,
-            id: owner.consumer,
-            key: owner.key(),
-        })?;
+        let rows = Rows::new(alloc, owner.key())?;
+        let Ok(_) = self
+            .sessions
+            .consumer(&owner.session, owner.consumer, owner.key())
+        else {
+            return Err(AllocError);
+        };
+        self.subs = subs;
+        self.rows = rows;
         Ok(())
     }
 
     /// Makes the owner, where it may be made.
-    #[tactic(auto, unfolding(jm_machine::specs::Machine::refusal, jm_machine::specs::Machine::answer, jm_machine::specs::Lone::lone_did, jm_machine::specs::Selectors::selector_refusal))]
+    #[tactic(auto, unfolding(jm_machine::specs::Machine::refusal, jm_machine::specs::Machine::answer, jm_machine::specs::Lone::lone_did))]
     fn create_consumer(
         &mut self,
         alloc: Global,
@@ -299,36 +216,35 @@ impl Lone {
             × (self.new ≡ (if is_none (spec.lone_refusal self.old (Who.Session owner.now.session) request)
             then spec.lone_did (scope owner.now).key self.old (Who.Session owner.now.session) request else self.old))) }
     {
-        if !self.may_begin(&owner.session, owner.consumer) {
+        if !self.sessions.may_begin(&owner.session, owner.consumer) {
             return Ok(Err(Refusal::IllegalState));
         }
-        match read(alloc, selector)? {
-            Err(fault) => Ok(Err(Refusal::InvalidSelector {
-                at: fault.at,
-                cause: fault.cause,
-            })),
-            Ok(tree) => {
-                self.subscribe(alloc, owner, Subscription::new(topic, selector, tree)?)?;
+        match created(alloc, owner.key(), topic, selector) {
+            Ok(subs) => {
+                self.join(alloc, owner, subs)?;
                 Ok(Ok(Answer::Done))
             }
+            Err(Refusal::Memory) => Err(AllocError),
+            Err(refusal) => Ok(Err(refusal)),
         }
     }
 
     /// Delivers the next message to the owner, where it may receive.
     #[tactic(auto, unfolding(jm_machine::specs::Machine::refusal, jm_machine::specs::Machine::answer, jm_machine::specs::Lone::lone_did))]
-    fn receive(&mut self, owner: &Owner, now: Moment) -> Reply
-        ensures reply { result ≡ spec.lone_reply self.old (Who.Session owner.now.session) (Request.Receive owner.now.consumer now) }
-        ensures after { let request = Request.Receive owner.now.consumer now in
-            self.new ≡ (if is_none (spec.lone_refusal self.old (Who.Session owner.now.session) request)
-            then spec.lone_did (scope owner.now).key self.old (Who.Session owner.now.session) request else self.old) }
+    fn receive(&mut self, owner: &Owner, now: Moment) -> Result<Reply, AllocError>
+        ensures { IfOk result (λ reply.
+            let request = Request.Receive owner.now.consumer now in
+            (reply ≡ spec.lone_reply self.old (Who.Session owner.now.session) request)
+            × (self.new ≡ (if is_none (spec.lone_refusal self.old (Who.Session owner.now.session) request)
+            then spec.lone_did (scope owner.now).key self.old (Who.Session owner.now.session) request else self.old))) }
     {
-        if !self.may_receive(&owner.session, owner.consumer) {
-            return Err(Refusal::IllegalState);
+        if !self.sessions.may_receive(&owner.session, owner.consumer) {
+            return Ok(Err(Refusal::IllegalState));
         }
-        if !self.is_started(owner.session.connection) {
-            return Ok(Answer::Nothing);
+        if !self.sessions.is_started(owner.session.connection) {
+            return Ok(Ok(Answer::Nothing));
         }
-        Ok(deliver(&mut self.rows, now))
+        Ok(Ok(self.rows.receive(now)?))
     }
 
     /// What is answered to a session's request, and taken up of it.
@@ -357,7 +273,7 @@ impl Lone {
                 Ok(Some(self.create_consumer(alloc, owner, topic, selector)?))
             }
             Request::Receive { consumer, now } if owner.is(session, *consumer) => {
-                Ok(Some(self.receive(owner, *now)))
+                Ok(Some(self.receive(owner, *now)?))
             }
             _ => Ok(None),
         }
@@ -368,18 +284,14 @@ impl Lone {
         ensures { (publisher : machine.Publisher) → OnOk result (self.new ≡ (if spec.lone_accepts (scope owner.now).key self.old.definition publisher message.now
             then record self.old { rows = self.old.rows ++ fresh message.now ∷ [] } else self.old)) }
     {
-        if accepts(&self.subscription, owner, message) {
-            self.rows.push(Row {
-                message: message.copy()?,
-                count: 0,
-            })?;
+        if accepts(&self.subs, message) {
+            self.rows.push(message)?;
         }
         Ok(())
     }
 
     /// A connection's request that was accepted, or refused, is taken up where it is an accepted one of
     /// the owner's connection.
-    #[tactic(auto, unfolding(jm_machine::specs::Lone::lone_did))]
     fn ask_connection(
         &mut self,
         owner: &Owner,
@@ -387,7 +299,7 @@ impl Lone {
         request: &Request,
         is_accepted: bool,
     ) -> Result<(), AllocError>
-        ensures { OnOk result (self.new ≡ (if owns.is_own_connection (scope owner.now).sessions id && is_accepted
+        ensures { OnOk result (seen owner.now self.new ≡ seen owner.now (if owns.is_own_connection (scope owner.now).sessions id && is_accepted
             then spec.lone_after (scope owner.now) self.old (Called (Who.Connection id) request.now) else self.old)) }
     {
         if is_accepted && owner.is_own_connection(id) {
@@ -405,7 +317,7 @@ impl Lone {
         request: &Request,
         reply: &Reply,
     ) -> Result<Option<Reply>, AllocError>
-        ensures { IfOk result (λ answer. Answers (scope owner.now) self.old (Entry.Asked who request.now reply.now) answer self.new) }
+        ensures { IfOk result (λ answer. Answers owner.now self.old (Entry.Asked who request.now reply.now) answer self.new) }
     {
         match who {
             Who::Connection(id) => {
@@ -429,7 +341,7 @@ impl Lone {
         owner: &Owner,
         entry: &Entry,
     ) -> Result<Option<Reply>, AllocError>
-        ensures { IfOk result (λ reply. Answers (scope owner.now) self.old entry.now reply self.new) }
+        ensures { IfOk result (λ reply. Answers owner.now self.old entry.now reply self.new) }
     {
         match entry {
             Entry::Asked {

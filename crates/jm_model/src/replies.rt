@@ -8,11 +8,14 @@ ghost use Rattle.jm_model.specs.Faults.{Stands};
 ghost use Rattle.std.specs.List.{list_all, list_any};
 ghost use Rattle.jm_dest.specs.Keys.{key_eq};
 ghost use Rattle.jm_machine.specs.Lone as spec;
+ghost use Rattle.jm_machine.specs.Lone.{Lone as Held};
 ghost use Rattle.jm_core.specs.Provider.{state_of};
 ghost use Rattle.jm_model.specs.Owners.{scope};
+ghost use Rattle.jm_model.specs.Parts.{seen};
 
 use crate::fault::LoneFault;
-use crate::lone::{Lone, Owner};
+use crate::lone::Lone;
+use crate::owner::Owner;
 use jm_core::Core;
 use jm_dest::{ConsumerId, Key, SessionId};
 use jm_machine::find::same_session;
@@ -36,20 +39,34 @@ fn add_reply(
 /// What the owner's subscription answers to the entries, each reply with the place of its entry.
 fn answers(
     alloc: Global,
-    lone: Lone,
+    lone: &mut Lone,
     owner: &Owner,
     entries: &[Entry],
 ) -> Result<Vec<(usize, Reply)>, AllocError>
-    ensures { (life : Life) → IfOk result (λ replies. let scope = scope owner.now in
-        replies.items ≡ spec.lone_replies scope lone (spec.feed scope 0 life [] lone entries.now)) }
+    ensures { (life : Life) (held : Held) → seen owner.now held ≡ seen owner.now lone.old → IfOk result (λ replies.
+        replies.items ≡ spec.lone_replies (scope owner.now) held (spec.feed (scope owner.now) 0 life [] held entries.now)) }
 {
-    let mut lone = lone;
     let mut replies = Vec::new(alloc);
     for (place, entry) in entries.iter().enumerate() {
         let reply = lone.feed(alloc, owner, entry)?;
         add_reply(&mut replies, place, reply)?;
     }
     Ok(replies)
+}
+
+/// What the owner's subscription answers alone to the entries, from what the opening holds of it.
+fn owner_replies(
+    alloc: Global,
+    opening: &Core,
+    entries: &[Entry],
+    owner: &Owner,
+) -> Result<Vec<(usize, Reply)>, AllocError>
+    requires { isolation.is_unshared (scope owner.now).key (state_of opening.now) ≡ true }
+    ensures { IfOk result (λ replies. let scope = scope owner.now in let lone = spec.lone_of scope (state_of opening.now) in
+        replies.items ≡ spec.lone_replies scope lone (spec.feed scope 0 (state_of opening.now).life [] lone entries.now)) }
+{
+    let mut lone = Lone::of(alloc, opening, owner)?;
+    answers(alloc, &mut lone, owner, entries)
 }
 
 fn has_number(x: &Consumer, session: &SessionId, id: ConsumerId) -> bool
@@ -150,8 +167,7 @@ pub fn lone_replies(
                 consumer: *consumer,
                 is_made,
             };
-            let lone = Lone::of(alloc, opening, &owner)?;
-            Ok(answers(alloc, lone, &owner, entries)?)
+            Ok(owner_replies(alloc, opening, entries, &owner)?)
         }
         _ => Err(LoneFault::NotUnshared),
     }

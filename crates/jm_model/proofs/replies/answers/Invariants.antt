@@ -1,8 +1,10 @@
-use Rattle.std.proofs.Common.{[], drop}
+use Rattle.std.proofs.Common.{◌≡◌, [], drop}
 use Rattle.jm_machine.specs.Life.{Life}
+use Rattle.jm_machine.specs.Lone.{Lone}
 use Rattle.jm_model.specs.Owners.{scope}
+use Rattle.jm_model.specs.Parts.{seen}
 use Rattle.jm_model.proofs.Placing.{to_answer, Remains}
 use Rattle.jm_model.proofs.replies.answers.Given as goal
 
 abbrev pub invariant-loop-place : goal.invariant-loop-place
-invariant-loop-place l = (life : Life) → Remains (scope l.owner) l.replies.items l.place l.lone (drop l.place l.entries) (to_answer (scope l.owner) 0 life [] l.fn.lone l.entries)
+invariant-loop-place l = (life : Life) (held : Lone) → seen l.owner held ≡ seen l.owner l.fn.lone → Remains l.owner l.replies.items l.place l.lone (drop l.place l.entries) (to_answer (scope l.owner) 0 life [] held l.entries)
