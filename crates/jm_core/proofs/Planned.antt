@@ -25,7 +25,7 @@ use Rattle.jm_stations.specs.Stations.{Stations}
 use Rattle.jm_sub.specs.Subscriptions.{Subscription, Subscriptions}
 use Rattle.jm_core.specs.declared.publish.Publication.{Publication}
 use Rattle.jm_core.specs.declared.plan.Change.TheVariants as change
-use Rattle.jm_core.specs.Plans.{IsChange, IsCreating, IsPublishing, IsRefused}
+use Rattle.jm_core.specs.Plans.{IsPlan, IsCreating, IsPublishing, IsRefused}
 use Rattle.jm_core.specs.Provider.{Provider, state_of}
 use Rattle.jm_core.specs.Steps.{PublishFits, StepFits}
 use Rattle.jm_core.proofs.Fits.{create_made}
@@ -55,7 +55,7 @@ refused_fits old new who call r e h = go (is_want (Err r)) h
 
 -- ---- changes of connections and sessions
 
-pub opened : (p : Provider) (who : Who) (call : Call) (c : ℕ) (new : State) → IsChange p who call (change.Open c) → new ≡ record (state_of p) { life = life_after p.known.life (Connection c) request.Open } → StepFits (state_of p) who call (Ok Done) new
+pub opened : (p : Provider) (who : Who) (call : Call) (c : ℕ) (new : State) → IsPlan p who call (change.Open c) → new ≡ record (state_of p) { life = life_after p.known.life (Connection c) request.Open } → StepFits (state_of p) who call (Ok Done) new
 unfolding reply step refusal answer after
 opened p who call c new h e = rw (h.0, h.1, h.2) (refl, e)
 
@@ -64,15 +64,15 @@ still_open : (o : Option ConnectionState) → is_some o ≡ true → is_open_con
 still_open None h = cc
 still_open (Some x) h = refl
 
-pub started : (p : Provider) (who : Who) (call : Call) (c : ℕ) (new : State) → IsChange p who call (change.Start c) → new ≡ record (state_of p) { life = life_after p.known.life (Connection c) request.Start } → StepFits (state_of p) who call (Ok Done) new
+pub started : (p : Provider) (who : Who) (call : Call) (c : ℕ) (new : State) → IsPlan p who call (change.Start c) → new ≡ record (state_of p) { life = life_after p.known.life (Connection c) request.Start } → StepFits (state_of p) who call (Ok Done) new
 unfolding reply step refusal answer after
 started p who call c new h e = rw (h.0, h.1, still_open (connection_of p.known.life.connections c) h.2) (refl, e)
 
-pub stopped : (p : Provider) (who : Who) (call : Call) (c : ℕ) (new : State) → IsChange p who call (change.Stop c) → new ≡ record (state_of p) { life = life_after p.known.life (Connection c) request.Stop } → StepFits (state_of p) who call (Ok Done) new
+pub stopped : (p : Provider) (who : Who) (call : Call) (c : ℕ) (new : State) → IsPlan p who call (change.Stop c) → new ≡ record (state_of p) { life = life_after p.known.life (Connection c) request.Stop } → StepFits (state_of p) who call (Ok Done) new
 unfolding reply step refusal answer after
 stopped p who call c new h e = rw (h.0, h.1, still_open (connection_of p.known.life.connections c) h.2) (refl, e)
 
-pub session_made : (p : Provider) (who : Who) (call : Call) (s : SessionId) (mode : Mode) (new : State) → IsChange p who call (change.CreateSession s mode) → new ≡ record (state_of p) { life = life_after p.known.life (Session s) (request.CreateSession mode) } → StepFits (state_of p) who call (Ok Done) new
+pub session_made : (p : Provider) (who : Who) (call : Call) (s : SessionId) (mode : Mode) (new : State) → IsPlan p who call (change.CreateSession s mode) → new ≡ record (state_of p) { life = life_after p.known.life (Session s) (request.CreateSession mode) } → StepFits (state_of p) who call (Ok Done) new
 unfolding reply step refusal answer after
 session_made p who call s mode new h e = rw (h.0, h.1, h.2) (refl, e)
 

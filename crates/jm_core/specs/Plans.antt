@@ -1,4 +1,4 @@
--- Plans: steps that are prepared. No cause stands against the step, and there is room for what it changes.
+-- Plans: steps that are prepared, seen as what they change. No cause stands against the step, and there is room for what it changes.
 use Rattle.std.specs.Prelude.{◌≡◌, ◌≤◌, ◌<◌, ◌+◌, ◌&&◌, ℕ, true, All, IfSome, List, Option, None, Result, Ok, Err, MatchBool, MatchResult, map, length, is_some}
 use Rattle.jm_base.specs.declared.refusal.Refusal.{Refusal}
 use Rattle.jm_dest.specs.declared.session.SessionId.{SessionId}
@@ -20,7 +20,6 @@ use Rattle.jm_core.specs.declared.publish.Publication.{Publication}
 use Rattle.jm_core.specs.declared.receive.Taking.{Taking}
 use Rattle.jm_core.specs.declared.plan.Change.{Change}
 use Rattle.jm_core.specs.declared.plan.Change.TheVariants as change
-use Rattle.jm_core.specs.declared.plan.Plan.{Plan}
 use Rattle.jm_core.specs.Provider.{Provider, state_of}
 use Rattle.jm_core.specs.Publications.{IsReady}
 use Rattle.jm_core.specs.Steps.{StepFits}
@@ -63,31 +62,23 @@ pub record IsPublishing (p : Provider) (who : Who) (call : Call) (publications :
   pub ready : All (IsReady (length messages) p.subscriptions.list p.held.list) publications
   pub room : length messages ≤ p.held.message_room
 
--- the change is that of the caller's call on what is held: no cause stands against it, and there is room for it
-abbrev pub IsChange : Provider → Who → Call → Change → Type 0
-IsChange p who call (change.Open c) =
+-- the plan is that of the caller's call, on what is held: no cause stands against it, and there is room for it
+abbrev pub IsPlan : Provider → Who → Call → Change → Type 0
+IsPlan p who call (change.Open c) =
     (who ≡ Connection c) × (call ≡ Ask request.Open) × (connection_of p.known.life.connections c ≡ None) × (0 < p.known.spare)
-IsChange p who call (change.Start c) =
+IsPlan p who call (change.Start c) =
     (who ≡ Connection c) × (call ≡ Ask request.Start) × (is_some (connection_of p.known.life.connections c) ≡ true)
-IsChange p who call (change.Stop c) =
+IsPlan p who call (change.Stop c) =
     (who ≡ Connection c) × (call ≡ Ask request.Stop) × (is_some (connection_of p.known.life.connections c) ≡ true)
-IsChange p who call (change.CreateSession s mode) =
+IsPlan p who call (change.CreateSession s mode) =
     (who ≡ Session s) × (call ≡ Ask (request.CreateSession mode)) × (is_new_session p.known.life s ≡ true) × (0 < p.known.spare)
-IsChange p who call (change.CreateConsumer s c decision) = IsCreating p who call s c decision
-IsChange p who call (change.Receive taking now) = IsReceiving p who call taking now
-IsChange p who call (change.Publish publications) = IsPublishing p who call publications.items
+IsPlan p who call (change.CreateConsumer s c decision) = IsCreating p who call s c decision
+IsPlan p who call (change.Receive taking now) = IsReceiving p who call taking now
+IsPlan p who call (change.Publish publications) = IsPublishing p who call publications.items
 
--- the plan is that of the caller's call, on the core as it stands
-abbrev pub IsPlan : Provider → Who → Call → Plan → Type 0
-IsPlan p who call plan = IsChange p who call plan.change
-
--- the change is that of some call, on what is held
-abbrev pub IsPlannedChange : Provider → Change → Type 0
-IsPlannedChange p change = (who : Who) × (call : Call) × IsChange p who call change
-
--- the plan is that of some call, on the core as it stands
-abbrev pub IsPlanned : Provider → Plan → Type 0
-IsPlanned p plan = IsPlannedChange p plan.change
+-- the plan is that of some call, on what is held
+abbrev pub IsPlanned : Provider → Change → Type 0
+IsPlanned p change = (who : Who) × (call : Call) × IsPlan p who call change
 
 -- the refusal is the machine's; or it says that memory is wanted, only where the call takes memory
 abbrev pub IsRefused : State → Who → Call → Refusal → Type 0
@@ -96,17 +87,13 @@ IsRefused state who call refusal =
     (may_want state who call ≡ true)
     (Err refusal ≡ reply state who call)
 
--- planning leaves the state as it was, and gives the change of the call, or why it is refused
+-- planning leaves the state as it was, and gives a plan of the call, or why it is refused
 abbrev pub PlanFits : Provider → Who → Call → Result Change Refusal → Provider → Type 0
 PlanFits old who call result new =
     (state_of new ≡ state_of old)
-    × MatchResult result (IsChange new who call) (IsRefused (state_of old) who call)
+    × MatchResult result (IsPlan new who call) (IsRefused (state_of old) who call)
 
--- the answer and the state are those of the machine's step, for the call that the change is of
-abbrev pub ChangeFits : Provider → Change → Answer → Provider → Type 0
-ChangeFits old change answer new =
-    (who : Who) (call : Call) → IsChange old who call change → StepFits (state_of old) who call (Ok answer) (state_of new)
-
--- the same of a plan
-abbrev pub InstallFits : Provider → Plan → Answer → Provider → Type 0
-InstallFits old plan answer new = ChangeFits old plan.change answer new
+-- the answer and the state are those of the machine's step, for the call that the plan is of
+abbrev pub InstallFits : Provider → Change → Answer → Provider → Type 0
+InstallFits old change answer new =
+    (who : Who) (call : Call) → IsPlan old who call change → StepFits (state_of old) who call (Ok answer) (state_of new)

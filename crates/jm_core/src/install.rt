@@ -1,6 +1,6 @@
 //! Makes changes that were planned. Nothing here takes memory, or fails.
 
-ghost use Rattle.jm_core.specs.Plans.{ChangeFits, IsPlannedChange};
+ghost use Rattle.jm_core.specs.Plans.{InstallFits, IsPlanned};
 
 use crate::create::make_create;
 use crate::life::{make_open, make_session, make_start, make_stop};
@@ -16,8 +16,8 @@ use jm_sub::Decision;
 impl CoreState {
     /// Makes a change that was planned on this core as it stands.
     pub(crate) fn install(&mut self, change: Change) -> Answer
-        requires { IsPlannedChange self.old change }
-        ensures { ChangeFits self.old change result self.new }
+        requires { IsPlanned self.old change }
+        ensures { InstallFits self.old change result self.new }
     {
         match change {
             Change::Open(id) => self.install_open(id),
@@ -33,32 +33,32 @@ impl CoreState {
     }
 
     fn install_open(&mut self, id: ConnectionId) -> Answer
-        requires { IsPlannedChange self.old (Change.Open id) }
-        ensures { ChangeFits self.old (Change.Open id) result self.new }
+        requires { IsPlanned self.old (Change.Open id) }
+        ensures { InstallFits self.old (Change.Open id) result self.new }
     {
         make_open(&mut self.sessions, id);
         Answer::Done
     }
 
     fn install_start(&mut self, id: ConnectionId) -> Answer
-        requires { IsPlannedChange self.old (Change.Start id) }
-        ensures { ChangeFits self.old (Change.Start id) result self.new }
+        requires { IsPlanned self.old (Change.Start id) }
+        ensures { InstallFits self.old (Change.Start id) result self.new }
     {
         make_start(&mut self.sessions, id);
         Answer::Done
     }
 
     fn install_stop(&mut self, id: ConnectionId) -> Answer
-        requires { IsPlannedChange self.old (Change.Stop id) }
-        ensures { ChangeFits self.old (Change.Stop id) result self.new }
+        requires { IsPlanned self.old (Change.Stop id) }
+        ensures { InstallFits self.old (Change.Stop id) result self.new }
     {
         make_stop(&mut self.sessions, id);
         Answer::Done
     }
 
     fn install_session(&mut self, id: &SessionId, mode: Mode) -> Answer
-        requires { IsPlannedChange self.old (Change.CreateSession id.now mode) }
-        ensures { ChangeFits self.old (Change.CreateSession id.now mode) result self.new }
+        requires { IsPlanned self.old (Change.CreateSession id.now mode) }
+        ensures { InstallFits self.old (Change.CreateSession id.now mode) result self.new }
     {
         make_session(&mut self.sessions, id, mode);
         Answer::Done
@@ -70,8 +70,8 @@ impl CoreState {
         id: ConsumerId,
         decision: Decision,
     ) -> Answer
-        requires { IsPlannedChange self.old (Change.CreateConsumer session.now id decision) }
-        ensures { ChangeFits self.old (Change.CreateConsumer session.now id decision) result self.new }
+        requires { IsPlanned self.old (Change.CreateConsumer session.now id decision) }
+        ensures { InstallFits self.old (Change.CreateConsumer session.now id decision) result self.new }
     {
         make_create(
             &mut self.sessions,
@@ -85,15 +85,15 @@ impl CoreState {
     }
 
     fn install_delivery(&mut self, taking: Option<Taking>, now: Moment) -> Answer
-        requires { IsPlannedChange self.old (Change.Receive taking now) }
-        ensures { ChangeFits self.old (Change.Receive taking now) result self.new }
+        requires { IsPlanned self.old (Change.Receive taking now) }
+        ensures { InstallFits self.old (Change.Receive taking now) result self.new }
     {
         make_delivery(&mut self.stations, taking, now)
     }
 
     fn install_publications(&mut self, publications: Vec<Publication>) -> Answer
-        requires { IsPlannedChange self.old (Change.Publish publications) }
-        ensures { ChangeFits self.old (Change.Publish publications) result self.new }
+        requires { IsPlanned self.old (Change.Publish publications) }
+        ensures { InstallFits self.old (Change.Publish publications) result self.new }
     {
         make_publications(&mut self.stations, publications);
         Answer::Done

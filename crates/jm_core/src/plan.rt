@@ -13,6 +13,7 @@ use jm_dest::{ConnectionId, ConsumerId, Moment, Name, SessionId};
 use jm_header::Message;
 use jm_machine::{Call, Request, Step, Who};
 use jm_sub::Decision;
+use std::marker::Model;
 
 /// What a step changes, with all that was prepared for it.
 #[derive(Drop)]
@@ -29,7 +30,7 @@ pub(crate) enum Change {
 
 /// A step that was planned on a core: no cause stands against it, and there is room for it. `Core::install`
 /// makes it, and only then is there an answer to read. A plan owns what was prepared; one that is let go
-/// leaves the core as it was, with more room.
+/// leaves the core as it was, with more room. Contracts see it as what it changes.
 pub struct Plan {
     pub(crate) change: Change,
 }
@@ -42,10 +43,18 @@ impl Drop for Plan {
     }
 }
 
+impl Model for Plan {
+    ghost use Rattle.jm_core.specs.declared.plan.Change.{Change};
+
+    ghost Value = { Change };
+
+    ghost view = { λ p. p.change };
+}
+
 impl Plan {
     /// What the plan changes.
     pub(crate) fn into_change(self) -> Change
-        ensures { result ≡ self.change }
+        ensures { result ≡ self }
     {
         let Plan { change } = self;
         change
