@@ -10,7 +10,8 @@ from typing import Any, NamedTuple, Optional
 
 # Where an item begins; the group is a function's name.
 ITEM = r"(?m)^ *(?:pub(?:\([^)]*\))? )?(?:(?:const )?fn (\w+)|(?:const|static|struct|enum|impl|trait|type|use|mod|ghost)\b)"
-
+# What ends with its line.
+COMMENT = r"//|\\\n"
 
 
 class Edit(NamedTuple):
@@ -100,8 +101,10 @@ def turn(room: str, edit: Edit, taken: list[Edit], heads: dict[str, str]) -> Opt
     if number == 1:
         edit, heads[edit.at] = edit._replace(name=edit.at), turned
     elif may_have_twin(edit, source[: source.index(attributes + text)], text):
-        text, edit = heads[edit.at], edit._replace(name=f"{edit.at}_{number}")
-        turned = f"{text}\n{attributes}" + re.sub(r"fn (\w+)", rf"fn \1_{number}", turned, count=1)
+        text, edit = heads[edit.at].rstrip(), edit._replace(name=f"{edit.at}_{number}")
+        twin = attributes + re.sub(r"fn (\w+)", rf"fn \1_{number}", turned.rstrip(), count=1)
+        # (on one line, where that reads, so that what stands below keeps its place, and what is kept of its proof)
+        turned = f"{text} {twin if re.search(COMMENT, twin) else ' '.join(twin.splitlines())}"
         copy_proof(room, edit)
     else:
         return None
