@@ -2,11 +2,11 @@
 
 use crate::calls::{OPS, Op, calls, session, shown};
 use crate::runs::run;
-use crate::told::{holds, is_text};
+use crate::told::{holds, is_text, is_told};
 use jm_base::Refusal;
 use jm_core::Core;
 use jm_dest::{ConsumerId, Key, Name, Number};
-use jm_machine::{Entry, Reply};
+use jm_machine::{Answer, Entry, Reply};
 use jm_model::{LoneFault, entries, law_isolation, law_reached, lone_replies};
 use std::alloc::{AllocError, Global};
 
@@ -89,14 +89,24 @@ fn record(
     }
 }
 
-/// What the key's subscription answers alone over the record, each reply after its place.
-fn alone(alloc: Global, record: &[Entry], key: &Key) -> Result<String, Refusal> {
-    let opening = Core::new(alloc, 1)?;
-    match lone_replies(alloc, &opening, record, key) {
+/// What the key's subscription answers alone over the record from that opening, each reply after its place.
+fn alone_from(
+    alloc: Global,
+    opening: &Core,
+    record: &[Entry],
+    key: &Key,
+) -> Result<String, Refusal> {
+    match lone_replies(alloc, opening, record, key) {
         Ok(replies) => Ok(placed_shown(alloc, &replies)?),
         Err(LoneFault::NotUnshared) => Ok(String::from_str(alloc, "not unshared")?),
         Err(LoneFault::Memory) => Err(Refusal::Memory),
     }
+}
+
+/// The same from a new core.
+fn alone(alloc: Global, record: &[Entry], key: &Key) -> Result<String, Refusal> {
+    let opening = Core::new(alloc, 1)?;
+    alone_from(alloc, &opening, record, key)
 }
 
 /// What the subscription of that consumer answers alone in a run of the calls, where the replies at these places are wrong.
@@ -133,6 +143,83 @@ fn subscriptions_alone(rt: HostRuntime) {
 fn wrong_replies_are_not_handed_back(rt: HostRuntime) {
     let told = told(rt.alloc(), &FIRST_MESSAGE, &[4, 7, 8], 1);
     is_text(&rt, "4 ok, 7 a#1, 8 none, ", told);
+}
+
+/// A connection that is opened again, once a message came.
+const OPENED_TWICE: [Op; 9] = [
+    Op::Open(1),
+    Op::Open(2),
+    Op::Session(1),
+    Op::Session(2),
+    Op::Consumer(1, 1, None),
+    Op::Start(1),
+    Op::Send(2, "a", None),
+    Op::Open(1),
+    Op::Receive(1, 1),
+];
+
+/// The record of those calls, in which the second opening was accepted.
+fn opened_twice(alloc: Global) -> Result<Vec<Entry>, Refusal> {
+    let mut core = Core::new(alloc, 1)?;
+    let mut replies = run(alloc, &mut core, &OPENED_TWICE)?;
+    if let Some(reply) = replies.get_mut(7) {
+        *reply = Ok(Answer::Done);
+    }
+    record_of(alloc, core.opening(), &OPENED_TWICE, &replies)
+}
+
+/// What the subscription answers alone over that record.
+fn told_twice(alloc: Global) -> Result<String, Refusal> {
+    let record = opened_twice(alloc)?;
+    alone(alloc, &record, &key(alloc, 1)?)
+}
+
+#[test]
+fn a_second_opening_is_not_seen(rt: HostRuntime) {
+    is_told(&rt, "4 ok, 8 a#1, ", told_twice(rt.alloc()));
+}
+
+/// A consumer for which two messages wait.
+const WAITING: [Op; 8] = [
+    Op::Open(1),
+    Op::Open(2),
+    Op::Session(1),
+    Op::Session(2),
+    Op::Consumer(1, 1, None),
+    Op::Start(1),
+    Op::Send(2, "a", None),
+    Op::Send(2, "b", None),
+];
+
+/// What comes next.
+const GOING_ON: [Op; 4] = [
+    Op::Receive(1, 1),
+    Op::Send(2, "c", None),
+    Op::Receive(1, 1),
+    Op::Receive(1, 1),
+];
+
+/// The record of what comes next on that core.
+fn going_on(alloc: Global, core: &mut Core) -> Result<Vec<Entry>, Refusal> {
+    let replies = run(alloc, core, &GOING_ON)?;
+    record_of(alloc, core.opening(), &GOING_ON, &replies)
+}
+
+/// What the subscription answers alone, where two messages wait in the opening.
+fn told_from(alloc: Global, opening: &mut Core) -> Result<String, Refusal> {
+    let _ = run(alloc, opening, &WAITING)?;
+    let record = going_on(alloc, &mut opening.copy()?)?;
+    alone_from(alloc, opening, &record, &key(alloc, 1)?)
+}
+
+fn told_waiting(alloc: Global) -> Result<String, Refusal> {
+    let mut opening = Core::new(alloc, 1)?;
+    told_from(alloc, &mut opening)
+}
+
+#[test]
+fn what_waits_in_the_opening_is_delivered(rt: HostRuntime) {
+    is_told(&rt, "0 a#1, 2 b#1, 3 c#1, ", told_waiting(rt.alloc()));
 }
 
 const PLACES: [usize; 9] = [0, 1, 2, 3, 4, 5, 6, 7, 8];

@@ -168,3 +168,51 @@ fn consumers_by_number(rt: HostRuntime) {
         holds(&rt, "a consumer", known == Ok(*wanted));
     }
 }
+
+/// The connection, session and consumer of that number, as they are known, and of no other.
+fn one_of(alloc: Global, sessions: &Sessions, number: u32) -> Result<Sessions, Refusal> {
+    let session = session(number, 1)?;
+    let connection = sessions.connection_of(session.connection);
+    let consumer = match sessions.consumer_of(&session, ConsumerId::new(1)?) {
+        Some(consumer) => Some(consumer.copy()?),
+        None => None,
+    };
+    let known = sessions.session_of(&session);
+    Ok(Sessions::of_one(alloc, connection, known, consumer)?)
+}
+
+/// How many connections, sessions and consumers are known.
+fn counts(sessions: &Sessions) -> [usize; 3] {
+    [
+        sessions.connections().len(),
+        sessions.sessions().len(),
+        sessions.consumers().len(),
+    ]
+}
+
+/// How many there are of that connection's first session, and whether the connection is started.
+fn one_known(
+    alloc: Global,
+    sessions: &Sessions,
+    number: u32,
+) -> Result<([usize; 3], bool), Refusal> {
+    let one = one_of(alloc, sessions, number)?;
+    Ok((counts(&one), one.is_started(ConnectionId::new(number)?)))
+}
+
+/// Connections, how many connections, sessions and consumers are taken of each, and whether it is started.
+const TAKEN: [(u32, ([usize; 3], bool)); 3] = [
+    (1, ([1, 1, 1], true)),
+    (2, ([1, 1, 0], false)),
+    (3, ([0, 0, 0], false)),
+];
+
+#[test]
+fn what_is_known_of_one_session(rt: HostRuntime) {
+    let mut sessions = Sessions::new(rt.alloc());
+    let _ = are_made(&mut sessions);
+    for (number, wanted) in &TAKEN {
+        let known = one_known(rt.alloc(), &sessions, *number);
+        holds(&rt, "one session", known == Ok(*wanted));
+    }
+}

@@ -21,3 +21,11 @@ pub(crate) fn is_text(rt: &impl Abort, wanted: &str, told: Result<String, AllocE
         Err(_) => assert!(rt; false, "no memory for {wanted}"),
     }
 }
+
+/// Asserts that this text is told, and that nothing was refused on the way.
+pub(crate) fn is_told(rt: &impl Abort, wanted: &str, told: Result<String, Refusal>) {
+    match told {
+        Ok(text) => assert!(rt; text.as_str() == wanted, "{text} and not {wanted}"),
+        Err(_) => assert!(rt; false, "refused, and not {wanted}"),
+    }
+}
