@@ -9,6 +9,10 @@ mod loaded;
 #[cfg(test)]
 mod messages;
 #[cfg(test)]
+mod rig;
+#[cfg(test)]
+mod rows;
+#[cfg(test)]
 mod steps;
 #[cfg(test)]
 mod tables;

@@ -35,7 +35,7 @@ fn load(alloc: Global, stations: &mut Stations, loaded: Loaded) -> Result<(), Re
 }
 
 fn loads(alloc: Global, stations: &mut Stations, loaded: Loaded) -> bool {
-    load(alloc, stations, loaded).is_ok() && stations.next_place() == loaded.0 + 1
+    load(alloc, stations, loaded).is_ok() && stations.next_place() == loaded.0.saturating_add(1)
 }
 
 /// How many of the rows under the first key are at the places where they were loaded.

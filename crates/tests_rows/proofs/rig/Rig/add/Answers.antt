@@ -1,0 +1,12 @@
+use Rattle.std.proofs.Common.{◌≡◌, ◌∙◌, ap, sym, None}
+use Rattle.std.specs.List.{find}
+use Rattle.jm_pending.specs.Rows.{Held, is_from}
+use Rattle.tests_rows.proofs.Covered.{all_below, none_of}
+use Rattle.tests_rows.proofs.rig.Rig.add.Goals as goal
+
+pub add-requires-clause-above : goal.add-requires-clause-above
+add-requires-clause-above c =
+    let rows = c.self.inside.held.rows in
+    let none : find (is_from c.args.place) rows ≡ None = sym c.row_from.ensures.row ∙ none_of c.row_from.result (sym c.is_some.ensures ∙ c.if-is_some.false) in
+    let same : c.reserve-2.new.self.rows ≡ rows = ap (λ (h : Held). h.rows) c.reserve-2.ensures.same in
+    rw (same, c.new-row.ensures.row) (all_below c.args.place rows none)

@@ -1,0 +1,123 @@
+//! A list of rows over a table of its own, in which each row has its message.
+
+ghost use Rattle.std.specs.Prelude.{◌≡◌};
+
+use crate::messages::{Words, sent};
+use jm_base::Refusal;
+use jm_dest::{ConnectionId, ConsumerId, Moment, SessionId};
+use jm_pending::{Held, Row, State, Table};
+use std::alloc::Global;
+use std::marker::Model;
+
+/// What is seen of a row: its place, its count, and the number of the session that it is out to, or 0 where it waits.
+pub(crate) type Seen = (u64, u32, u32);
+
+#[derive(Drop)]
+pub(crate) struct Rig {
+    table: Table,
+    held: Held,
+}
+
+impl Model for Rig {
+    ghost use Rattle.jm_pending.specs.Holders.{Covers};
+    ghost use Rattle.jm_pending.specs.Rows.{Held as HeldShown};
+
+    ghost Value = { HeldShown };
+
+    ghost view = { λ r. r.held };
+
+    ghost invariant = { λ r. Covers r.table r.held.rows };
+}
+
+/// The session of that number.
+pub(crate) fn session(number: u32) -> Result<SessionId, Refusal> {
+    SessionId::new(ConnectionId::new(1)?, number)
+}
+
+fn out_to(row: &Row) -> u32 {
+    match row.state {
+        State::Waiting => 0,
+        State::Out { session, .. } => session.number.get(),
+    }
+}
+
+impl Rig {
+    pub(crate) fn new(alloc: Global, limit: Option<u32>) -> Rig {
+        Rig {
+            table: Table::new(alloc),
+            held: Held::new(alloc, limit),
+        }
+    }
+
+    /// The rows as they are seen, each with its message in the table, are those.
+    pub(crate) fn shows(&self, seen: &[Seen]) -> bool {
+        let are_all = self.held.len() == seen.len() && self.table.len() == seen.len();
+        are_all
+            && seen
+                .iter()
+                .enumerate()
+                .all(|(i, it)| self.seen(i) == Some(*it))
+    }
+
+    fn seen(&self, index: usize) -> Option<Seen> {
+        match self.held.row_at(index) {
+            None => None,
+            Some(row) => Some((row.place, row.count, out_to(&row))),
+        }
+    }
+
+    pub(crate) fn missed(&self) -> u64 {
+        self.held.missed()
+    }
+
+    /// Adds a row of those words at a place that is above all others.
+    pub(crate) fn add(&mut self, alloc: Global, place: u64, words: Words) -> Result<u64, Refusal> {
+        let message = sent(alloc, words)?;
+        let row = Row::new(place, &message);
+        if place > 100 || self.table.holders(place) != 0 || self.held.row_from(place).is_some() {
+            return Err(Refusal::IllegalState);
+        }
+        self.table.reserve(1)?;
+        self.held.reserve(1)?;
+        self.table.put(place, message);
+        self.held.add(&mut self.table, row);
+        let _ = self.table.release(place);
+        Ok(0)
+    }
+
+    /// The place of the row that goes out through the consumer, or 0.
+    pub(crate) fn take(&mut self, now: Moment, to: SessionId, through: ConsumerId) -> u64 {
+        match self.held.take(&mut self.table, now, to, through) {
+            Some(row) => row.place,
+            None => 0,
+        }
+    }
+
+    /// The place of the row that is delivered and settled, or 0.
+    pub(crate) fn take_settled(&mut self, now: Moment) -> u64 {
+        match self.held.take_settled(&mut self.table, now) {
+            Some(taken) => taken.row.place,
+            None => 0,
+        }
+    }
+
+    pub(crate) fn settle(&mut self, of: SessionId) {
+        self.held.settle(&mut self.table, of);
+    }
+
+    pub(crate) fn settle_one(&mut self, of: SessionId, through: ConsumerId, place: u64) {
+        self.held.settle_one(&mut self.table, of, through, place);
+    }
+
+    pub(crate) fn give_back(&mut self, of: SessionId) {
+        self.held.give_back(of);
+    }
+
+    pub(crate) fn give_back_one(&mut self, of: SessionId, through: ConsumerId, place: u64) {
+        self.held.give_back_one(of, through, place);
+    }
+
+    pub(crate) fn clear(&mut self) {
+        self.held.clear(&mut self.table);
+    }
+}
