@@ -3,4 +3,8 @@
 pub enum Mode {
     /// A message is settled in the same step in which it is delivered.
     Auto,
+    /// A message stays out to the session until the client acknowledges, which settles all that are out to it.
+    Client,
+    /// As `Auto`: duplicates, which this mode allows, do not come (ours).
+    Dups,
 }

@@ -1,9 +1,7 @@
 -- Each call's reply and what it leaves are the machine's.
-use Rattle.std.proofs.Common.{◌≡◌, ◌≢◌, ℕ, Bool, true, false, cond, List, [], length, get_or, refl, ap, sym, subst, ◌∙◌, arith, Option, Some, None, Ok, Err}
+use Rattle.std.proofs.Common.{◌≡◌, ◌≢◌, ℕ, Bool, true, false, cond, List, length, get_or, refl, ap, sym, subst, ◌∙◌, arith, Option, Some, None, Ok, Err}
 use Rattle.std.specs.Prelude.{◌&&◌, IfSome, is_some, slice_get, MatchBool}
 use Rattle.std.proofs.lemmas.Option.{get_or_from_slice_get}
-use Rattle.jm_base.specs.declared.mode.Mode.{Mode}
-use Rattle.jm_base.specs.declared.mode.Mode.TheVariants.{Auto}
 use Rattle.jm_base.specs.declared.refusal.Refusal.{Refusal}
 use Rattle.jm_base.specs.declared.refusal.Refusal.TheVariants.{IllegalState, Memory}
 use Rattle.jm_dest.specs.declared.session.SessionId.{SessionId}
@@ -18,25 +16,26 @@ use Rattle.jm_machine.specs.declared.call.Request.TheVariants.{CreateConsumer, R
 use Rattle.jm_machine.specs.declared.state.Consumer.{Consumer}
 use Rattle.jm_machine.specs.declared.state.Station.{Station}
 use Rattle.jm_machine.specs.Life.{Life, is_started, mode_of}
-use Rattle.jm_machine.specs.Rows.{bare, deliver_placed, left_of, live, next}
+use Rattle.jm_machine.specs.Rows.{bare, deliver_placed, live, next}
 use Rattle.jm_machine.specs.Selectors.{selector_refusal}
-use Rattle.jm_machine.specs.Machine.{State, after, answer, at_key, consumer_of, defined, delivered, delivery, first_cause, held, holding_at, is_active, joined, key_at, may_begin, moved, put, receive, refusal, replied, reply, rows_of, station_of, step, unless, with_rows}
-use Rattle.jm_machine.specs.Wants.{is_want, is_next_shared, may_want, placed_rows}
+use Rattle.jm_machine.specs.Machine.{State, after, answer, at_key, consumer_of, defined, delivered, delivery, first_cause, held, holding_at, joined, key_at, may_begin, missed_of, put, receive, refusal, replied, reply, rows_of, station_of, step, unless, with_rows}
+use Rattle.jm_machine.specs.Wants.{is_want, is_next_copied, may_want, placed_rows}
 use Rattle.jm_session.specs.Known.{may_receive}
-use Rattle.jm_stations.specs.Backlogs.{Backlog, answered, copy_wanted}
+use Rattle.jm_stations.specs.Backlogs.{Backlog, copy_wanted, empty}
 use Rattle.jm_stations.specs.Stations.{index_in}
 use Rattle.jm_sub.specs.Subscriptions.{Subscription}
+use Rattle.jm_core.specs.declared.receive.Receiver.{Receiver}
 use Rattle.jm_core.specs.declared.receive.Taking.{Taking}
 use Rattle.jm_core.specs.State.{stations_of, keys_of, IsSound}
 use Rattle.jm_core.specs.Plans.{IsRefused}
 use Rattle.jm_core.specs.Steps.{StepFits}
-use Rattle.jm_core.specs.Takings.{IsTaken, IsTold, backlog_at, receiving, taken_from, wants_copy, wants_from}
-use Rattle.jm_core.proofs.Stations.{found_at, found_none, fails_all, key_found, key_missing, copy_is_shared, length-keys}
+use Rattle.jm_core.specs.Takings.{IsMissed, IsTaken, IsTold, backlog_at, left_by, receiving, settles, taken_from, wants_copy, wants_from}
+use Rattle.jm_core.proofs.Stations.{found_at, found_none, fails_all, key_found, key_missing, copy_is_copied, length-keys}
 use Rattle.jm_core.proofs.Sound.{sound_received}
 
 -- a state of these parts
-abbrev pub state_from : ℕ → Life → List Consumer → List Subscription → List Backlog → ℕ → State
-state_from opening life consumers ss list place = record { opening = opening; life = life; consumers = consumers; stations = stations_of ss list; next_place = place }
+abbrev pub state_from : ℕ → ℕ → Life → List Consumer → List Subscription → List Backlog → ℕ → State
+state_from opening limit life consumers ss list place = record { opening = opening; limit = limit; life = life; consumers = consumers; stations = stations_of ss list; next_place = place }
 
 -- ---- a consumer that is made, or refused
 
@@ -72,87 +71,93 @@ rows_bare : (o : Option Station) → rows_of o ≡ bare (placed_rows o)
 rows_bare None = refl
 rows_bare (Some x) = refl
 
-mode_auto : (o : Option Mode) → is_some o ≡ true → o ≡ Some Auto
-mode_auto None h = cc
-mode_auto (Some Auto) h = refl
-
-both_first : (a b : Bool) → (a && b) ≡ true → a ≡ true
-both_first true b h = refl
-both_first false b h = h
-
 pub receive_refused : (state : State) (s : SessionId) (c now : ℕ) (r : Refusal) → r ≡ IllegalState → may_receive state.life state.consumers s c ≡ false → IsRefused state (Session s) (Ask (Receive c now)) r
 unfolding reply refusal
 receive_refused state s c now r e m = rw (e, m) refl
 
-module _ (opening : ℕ) (life : Life) (consumers : List Consumer) (ss : List Subscription) (list : List Backlog) (place : ℕ) where
+module _ (opening limit : ℕ) (life : Life) (consumers : List Consumer) (ss : List Subscription) (list : List Backlog) (place : ℕ) where
   -- before the receive
   abbrev before : State
-  before = state_from opening life consumers ss list place
+  before = state_from opening limit life consumers ss list place
 
   -- what was told, and what is left, where the consumer has that key
-  from_key : (now : ℕ) (key : Key) (o : Option Taking) (a : Answer) → length list ≡ length ss → IsTaken (Some key) now (keys_of ss) list o → IsTold o now list a →
-      (a ≡ delivery (next now (live now (rows_of (station_of key (stations_of ss list)))))) × (stations_of ss (taken_from o now list) ≡ at_key key (with_rows (deliver_placed now (left_of (Some Auto)))) (stations_of ss list))
-  from_key now key None a n t e =
-      let none = key_missing key (with_rows (deliver_placed now (left_of (Some Auto)))) ss list (fails_all (λ x. key_eq x key) (keys_of ss) (found_none (λ x. key_eq x key) (keys_of ss) t)) in
-      (e ∙ ap (λ o. delivery (next now (live now (rows_of o)))) (sym none.1), sym none.0)
-  from_key now key (Some x) a n t e =
+  from_key : (r : Receiver) (key : Key) (o : Option Taking) (a : Answer) → length list ≡ length ss → IsTaken (Some key) r (keys_of ss) list o → IsTold o r.moment list a →
+      (a ≡ delivery (next r.moment (live r.moment (rows_of (station_of key (stations_of ss list)))))) × (stations_of ss (taken_from o r list) ≡ at_key key (with_rows (deliver_placed r.moment (left_by r))) (stations_of ss list))
+  from_key r key None a n t e =
+      let none = key_missing key (with_rows (deliver_placed r.moment (left_by r))) ss list (fails_all (λ x. key_eq x key) (keys_of ss) (found_none (λ x. key_eq x key) (keys_of ss) t)) in
+      (e ∙ ap (λ o. delivery (next r.moment (live r.moment (rows_of o)))) (sym none.1), sym none.0)
+  from_key r key (Some x) a n t e =
       let at = found_at (λ y. key_eq y key) (keys_of ss) x.index t.0 in
-      let d : Backlog = record { rows = []; limit = None; missed = 0; room = 0 } in
-      let found = key_found key (deliver_placed now (left_of (Some Auto))) ss list d x.index n at.0 (omega (arith, at.1, length-keys ss)) in
-      (e d ∙ ap (λ rows. delivery (next now (live now (bare rows)))) (sym found.1) ∙ ap (λ rows. delivery (next now (live now rows))) (sym (rows_bare (station_of key (stations_of ss list)))), sym found.0)
+      let d : Backlog = empty None in
+      let found = key_found key (deliver_placed r.moment (left_by r)) ss list d x.index n at.0 (omega (arith, at.1, length-keys ss)) in
+      (e d ∙ ap (λ rows. delivery (next r.moment (live r.moment (bare rows)))) (sym found.1) ∙ ap (λ rows. delivery (next r.moment (live r.moment rows))) (sym (rows_bare (station_of key (stations_of ss list)))), sym found.0)
 
-  idle : (now : ℕ) (o : Option Taking) (a : Answer) → o ≡ None → IsTold o now list a → (a ≡ Nothing) × (state_from opening life consumers ss (taken_from o now list) place ≡ before)
-  idle now None a t told = (told, refl)
-  idle now (Some x) a t told = cc
+  idle : (r : Receiver) (o : Option Taking) (a : Answer) → o ≡ None → IsTold o r.moment list a → (a ≡ Nothing) × (state_from opening limit life consumers ss (taken_from o r list) place ≡ before)
+  idle r None a t told = (told, refl)
+  idle r (Some x) a t told = cc
 
-  pub receive_made : (s : SessionId) (c now : ℕ) (k : Option Key) (o : Option Taking) (a : Answer) → length list ≡ length ss → may_receive life consumers s c ≡ true → k ≡ receiving life consumers s c →
-      IsTaken k now (keys_of ss) list o → IsTold o now list a →
-      StepFits before (Session s) (Ask (Receive c now)) (Ok a) (state_from opening life consumers ss (taken_from o now list) place)
+  pub receive_made : (r : Receiver) (k : Option Key) (o : Option Taking) (a : Answer) → length list ≡ length ss → mode_of life r.session ≡ Some r.mode → may_receive life consumers r.session r.consumer ≡ true → k ≡ receiving life consumers r.session r.consumer →
+      IsTaken k r (keys_of ss) list o → IsTold o r.moment list a →
+      StepFits before (Session r.session) (Ask (Receive r.consumer r.moment)) (Ok a) (state_from opening limit life consumers ss (taken_from o r list) place)
   unfolding reply step refusal answer after
-  receive_made s c now k o a n m e t told =
-      let mode : mode_of life s ≡ Some Auto = mode_auto (mode_of life s) (both_first (is_some (mode_of life s)) (is_active (consumer_of consumers s c)) m) in
-      let r = go (is_started life s.connection) (key_at (consumer_of consumers s c)) (subst (λ x. IsTaken x now (keys_of ss) list o) e t) in
-      rw (m, mode) (ap (λ x. Ok x) r.0, r.1)
+  receive_made r k o a n mode m e t told =
+      let made = go (is_started life r.session.connection) (key_at (consumer_of consumers r.session r.consumer)) (subst (λ x. IsTaken x r (keys_of ss) list o) e t) in
+      rw (m, mode) (ap (λ x. Ok x) made.0, made.1)
     where
-      go : (started : Bool) (key : Option Key) → IsTaken (cond started key None) now (keys_of ss) list o → (a ≡ delivered started now (holding_at key before).rows) × (state_from opening life consumers ss (taken_from o now list) place ≡ cond started (receive (left_of (Some Auto)) now key before) before)
-      go false key t = idle now o a t told
-      go true None t = idle now o a t told
+      go : (started : Bool) (key : Option Key) → IsTaken (cond started key None) r (keys_of ss) list o →
+          (a ≡ delivered started r.moment (holding_at key before).rows) × (state_from opening limit life consumers ss (taken_from o r list) place ≡ cond started (receive (left_by r) r.moment key before) before)
+      go false key t = idle r o a t told
+      go true None t = idle r o a t told
       go true (Some key) t =
-          let r = from_key now key o a n t told in
-          (r.0, ap (λ xs. record before { stations = xs }) r.1)
+          let made = from_key r key o a n t told in
+          (made.0, ap (λ xs. record before { stations = xs }) made.1)
 
   -- memory is wanted for a copy alone
-  wants_shared : (now : ℕ) (key : Key) → length list ≡ length ss → wants_copy (Some key) now (keys_of ss) list ≡ true → is_next_shared now (Some key) (stations_of ss list) ≡ true
-  wants_shared now key n w = there (index_in (keys_of ss) key) refl w
+  wants_copied : (r : Receiver) (key : Key) → length list ≡ length ss → wants_copy (Some key) r (keys_of ss) list ≡ true → is_next_copied (Some r.mode) r.moment (Some key) (stations_of ss list) ≡ true
+  wants_copied r key n w = there (index_in (keys_of ss) key) refl w
     where
-      at : (i : ℕ) (o : Option Backlog) → slice_get list i ≡ o → index_in (keys_of ss) key ≡ Some i → wants_from now list o ≡ true → is_next_shared now (Some key) (stations_of ss list) ≡ true
+      at : (i : ℕ) (o : Option Backlog) → slice_get list i ≡ o → index_in (keys_of ss) key ≡ Some i → wants_from r list o ≡ true → is_next_copied (Some r.mode) r.moment (Some key) (stations_of ss list) ≡ true
       at i None e f w = cc
       at i (Some b) e f w =
           let same : get_or list i b ≡ b = get_or_from_slice_get list i b b e in
-          sym (copy_is_shared now key ss list i b n f) ∙ ap (λ (x : Backlog). is_some (copy_wanted now list x.rows)) same ∙ w
+          sym (copy_is_copied (Some r.mode) r.moment key ss list i b n f) ∙ ap (λ (x : Backlog). is_some (copy_wanted (settles r) r.moment list x.rows)) same ∙ w
 
-      there : (o : Option ℕ) → index_in (keys_of ss) key ≡ o → wants_from now list (backlog_at list o) ≡ true → is_next_shared now (Some key) (stations_of ss list) ≡ true
+      there : (o : Option ℕ) → index_in (keys_of ss) key ≡ o → wants_from r list (backlog_at list o) ≡ true → is_next_copied (Some r.mode) r.moment (Some key) (stations_of ss list) ≡ true
       there None e w = cc
       there (Some i) e w = at i (slice_get list i) refl e w
 
-  pub receive_wants : (s : SessionId) (c now : ℕ) (k : Option Key) (r : Refusal) → length list ≡ length ss → may_receive life consumers s c ≡ true → k ≡ receiving life consumers s c →
-      wants_copy k now (keys_of ss) list ≡ true → r ≡ Memory → IsRefused before (Session s) (Ask (Receive c now)) r
+  pub receive_wants : (r : Receiver) (k : Option Key) (f : Refusal) → length list ≡ length ss → mode_of life r.session ≡ Some r.mode → may_receive life consumers r.session r.consumer ≡ true → k ≡ receiving life consumers r.session r.consumer →
+      wants_copy k r (keys_of ss) list ≡ true → f ≡ Memory → IsRefused before (Session r.session) (Ask (Receive r.consumer r.moment)) f
   unfolding may_want
-  receive_wants s c now k r n m e w is = rw is (go (is_some (mode_of life s)) (is_started life s.connection) (key_at (consumer_of consumers s c)) (both_first (is_some (mode_of life s)) (is_active (consumer_of consumers s c)) m) (subst (λ x. wants_copy x now (keys_of ss) list ≡ true) e w))
+  receive_wants r k f n mode m e w is = rw (is, mode) (go (is_started life r.session.connection) (key_at (consumer_of consumers r.session r.consumer)) (subst (λ x. wants_copy x r (keys_of ss) list ≡ true) e w))
     where
-      go : (mode started : Bool) (key : Option Key) → mode ≡ true → wants_copy (cond started key None) now (keys_of ss) list ≡ true → ((mode && started) && is_next_shared now key (stations_of ss list)) ≡ true
-      go mode false key m w = cc
-      go mode true None m w = cc
-      go mode true (Some key) m w = rw m (wants_shared now key n w)
+      go : (started : Bool) (key : Option Key) → wants_copy (cond started key None) r (keys_of ss) list ≡ true → (started && is_next_copied (Some r.mode) r.moment key (stations_of ss list)) ≡ true
+      go false key w = cc
+      go true None w = cc
+      go true (Some key) w = wants_copied r key n w
+
+  -- what was missed under the key of a consumer
+  pub missed_seen : (key : Key) (number : ℕ) → length list ≡ length ss → IsMissed (index_in (keys_of ss) key) list number → number ≡ missed_of (station_of key (stations_of ss list))
+  missed_seen key number n h = go (index_in (keys_of ss) key) refl h
+    where
+      go : (o : Option ℕ) → index_in (keys_of ss) key ≡ o → IsMissed o list number → number ≡ missed_of (station_of key (stations_of ss list))
+      go None e h =
+          let none = key_missing key (λ x. x) ss list (fails_all (λ x. key_eq x key) (keys_of ss) (found_none (λ x. key_eq x key) (keys_of ss) e)) in
+          h ∙ ap (λ o. missed_of o) (sym none.1)
+      go (Some i) e h =
+          let at = found_at (λ y. key_eq y key) (keys_of ss) i e in
+          let d : Backlog = empty None in
+          let found = key_found key (λ rows. rows) ss list d i n at.0 (omega (arith, at.1, length-keys ss)) in
+          h d ∙ sym found.2
 
 -- what every core keeps, after a delivery
-pub sound_taken : (consumers : List Consumer) (ss : List Subscription) (keys : List Key) (list : List Backlog) (place now : ℕ) (k : Option Key) (o : Option Taking) → IsSound consumers ss keys list place → IsTaken k now keys list o → IsSound consumers ss keys (taken_from o now list) place
-sound_taken consumers ss keys list place now k None h t = h
-sound_taken consumers ss keys list place now None (Some x) h t = cc
-sound_taken consumers ss keys list place now (Some key) (Some x) h t = sound_received consumers ss keys list place x.index now key h t.0
+pub sound_taken : (limit : ℕ) (consumers : List Consumer) (ss : List Subscription) (keys : List Key) (list : List Backlog) (place : ℕ) (r : Receiver) (k : Option Key) (o : Option Taking) → IsSound limit consumers ss keys list place → IsTaken k r keys list o → IsSound limit consumers ss keys (taken_from o r list) place
+sound_taken limit consumers ss keys list place r k None h t = h
+sound_taken limit consumers ss keys list place r None (Some x) h t = cc
+sound_taken limit consumers ss keys list place r (Some key) (Some x) h t = sound_received limit consumers ss keys list place x.index r.moment key (Some r.mode) r.session r.consumer h t.0
 
 -- the copy is that which the delivery wants
-pub copy_taken : (keys : List Key) (list : List Backlog) (now : ℕ) (k : Option Key) (o : Option Taking) → IsTaken k now keys list o → IfSome o (λ x. (d : Backlog) → x.copy ≡ copy_wanted now list (get_or list x.index d).rows)
-copy_taken keys list now k None t = tt
-copy_taken keys list now None (Some x) t = cc
-copy_taken keys list now (Some key) (Some x) t = t.1
+pub copy_taken : (keys : List Key) (list : List Backlog) (r : Receiver) (k : Option Key) (o : Option Taking) → IsTaken k r keys list o → IfSome o (λ x. (d : Backlog) → x.copy ≡ copy_wanted (settles r) r.moment list (get_or list x.index d).rows)
+copy_taken keys list r k None t = tt
+copy_taken keys list r None (Some x) t = cc
+copy_taken keys list r (Some key) (Some x) t = t.1

@@ -6,5 +6,7 @@ pub mod Fits
 pub mod Published
 pub mod Seen
 pub mod Planned
+pub mod Closing
 mod Sends
 mod Reached
+mod Within

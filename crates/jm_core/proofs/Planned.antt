@@ -1,5 +1,5 @@
 -- What is planned, once it is made, is the machine's step.
-use Rattle.std.proofs.Common.{◌≡◌, ◌≤◌, ◌+◌, ◌++◌, ◌∷◌, [], ℕ, Bool, true, false, List, map, length, refl, ap, sym, subst, ◌∙◌, arith, Option, Some, None, Ok, Err}
+use Rattle.std.proofs.Common.{◌≡◌, ◌≤◌, ◌+◌, ◌∷◌, [], ℕ, Bool, true, false, cond, List, map, length, refl, ap, ◌∙◌, arith, Option, Some, None, Ok, Err}
 use Rattle.std.specs.Prelude.{◌&&◌, IfErr, MatchBool, OnErr, OnOk, Result, is_some, nat_le}
 use Rattle.std.proofs.lemmas.Bool.Decides.{nat_tests}
 use Rattle.std.proofs.lemmas.List.{length-map}
@@ -10,29 +10,29 @@ use Rattle.jm_dest.specs.declared.session.SessionId.{SessionId}
 use Rattle.jm_dest.specs.declared.key.Key.TheVariants.{Own}
 use Rattle.jm_header.specs.declared.content.Content.{Content}
 use Rattle.jm_machine.specs.declared.answer.Answer.{Answer}
-use Rattle.jm_machine.specs.declared.answer.Answer.TheVariants.{Done}
+use Rattle.jm_machine.specs.declared.answer.Answer.TheVariants.{Done, Missed}
 use Rattle.jm_machine.specs.declared.call.Who.{Who}
 use Rattle.jm_machine.specs.declared.call.Who.TheVariants.{Connection, Session}
 use Rattle.jm_machine.specs.declared.call.Call.{Call}
 use Rattle.jm_machine.specs.declared.call.Call.TheVariants.{Ask, Publish}
 use Rattle.jm_machine.specs.declared.call.Request.TheVariants as request
-use Rattle.jm_machine.specs.declared.state.ConnectionState.{ConnectionState}
-use Rattle.jm_machine.specs.Life.{connection_of, is_open_connection, life_after, mode_of}
-use Rattle.jm_machine.specs.Machine.{State, after, answer, is_stamped, joined, moved, places_end, publish_refusal, published, put, refusal, replied, reply, step}
+use Rattle.jm_machine.specs.declared.state.Station.{Station}
+use Rattle.jm_machine.specs.Life.{life_after, mode_of}
+use Rattle.jm_machine.specs.Machine.{State, after, answer, closed, is_client, is_stamped, joined, may_use, moved, of_connection, of_number, of_session, places_end, publish_refusal, published, put, refusal, replied, reply, returned, settled, settled_rows, step, with_life, with_rows}
 use Rattle.jm_machine.specs.Wants.{is_want, may_want}
 use Rattle.jm_session.specs.Known.{Known}
 use Rattle.jm_stations.specs.Stations.{Stations}
 use Rattle.jm_sub.specs.Subscriptions.{Subscription, Subscriptions}
 use Rattle.jm_core.specs.declared.publish.Publication.{Publication}
 use Rattle.jm_core.specs.declared.plan.Change.TheVariants as change
-use Rattle.jm_core.specs.Plans.{IsPlan, IsCreating, IsPublishing, IsRefused}
+use Rattle.jm_core.specs.Plans.{IsPlan, IsCreating, IsMissing, IsPublishing, IsRefused}
 use Rattle.jm_core.specs.Provider.{Provider, state_of}
 use Rattle.jm_core.specs.Steps.{PublishFits, StepFits}
 use Rattle.jm_core.proofs.Fits.{create_made}
 
 -- what callers see, of these parts
-abbrev pub of_parts : ℕ → Known → Subscriptions → Stations → Provider
-of_parts opening known subscriptions held = record { opening = opening; known = known; subscriptions = subscriptions; held = held }
+abbrev pub of_parts : ℕ → ℕ → Known → Subscriptions → Stations → Provider
+of_parts opening limit known subscriptions held = record { opening = opening; limit = limit; known = known; subscriptions = subscriptions; held = held }
 
 -- ---- a refusal
 
@@ -59,22 +59,56 @@ pub opened : (p : Provider) (who : Who) (call : Call) (c : ℕ) (new : State) �
 unfolding reply step refusal answer after
 opened p who call c new h e = rw (h.0, h.1, h.2) (refl, e)
 
--- a connection that was opened is open
-still_open : (o : Option ConnectionState) → is_some o ≡ true → is_open_connection o ≡ true
-still_open None h = cc
-still_open (Some x) h = refl
-
 pub started : (p : Provider) (who : Who) (call : Call) (c : ℕ) (new : State) → IsPlan p who call (change.Start c) → new ≡ record (state_of p) { life = life_after p.known.life (Connection c) request.Start } → StepFits (state_of p) who call (Ok Done) new
 unfolding reply step refusal answer after
-started p who call c new h e = rw (h.0, h.1, still_open (connection_of p.known.life.connections c) h.2) (refl, e)
+started p who call c new h e = rw (h.0, h.1, h.2) (refl, e)
 
 pub stopped : (p : Provider) (who : Who) (call : Call) (c : ℕ) (new : State) → IsPlan p who call (change.Stop c) → new ≡ record (state_of p) { life = life_after p.known.life (Connection c) request.Stop } → StepFits (state_of p) who call (Ok Done) new
 unfolding reply step refusal answer after
-stopped p who call c new h e = rw (h.0, h.1, still_open (connection_of p.known.life.connections c) h.2) (refl, e)
+stopped p who call c new h e = rw (h.0, h.1, h.2) (refl, e)
 
 pub session_made : (p : Provider) (who : Who) (call : Call) (s : SessionId) (mode : Mode) (new : State) → IsPlan p who call (change.CreateSession s mode) → new ≡ record (state_of p) { life = life_after p.known.life (Session s) (request.CreateSession mode) } → StepFits (state_of p) who call (Ok Done) new
 unfolding reply step refusal answer after
 session_made p who call s mode new h e = rw (h.0, h.1, h.2) (refl, e)
+
+-- ---- closing
+
+pub connection_closed : (p : Provider) (who : Who) (call : Call) (c : ℕ) (new : State) → IsPlan p who call (change.CloseConnection c) → new ≡ closed (of_connection c) (returned (of_connection c) (with_life (Connection c) request.CloseConnection (state_of p))) → StepFits (state_of p) who call (Ok Done) new
+unfolding reply step refusal answer after
+connection_closed p who call c new h e = rw (h.0, h.1, h.2) (refl, e)
+
+pub session_closed : (p : Provider) (who : Who) (call : Call) (s : SessionId) (new : State) → IsPlan p who call (change.CloseSession s) → new ≡ closed (of_session s) (returned (of_session s) (with_life (Session s) request.CloseSession (state_of p))) → StepFits (state_of p) who call (Ok Done) new
+unfolding reply step refusal answer after
+session_closed p who call s new h e = rw (h.0, h.1, h.2) (refl, e)
+
+pub consumer_closed : (p : Provider) (who : Who) (call : Call) (s : SessionId) (c : ℕ) (new : State) → IsPlan p who call (change.CloseConsumer s c) → new ≡ closed (of_number s c) (state_of p) → StepFits (state_of p) who call (Ok Done) new
+unfolding reply step refusal answer after
+consumer_closed p who call s c new h e = rw (h.0, h.1, h.2) (refl, e)
+
+-- ---- acknowledgement
+
+pub acknowledged : (p : Provider) (who : Who) (call : Call) (s : SessionId) (mode : Mode) (new : State) → IsPlan p who call (change.Acknowledge s mode) → new ≡ cond (is_client (Some mode)) (settled (of_session s) (state_of p)) (state_of p) → StepFits (state_of p) who call (Ok Done) new
+unfolding reply step refusal answer after
+acknowledged p who call s mode new h e = rw (h.0, h.1, h.2) (refl, e)
+
+pub acknowledged_state : (state : State) (mode : Mode) (s : SessionId) (xs : List Station) → xs ≡ cond (is_client (Some mode)) (map (with_rows (settled_rows (of_session s))) state.stations) state.stations → record state { stations = xs } ≡ cond (is_client (Some mode)) (settled (of_session s) state) state
+acknowledged_state state mode s xs e = go (is_client (Some mode)) e
+  where
+    go : (b : Bool) → xs ≡ cond b (map (with_rows (settled_rows (of_session s))) state.stations) state.stations → record state { stations = xs } ≡ cond b (settled (of_session s) state) state
+    go true e = ap (λ (ys : List Station). record state { stations = ys }) e
+    go false e = ap (λ (ys : List Station). record state { stations = ys }) e
+
+pub recovered : (p : Provider) (who : Who) (call : Call) (s : SessionId) (new : State) → IsPlan p who call (change.Recover s) → new ≡ returned (of_session s) (state_of p) → StepFits (state_of p) who call (Ok Done) new
+unfolding reply step refusal answer after
+recovered p who call s new h e = rw (h.0, h.1, h.2) (refl, e)
+
+pub missing_told : (p : Provider) (who : Who) (call : Call) (n : ℕ) → IsMissing p who call n → StepFits (state_of p) who call (Ok (Missed n)) (state_of p)
+unfolding reply step refusal answer after
+missing_told p who call n h = rw (h.sender, h.asked, h.allowed) (ap (λ x. Ok (Missed x)) h.number, refl)
+
+pub missing_refused : (state : State) (s : SessionId) (c : ℕ) (r : Refusal) → r ≡ IllegalState → may_use state.life state.consumers s c ≡ false → IsRefused state (Session s) (Ask (request.Missed c)) r
+unfolding reply refusal
+missing_refused state s c r e m = rw (e, m) refl
 
 -- ---- a consumer
 

@@ -13,9 +13,9 @@ use Rattle.jm_core.specs.declared.publish.Publication.{Publication}
 use Rattle.jm_core.specs.Publications.{IsRouted, IsReady, IsReserved, ArePublished}
 use Rattle.jm_core.specs.State.{stations_of, IsSound}
 use Rattle.jm_core.specs.Steps.{published_stations}
-use Rattle.jm_core.proofs.Stations.{more_room, room_unlimited}
+use Rattle.jm_core.proofs.Stations.{more_room, room_limited}
 use Rattle.jm_core.proofs.Publishing.{published_all, published_is}
-use Rattle.jm_core.proofs.Sound.{sound_room, sound_published}
+use Rattle.jm_core.proofs.Sound.{all_limited, sound_room, sound_published}
 use Rattle.jm_core.proofs.Fits.{state_from}
 
 -- the message of a publication, where it goes, and for how many there is room there
@@ -45,15 +45,15 @@ no_life : Life
 no_life = record { connections = []; sessions = [] }
 
 -- what is kept
-pub publication_sound : (consumers : List Consumer) (ss : List Subscription) (keys : List Key) (old mid new : List Backlog) (place next : ℕ) (xs : List Publication) → IsSound consumers ss keys old place → HasMoreRoom old mid → All (IsSent ss) xs → ArePublished xs place mid new → next ≤ places_end →
-    IsSound consumers ss keys new next
-publication_sound consumers ss keys old mid new place next xs h r sent p le = sound_published no_life consumers ss keys mid new place next xs (sound_room consumers ss keys old mid place h r) sent p le
+pub publication_sound : (limit : ℕ) (consumers : List Consumer) (ss : List Subscription) (keys : List Key) (old mid new : List Backlog) (place next : ℕ) (xs : List Publication) → IsSound limit consumers ss keys old place → HasMoreRoom old mid → All (IsSent ss) xs → ArePublished xs place mid new → next ≤ places_end →
+    IsSound limit consumers ss keys new next
+publication_sound limit consumers ss keys old mid new place next xs h r sent p le = sound_published limit no_life consumers ss keys mid new place next xs (sound_room limit consumers ss keys old mid place h r) sent p le
 
 -- what callers see
-pub publication_seen : (opening : ℕ) (life : Life) (consumers : List Consumer) (ss : List Subscription) (keys : List Key) (old mid new : List Backlog) (place next : ℕ) (xs : List Publication) (ms : List Content) → IsSound consumers ss keys old place → HasMoreRoom old mid → All (IsSent ss) xs →
-    map message_of xs ≡ ms → ArePublished xs place mid new → next ≡ place + length ms → state_from opening life consumers ss new next ≡ published (state_from opening life consumers ss old place) ms
-publication_seen opening life consumers ss keys old mid new place next xs ms h r sent is p end =
+pub publication_seen : (opening limit : ℕ) (life : Life) (consumers : List Consumer) (ss : List Subscription) (keys : List Key) (old mid new : List Backlog) (place next : ℕ) (xs : List Publication) (ms : List Content) → IsSound limit consumers ss keys old place → HasMoreRoom old mid → All (IsSent ss) xs →
+    map message_of xs ≡ ms → ArePublished xs place mid new → next ≡ place + length ms → state_from opening limit life consumers ss new next ≡ published (state_from opening limit life consumers ss old place) ms
+publication_seen opening limit life consumers ss keys old mid new place next xs ms h r sent is p end =
     let number : length mid ≡ length ss = r.number ∙ h.number in
-    let made = (published_all life ss xs place mid new number (room_unlimited old mid r h.unlimited) sent p).0 in
-    let seen : stations_of ss new ≡ published_stations life place ms (stations_of ss old) = made ∙ (λ i. published_stations life place (is i) (more_room ss old mid r i)) in
-    (λ i. record { opening = opening; life = life; consumers = consumers; stations = seen i; next_place = end i }) ∙ sym (published_is (state_from opening life consumers ss old place) ms)
+    let made = (published_all limit life ss xs place mid new number (all_limited limit consumers ss keys old place h) (room_limited limit old mid r h.limited) sent p).0 in
+    let seen : stations_of ss new ≡ published_stations limit life place ms (stations_of ss old) = made ∙ (λ i. published_stations limit life place (is i) (more_room ss old mid r i)) in
+    (λ i. record { opening = opening; limit = limit; life = life; consumers = consumers; stations = seen i; next_place = end i }) ∙ sym (published_is (state_from opening limit life consumers ss old place) ms)

@@ -1,6 +1,6 @@
 -- A publication by indexes is the machine's: it comes to the subscriptions that accept it.
-use Rattle.std.proofs.Common.{◌≡◌, ◌<◌, ◌≤◌, ◌+◌, ◌-◌, ◌==◌, ℕ, Bool, true, false, cond, List, [], ◌∷◌, ◌++◌, map, length, get_or, refl, ap, sym, subst, ◌∙◌, arith, Some, None, zero, suc, nat_eq, min, ◌^◌, take, add-one}
-use Rattle.std.specs.Prelude.{◌||◌, filter, position, nat_lt, is_some}
+use Rattle.std.proofs.Common.{◌≡◌, ◌<◌, ◌≤◌, ◌+◌, ◌-◌, ◌==◌, ℕ, Bool, true, false, cond, List, [], ◌∷◌, ◌++◌, map, length, get_or, refl, ap, sym, subst, ◌∙◌, arith, Some, None, zero, suc, nat_eq, take, add-one}
+use Rattle.std.specs.Prelude.{◌||◌, ◌&&◌, filter, position, nat_le, nat_lt, is_some}
 use Rattle.std.specs.List.{All, AllByRecursion, IsDistinct, position_or_len}
 use Rattle.std.proofs.lemmas.Bool.Decides.{nat_tests}
 use Rattle.std.proofs.Math.Seq.{take-suc}
@@ -11,13 +11,13 @@ use Rattle.jm_dest.specs.declared.key.Key.{Key}
 use Rattle.jm_dest.specs.Keys.{key_eq}
 use Rattle.jm_header.specs.declared.content.Content.{Content}
 use Rattle.jm_machine.specs.Life.{Life}
-use Rattle.jm_machine.specs.Machine.{Publisher, State, publisher_of, accepts, offered, published, with_message, with_rows}
+use Rattle.jm_machine.specs.Machine.{Publisher, State, publisher_of, accepts, brought, is_full, is_limited, offered, one_missed, published, with_message, with_rows}
 use Rattle.jm_machine.specs.Rows.{fresh}
 use Rattle.jm_pending.specs.Rows.{is_at_limit}
 use Rattle.jm_stations.specs.Backlogs.{Backlog, IsPublished, HasMoreRoom, is_named, added}
 use Rattle.jm_stations.proofs.Keys.{key_refl}
 use Rattle.jm_sub.specs.Subscriptions.{Subscription, takes, accepting}
-use Rattle.jm_core.specs.State.{station, stations_of, keys_of}
+use Rattle.jm_core.specs.State.{HasLimit, station, stations_of, keys_of}
 use Rattle.jm_core.specs.Steps.{published_stations}
 use Rattle.jm_core.specs.declared.publish.Publication.{Publication}
 use Rattle.jm_core.specs.Publications.{IsReserved, IsRouted, IsReady, ArePublished}
@@ -135,32 +135,49 @@ routed ss keys m accepted is e h a s = record {
 
 -- ---- what callers see of a publication
 
-offered_each : (p : Publisher) (m : Content) (place : ℕ) (ss : List Subscription) (old new : List Backlog) (named : ℕ → Bool) → length old ≡ length ss → length new ≡ length ss → All (λ (b : Backlog). b.limit ≡ None) old →
-    ((k : ℕ) (d : Subscription) → k < length ss → named k ≡ takes p m (get_or ss k d)) → ((k : ℕ) (d : Backlog) → k < length old → get_or new k d ≡ cond (named k) (added place m (get_or old k d)) (get_or old k d)) →
-    stations_of ss new ≡ map (offered p m place) (stations_of ss old)
-offered_each p m place [] old new named n n' u t each = refl
-offered_each p m place (s ∷ ss) [] new named n n' u t each = absurd (omega arith)
-offered_each p m place (s ∷ ss) (x ∷ old) [] named n n' u t each = absurd (omega arith)
-offered_each p m place (s ∷ ss) (x ∷ old) (y ∷ new) named n n' u t each =
-    let here : station s y ≡ offered p m place (station s x) = ap (station s) (each zero x (omega arith)) ∙ go (named zero) (accepts s.key s.definition p m) (t zero s (omega arith)) in
-    let rest = offered_each p m place ss old new (λ k. named (suc k)) (omega arith) (omega arith) (All-tail (λ (b : Backlog). b.limit ≡ None) x old u) (λ k d l. t (suc k) d (omega arith)) (λ k d l. each (suc k) d (omega arith)) in
-    λ i. here i ∷ rest i
+-- a key whose subscription has a limit
+abbrev pub IsLimited : Key → Type 0
+IsLimited k = is_limited k ≡ true
+
+-- a subscription misses a message exactly where what is held for it is at the limit
+brought_is : (limit : ℕ) (m : Content) (place : ℕ) (s : Subscription) (x : Backlog) → IsLimited s.key → HasLimit limit x → station s (added place m x) ≡ brought limit m place (station s x)
+brought_is limit m place s x l u = go (is_at_limit x.limit (length x.rows)) (is_full limit s.key (length x.rows)) (ap (λ o. is_at_limit o (length x.rows)) u ∙ sym (ap (λ b. b && nat_le limit (length x.rows)) l))
   where
-    go : (b a : Bool) → b ≡ a → station s (cond b (added place m x) x) ≡ cond a (with_rows (λ rows. rows ++ record { place = place; row = fresh m } ∷ []) (station s x)) (station s x)
-    go true true e = let none : x.limit ≡ None = All-head (λ (b : Backlog). b.limit ≡ None) x old u in rw none refl
+    go : (a b : Bool) → a ≡ b →
+        station s (cond a (record x { missed = one_missed x.missed }) (record x { rows = x.rows ++ record { place = place; row = fresh m } ∷ []; room = x.room - 1 }))
+        ≡ cond b (record { key = s.key; definition = s.definition; missed = one_missed x.missed; rows = x.rows }) (with_rows (λ rows. rows ++ record { place = place; row = fresh m } ∷ []) (station s x))
+    go true true e = refl
     go false false e = refl
     go true false e = absurd (cc)
     go false true e = absurd (cc)
 
-pub published_one : (p : Publisher) (m : Content) (place : ℕ) (ss : List Subscription) (old new : List Backlog) (is : List ℕ) → length old ≡ length ss → All (λ (b : Backlog). b.limit ≡ None) old → IsRouted ss m is → IsPublished is place m old new → stations_of ss new ≡ map (offered p m place) (stations_of ss old)
-published_one p m place ss old new is n u r h = offered_each p m place ss old new (is_named is) n (h.number ∙ n) u (r.each p) h.each
+offered_each : (limit : ℕ) (p : Publisher) (m : Content) (place : ℕ) (ss : List Subscription) (old new : List Backlog) (named : ℕ → Bool) → length old ≡ length ss → length new ≡ length ss → All IsLimited (keys_of ss) → All (HasLimit limit) old →
+    ((k : ℕ) (d : Subscription) → k < length ss → named k ≡ takes p m (get_or ss k d)) → ((k : ℕ) (d : Backlog) → k < length old → get_or new k d ≡ cond (named k) (added place m (get_or old k d)) (get_or old k d)) →
+    stations_of ss new ≡ map (offered limit p m place) (stations_of ss old)
+offered_each limit p m place [] old new named n n' l u t each = refl
+offered_each limit p m place (s ∷ ss) [] new named n n' l u t each = absurd (omega arith)
+offered_each limit p m place (s ∷ ss) (x ∷ old) [] named n n' l u t each = absurd (omega arith)
+offered_each limit p m place (s ∷ ss) (x ∷ old) (y ∷ new) named n n' l u t each =
+    let here : station s y ≡ offered limit p m place (station s x) = ap (station s) (each zero x (omega arith)) ∙ go (named zero) (accepts s.key s.definition p m) (t zero s (omega arith)) in
+    let rest = offered_each limit p m place ss old new (λ k. named (suc k)) (omega arith) (omega arith) (All-tail IsLimited s.key (keys_of ss) l) (All-tail (HasLimit limit) x old u) (λ k d l. t (suc k) d (omega arith)) (λ k d l. each (suc k) d (omega arith)) in
+    λ i. here i ∷ rest i
+  where
+    go : (b a : Bool) → b ≡ a → station s (cond b (added place m x) x) ≡ cond a (brought limit m place (station s x)) (station s x)
+    go true true e = brought_is limit m place s x (All-head IsLimited s.key (keys_of ss) l) (All-head (HasLimit limit) x old u)
+    go false false e = refl
+    go true false e = absurd (cc)
+    go false true e = absurd (cc)
 
-pub unlimited_one : (m : Content) (place : ℕ) (old new : List Backlog) (is : List ℕ) → All (λ (b : Backlog). b.limit ≡ None) old → IsPublished is place m old new → All (λ (b : Backlog). b.limit ≡ None) new
-unlimited_one m place old new is u h = λ k d l.
+pub published_one : (limit : ℕ) (p : Publisher) (m : Content) (place : ℕ) (ss : List Subscription) (old new : List Backlog) (is : List ℕ) → length old ≡ length ss → All IsLimited (keys_of ss) → All (HasLimit limit) old → IsRouted ss m is → IsPublished is place m old new →
+    stations_of ss new ≡ map (offered limit p m place) (stations_of ss old)
+published_one limit p m place ss old new is n l u r h = offered_each limit p m place ss old new (is_named is) n (h.number ∙ n) l u (r.each p) h.each
+
+pub limited_one : (limit : ℕ) (m : Content) (place : ℕ) (old new : List Backlog) (is : List ℕ) → All (HasLimit limit) old → IsPublished is place m old new → All (HasLimit limit) new
+limited_one limit m place old new is u h = λ k d l.
     let within : k < length old = omega (arith, h.number, l) in
     ap (λ (b : Backlog). b.limit) (h.each k d within) ∙ go (is_named is k) (get_or old k d) ∙ u k d within
   where
-    inside : (b : Bool) (x : Backlog) → (cond b (record x { missed = min (x.missed + 1) (2 ^ 64 - 1) }) (record x { rows = x.rows ++ record { place = place; row = fresh m } ∷ []; room = x.room - 1 })).limit ≡ x.limit
+    inside : (b : Bool) (x : Backlog) → (cond b (record x { missed = one_missed x.missed }) (record x { rows = x.rows ++ record { place = place; row = fresh m } ∷ []; room = x.room - 1 })).limit ≡ x.limit
     inside true x = refl
     inside false x = refl
 
@@ -169,22 +186,22 @@ unlimited_one m place old new is u h = λ k d l.
     go false x = refl
 
 -- many in turn
-pub published_all : (life : Life) (ss : List Subscription) (xs : List Publication) (place : ℕ) (old new : List Backlog) → length old ≡ length ss → All (λ (b : Backlog). b.limit ≡ None) old → All (λ (x : Publication). IsRouted ss x.message x.indexes.items) xs → ArePublished xs place old new →
-    (stations_of ss new ≡ published_stations life place (map (λ (x : Publication). x.message) xs) (stations_of ss old)) × (length new ≡ length ss) × All (λ (b : Backlog). b.limit ≡ None) new
-published_all life ss [] place old new n u r h = (ap (stations_of ss) h, ap (λ (l : List Backlog). length l) h ∙ n, subst (All (λ (b : Backlog). b.limit ≡ None)) (sym h) u)
-published_all life ss (x ∷ xs) place old new n u r h =
+pub published_all : (limit : ℕ) (life : Life) (ss : List Subscription) (xs : List Publication) (place : ℕ) (old new : List Backlog) → length old ≡ length ss → All IsLimited (keys_of ss) → All (HasLimit limit) old → All (λ (x : Publication). IsRouted ss x.message x.indexes.items) xs → ArePublished xs place old new →
+    (stations_of ss new ≡ published_stations limit life place (map (λ (x : Publication). x.message) xs) (stations_of ss old)) × (length new ≡ length ss) × All (HasLimit limit) new
+published_all limit life ss [] place old new n l u r h = (ap (stations_of ss) h, ap (λ (l : List Backlog). length l) h ∙ n, subst (All (HasLimit limit)) (sym h) u)
+published_all limit life ss (x ∷ xs) place old new n l u r h =
     let routes = All-head (λ (x : Publication). IsRouted ss x.message x.indexes.items) x xs r in
-    let one = published_one (publisher_of life x.message) x.message place ss old h.0 x.indexes.items n u routes h.1 in
-    let rest = published_all life ss xs (place + 1) h.0 new (h.1.number ∙ n) (unlimited_one x.message place old h.0 x.indexes.items u h.1) (All-tail (λ (x : Publication). IsRouted ss x.message x.indexes.items) x xs r) h.2 in
-    (rest.0 ∙ ap (published_stations life (place + 1) (map (λ (x : Publication). x.message) xs)) one, rest.1, rest.2)
+    let one = published_one limit (publisher_of life x.message) x.message place ss old h.0 x.indexes.items n l u routes h.1 in
+    let rest = published_all limit life ss xs (place + 1) h.0 new (h.1.number ∙ n) l (limited_one limit x.message place old h.0 x.indexes.items u h.1) (All-tail (λ (x : Publication). IsRouted ss x.message x.indexes.items) x xs r) h.2 in
+    (rest.0 ∙ ap (published_stations limit life (place + 1) (map (λ (x : Publication). x.message) xs)) one, rest.1, rest.2)
 
 -- the state after messages is that of its stations, and as many places further
-pub published_is : (state : State) (ms : List Content) → published state ms ≡ record state { stations = published_stations state.life state.next_place ms state.stations; next_place = state.next_place + length ms }
+pub published_is : (state : State) (ms : List Content) → published state ms ≡ record state { stations = published_stations state.limit state.life state.next_place ms state.stations; next_place = state.next_place + length ms }
 unfolding published
 published_is state [] = ap (λ n. record state { next_place = n }) (omega arith)
 published_is state (m ∷ ms) =
     published_is (with_message state m) ms
-    ∙ ap (λ n. record state { stations = published_stations state.life (state.next_place + 1) ms (map (offered (publisher_of state.life m) m state.next_place) state.stations); next_place = n }) (omega arith)
+    ∙ ap (λ n. record state { stations = published_stations state.limit state.life (state.next_place + 1) ms (map (offered state.limit (publisher_of state.life m) m state.next_place) state.stations); next_place = n }) (omega arith)
 
 -- ---- one publication more
 
@@ -240,7 +257,7 @@ reserved_less n m place old new named is h r = record {
       subst (λ (b : Backlog). n ≤ b.room) (sym (h.each (get_or is k d) e at)) (go (is_named named (get_or is k d)) (get_or old (get_or is k d) e) was);
 }
   where
-    inside : (b : Bool) (x : Backlog) → n + 1 ≤ x.room → n ≤ (cond b (record x { missed = min (x.missed + 1) (2 ^ 64 - 1) }) (record x { rows = x.rows ++ record { place = place; row = fresh m } ∷ []; room = x.room - 1 })).room
+    inside : (b : Bool) (x : Backlog) → n + 1 ≤ x.room → n ≤ (cond b (record x { missed = one_missed x.missed }) (record x { rows = x.rows ++ record { place = place; row = fresh m } ∷ []; room = x.room - 1 })).room
     inside true x w = omega (arith, w)
     inside false x w = omega (arith, w)
 

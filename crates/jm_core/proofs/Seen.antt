@@ -15,7 +15,7 @@ use Rattle.jm_stations.proofs.Keys.{key_same}
 use Rattle.jm_sub.specs.Subscriptions.{Subscription}
 use Rattle.jm_core.specs.Accepted.{HoldsAccepted}
 use Rattle.jm_core.specs.Kept.{IsNumberOfMessages}
-use Rattle.jm_core.specs.State.{station, stations_of, keys_of, IsSound}
+use Rattle.jm_core.specs.State.{HasLimit, station, stations_of, keys_of, IsSound}
 use Rattle.jm_core.proofs.Stations.{found_at, found_none, fails_all, key_missing, holders_same, length-keys}
 
 pub length-stations : (ss : List Subscription) (bs : List Backlog) → length bs ≡ length ss → length (stations_of ss bs) ≡ length ss
@@ -29,17 +29,18 @@ stations_copied [] bs = refl
 stations_copied (s ∷ ss) [] = refl
 stations_copied (s ∷ ss) (b ∷ bs) = ap (λ xs. station s b ∷ xs) (stations_copied ss bs)
 
-unlimited_copied : (bs : List Backlog) → All (λ (b : Backlog). b.limit ≡ None) bs → All (λ (b : Backlog). b.limit ≡ None) (map without_room bs)
-unlimited_copied [] u = u
-unlimited_copied (b ∷ bs) u = All-cons (λ (b : Backlog). b.limit ≡ None) (without_room b) (map without_room bs) (All-head (λ (b : Backlog). b.limit ≡ None) b bs u) (unlimited_copied bs (All-tail (λ (b : Backlog). b.limit ≡ None) b bs u))
+limited_copied : (limit : ℕ) (bs : List Backlog) → All (HasLimit limit) bs → All (HasLimit limit) (map without_room bs)
+limited_copied limit [] u = u
+limited_copied limit (b ∷ bs) u = All-cons (HasLimit limit) (without_room b) (map without_room bs) (All-head (HasLimit limit) b bs u) (limited_copied limit bs (All-tail (HasLimit limit) b bs u))
 
-pub sound_copied : (consumers : List Consumer) (ss : List Subscription) (keys : List Key) (bs : List Backlog) (place : ℕ) → IsSound consumers ss keys bs place → IsSound consumers ss keys (map without_room bs) place
-sound_copied consumers ss keys bs place h = record {
+pub sound_copied : (limit : ℕ) (consumers : List Consumer) (ss : List Subscription) (keys : List Key) (bs : List Backlog) (place : ℕ) → IsSound limit consumers ss keys bs place → IsSound limit consumers ss keys (map without_room bs) place
+sound_copied limit consumers ss keys bs place h = record {
   same = h.same;
   number = length-map bs without_room ∙ h.number;
   once = h.once;
   made = h.made;
-  unlimited = unlimited_copied bs h.unlimited;
+  own = h.own;
+  limited = limited_copied limit bs h.limited;
   accepted = subst HoldsAccepted (sym (stations_copied ss bs)) h.accepted;
   places = h.places;
 }
@@ -55,26 +56,26 @@ kept_same n ss bs number h = record {
 
 -- the station of a key that is found
 there : (k : Key) (ss : List Subscription) (bs : List Backlog) (i : ℕ) (d : Definition) (e : Backlog) → length bs ≡ length ss → position_or_len (λ x. key_eq x k) (keys_of ss) ≡ i → i < length ss → option_map (λ (s : Subscription). s.definition) (slice_get ss i) ≡ Some d →
-    Some (record { key = k; definition = d; rows = (get_or bs i e).rows }) ≡ station_of k (stations_of ss bs)
+    Some (record { key = k; definition = d; missed = (get_or bs i e).missed; rows = (get_or bs i e).rows }) ≡ station_of k (stations_of ss bs)
 there k [] bs i d e n at l is = absurd (omega arith)
 there k (s ∷ ss) [] i d e n at l is = absurd (omega arith)
 there k (s ∷ ss) (b ∷ bs) zero d e n at l is = go (key_eq s.key k) refl
   where
-    go : (t : Bool) → key_eq s.key k ≡ t → Some (record { key = k; definition = d; rows = b.rows }) ≡ station_of k (stations_of (s ∷ ss) (b ∷ bs))
+    go : (t : Bool) → key_eq s.key k ≡ t → Some (record { key = k; definition = d; missed = b.missed; rows = b.rows }) ≡ station_of k (stations_of (s ∷ ss) (b ∷ bs))
     go true t =
         let key : k ≡ s.key = sym (key_same s.key k t) in
         let definition : d ≡ s.definition = cc in
-        rw t (λ j. Some (record { key = key j; definition = definition j; rows = b.rows }))
+        rw t (λ j. Some (record { key = key j; definition = definition j; missed = b.missed; rows = b.rows }))
     go false t = absurd (omega (arith, rw t at at))
 there k (s ∷ ss) (b ∷ bs) (suc i) d e n at l is = go (key_eq s.key k) refl (there k ss bs i d e (omega arith))
   where
-    go : (t : Bool) → key_eq s.key k ≡ t → (position_or_len (λ x. key_eq x k) (keys_of ss) ≡ i → i < length ss → option_map (λ (s : Subscription). s.definition) (slice_get ss i) ≡ Some d → Some (record { key = k; definition = d; rows = (get_or bs i e).rows }) ≡ station_of k (stations_of ss bs)) →
-        Some (record { key = k; definition = d; rows = (get_or bs i e).rows }) ≡ station_of k (stations_of (s ∷ ss) (b ∷ bs))
+    go : (t : Bool) → key_eq s.key k ≡ t → (position_or_len (λ x. key_eq x k) (keys_of ss) ≡ i → i < length ss → option_map (λ (s : Subscription). s.definition) (slice_get ss i) ≡ Some d → Some (record { key = k; definition = d; missed = (get_or bs i e).missed; rows = (get_or bs i e).rows }) ≡ station_of k (stations_of ss bs)) →
+        Some (record { key = k; definition = d; missed = (get_or bs i e).missed; rows = (get_or bs i e).rows }) ≡ station_of k (stations_of (s ∷ ss) (b ∷ bs))
     go true t rest = absurd (omega (arith, rw t at at))
     go false t rest = rw t (rest (omega (arith, rw t at at)) (omega arith) is)
 
 pub station_found : (k : Key) (ss : List Subscription) (bs : List Backlog) (i : ℕ) (d : Definition) (e : Backlog) → length bs ≡ length ss → position (λ x. key_eq x k) (keys_of ss) ≡ Some i → option_map (λ (s : Subscription). s.definition) (slice_get ss i) ≡ Some d →
-    Some (record { key = k; definition = d; rows = (get_or bs i e).rows }) ≡ station_of k (stations_of ss bs)
+    Some (record { key = k; definition = d; missed = (get_or bs i e).missed; rows = (get_or bs i e).rows }) ≡ station_of k (stations_of ss bs)
 station_found k ss bs i d e n at is =
     let found = found_at (λ x. key_eq x k) (keys_of ss) i at in
     there k ss bs i d e n found.0 (omega (arith, found.1, length-keys ss)) is

@@ -1,11 +1,11 @@
 -- What every core keeps, through each change.
-use Rattle.std.proofs.Common.{◌≡◌, ◌<◌, ◌≤◌, ℕ, Bool, true, false, cond, List, [], ◌∷◌, ◌++◌, map, length, refl, ap, sym, subst, ◌∙◌, arith, Some, None}
+use Rattle.std.proofs.Common.{◌≡◌, ◌<◌, ◌≤◌, ℕ, Bool, true, false, cond, List, [], ◌∷◌, ◌++◌, map, length, refl, ap, sym, subst, ◌∙◌, arith, Option, Some, None}
 use Rattle.std.specs.Prelude.{◌&&◌, not, find, position, nat_lt, is_some}
 use Rattle.std.specs.List.{All, AllByRecursion, IsDistinct, position_or_len}
 use Rattle.std.proofs.lemmas.Bool.Decides.{nat_tests}
 use Rattle.std.proofs.lemmas.List.{map-append, length-append}
 use Rattle.std.proofs.lemmas.List.Elements.{All-head, All-tail, All-nil, All-push, All-weaker}
-use Rattle.jm_base.specs.declared.mode.Mode.TheVariants.{Auto}
+use Rattle.jm_base.specs.declared.mode.Mode.{Mode}
 use Rattle.jm_dest.specs.declared.session.SessionId.{SessionId}
 use Rattle.jm_dest.specs.declared.key.Key.{Key}
 use Rattle.jm_dest.specs.declared.key.Key.TheVariants.{Queue, Own, SharedOwn, Durable}
@@ -16,64 +16,79 @@ use Rattle.jm_machine.specs.declared.state.Station.{Station}
 use Rattle.jm_machine.specs.Life.{Life, mode_of}
 use Rattle.jm_machine.specs.Rows.{deliver_placed, left_of}
 use Rattle.jm_machine.specs.Machine.{has_number, consumer_of, may_begin, new_consumer, places_end, without}
-use Rattle.jm_stations.specs.Backlogs.{Backlog, HasMoreRoom, changed_at, received, empty}
+use Rattle.jm_stations.specs.Backlogs.{Backlog, HasMoreRoom, changed_at, empty}
 use Rattle.jm_stations.proofs.Keys.{key_refl, key_same}
 use Rattle.jm_sub.specs.Subscriptions as subs
 use Rattle.jm_sub.specs.Subscriptions.{Subscription}
 use Rattle.jm_core.specs.declared.publish.Publication.{Publication}
 use Rattle.jm_core.specs.Accepted.{HoldsAccepted}
 use Rattle.jm_core.specs.Publications.{IsRouted, ArePublished}
-use Rattle.jm_core.specs.State.{station, stations_of, keys_of, IsOfConsumer, IsSound}
+use Rattle.jm_core.specs.State.{AllOwn, HasLimit, station, stations_of, keys_of, IsOfConsumer, IsSound}
+use Rattle.jm_core.specs.Takings.{with_delivery}
 use Rattle.jm_core.proofs.Accepted.{published_hold, with_empty, at_key_holds}
-use Rattle.jm_core.proofs.Stations.{found_at, key_found, key_missing, subscription_missing, stations_push, more_room, room_unlimited, length-changed, changed_unlimited, length-keys}
-use Rattle.jm_core.proofs.Publishing.{published_all}
+use Rattle.jm_core.proofs.Stations.{found_at, key_found, key_missing, subscription_missing, stations_push, more_room, room_limited, length-changed, changed_limited, length-keys}
+use Rattle.jm_core.proofs.Publishing.{IsLimited, published_all}
 
 -- nothing was made and nothing is held
-pub sound_none : IsSound [] [] [] [] 1
+pub sound_none : (limit : ℕ) → IsSound limit [] [] [] [] 1
 unfolding IsDistinct
-sound_none = record { same = refl; number = refl; once = tt; made = All-nil (IsOfConsumer []); unlimited = All-nil (λ (b : Backlog). b.limit ≡ None); accepted = tt; places = omega arith }
+sound_none limit = record { same = refl; number = refl; once = tt; made = All-nil (IsOfConsumer []); own = tt; limited = All-nil (HasLimit limit); accepted = tt; places = omega arith }
 
 -- where there is more room
-pub sound_room : (consumers : List Consumer) (ss : List Subscription) (keys : List Key) (old new : List Backlog) (place : ℕ) → IsSound consumers ss keys old place → HasMoreRoom old new → IsSound consumers ss keys new place
-sound_room consumers ss keys old new place h r = record {
+pub sound_room : (limit : ℕ) (consumers : List Consumer) (ss : List Subscription) (keys : List Key) (old new : List Backlog) (place : ℕ) → IsSound limit consumers ss keys old place → HasMoreRoom old new → IsSound limit consumers ss keys new place
+sound_room limit consumers ss keys old new place h r = record {
   same = h.same;
   number = r.number ∙ h.number;
   once = h.once;
   made = h.made;
-  unlimited = room_unlimited old new r h.unlimited;
+  own = h.own;
+  limited = room_limited limit old new r h.limited;
   accepted = subst HoldsAccepted (sym (more_room ss old new r)) h.accepted;
   places = h.places;
 }
 
 -- after a delivery
-pub sound_received : (consumers : List Consumer) (ss : List Subscription) (keys : List Key) (list : List Backlog) (place i now : ℕ) (k : Key) → IsSound consumers ss keys list place → position (λ x. key_eq x k) keys ≡ Some i → IsSound consumers ss keys (changed_at i (received now) list) place
-sound_received consumers ss keys list place i now k h e =
+pub sound_received : (limit : ℕ) (consumers : List Consumer) (ss : List Subscription) (keys : List Key) (list : List Backlog) (place i now : ℕ) (k : Key) (mode : Option Mode) (s : SessionId) (c : ℕ) → IsSound limit consumers ss keys list place → position (λ x. key_eq x k) keys ≡ Some i →
+    IsSound limit consumers ss keys (changed_at i (with_delivery (left_of mode s c) now) list) place
+sound_received limit consumers ss keys list place i now k mode s c h e =
     let at = found_at (λ x. key_eq x k) (keys_of ss) i (rw h.same e) in
     let inside : i < length ss = omega (arith, at.1, length-keys ss) in
     let d : Backlog = empty None in
-    let after = (key_found k (deliver_placed now (left_of (Some Auto))) ss list d i h.number at.0 inside).0 in
+    let after = (key_found k (deliver_placed now (left_of mode s c)) ss list d i h.number at.0 inside).0 in
     record {
       same = h.same;
-      number = length-changed i (received now) list ∙ h.number;
+      number = length-changed i (with_delivery (left_of mode s c) now) list ∙ h.number;
       once = h.once;
       made = h.made;
-      unlimited = changed_unlimited i now list h.unlimited;
-      accepted = subst HoldsAccepted after (at_key_holds k now (stations_of ss list) h.accepted);
+      own = h.own;
+      limited = changed_limited limit i (with_delivery (left_of mode s c) now) (λ b. refl) list h.limited;
+      accepted = subst HoldsAccepted after (at_key_holds k mode s c now (stations_of ss list) h.accepted);
       places = h.places;
     }
 
+-- the subscriptions have the limit
+limited_key : (consumers : List Consumer) (k : Key) → IsOfConsumer consumers k → IsLimited k
+limited_key consumers (Own s c) h = refl
+limited_key consumers (Queue name) h = absurd h
+limited_key consumers (SharedOwn client name) h = absurd h
+limited_key consumers (Durable client name) h = absurd h
+
+pub all_limited : (limit : ℕ) (consumers : List Consumer) (ss : List Subscription) (keys : List Key) (list : List Backlog) (place : ℕ) → IsSound limit consumers ss keys list place → All IsLimited (keys_of ss)
+all_limited limit consumers ss keys list place h = subst (All IsLimited) (sym h.same) (All-weaker (IsOfConsumer consumers) IsLimited (limited_key consumers) keys h.made)
+
 -- after publications
-pub sound_published : (life : Life) (consumers : List Consumer) (ss : List Subscription) (keys : List Key) (old new : List Backlog) (place next : ℕ) (xs : List Publication) → IsSound consumers ss keys old place → All (λ (x : Publication). IsRouted ss x.message x.indexes.items) xs → ArePublished xs place old new → next ≤ places_end →
-    IsSound consumers ss keys new next
-sound_published life consumers ss keys old new place next xs h r p le =
-    let all = published_all life ss xs place old new h.number h.unlimited r p in
+pub sound_published : (limit : ℕ) (life : Life) (consumers : List Consumer) (ss : List Subscription) (keys : List Key) (old new : List Backlog) (place next : ℕ) (xs : List Publication) → IsSound limit consumers ss keys old place → All (λ (x : Publication). IsRouted ss x.message x.indexes.items) xs → ArePublished xs place old new → next ≤ places_end →
+    IsSound limit consumers ss keys new next
+sound_published limit life consumers ss keys old new place next xs h r p le =
+    let all = published_all limit life ss xs place old new h.number (all_limited limit consumers ss keys old place h) h.limited r p in
     record {
       same = h.same;
       number = all.1;
       once = h.once;
       made = h.made;
-      unlimited = all.2;
-      accepted = subst HoldsAccepted (sym all.0) (published_hold life place (map (λ (x : Publication). x.message) xs) (stations_of ss old) h.accepted);
+      own = h.own;
+      limited = all.2;
+      accepted = subst HoldsAccepted (sym all.0) (published_hold limit life place (map (λ (x : Publication). x.message) xs) (stations_of ss old) h.accepted);
       places = le;
     }
 
@@ -104,7 +119,7 @@ still_made consumers y (Durable client name) h = h
 own_number : (s : SessionId) (c : ℕ) → key_eq (Own s c) (Own s c) ≡ true
 own_number s c = key_refl (Own s c)
 
-key_parts : (t s : SessionId) (d c : ℕ) → Own t d ≡ Own s c → (t ≡ s) × (d ≡ c)
+pub key_parts : (t s : SessionId) (d c : ℕ) → Own t d ≡ Own s c → (t ≡ s) × (d ≡ c)
 key_parts t s d c h = let a : t ≡ s = cc in let b : d ≡ c = cc in (a, b)
 
 other_key : (consumers : List Consumer) (s : SessionId) (c : ℕ) (k : Key) → is_some (consumer_of consumers s c) ≡ false → IsOfConsumer consumers k → key_eq k (Own s c) ≡ false
@@ -154,10 +169,14 @@ unfolding IsDistinct
 distinct_push [] k h n = (tt, tt)
 distinct_push (x ∷ keys) k h n = (apart_push x k keys h.0 (All-head (λ x. key_eq x k ≡ false) x keys n), distinct_push keys k h.1 (All-tail (λ x. key_eq x k ≡ false) x keys n))
 
+own_push : (y : Consumer) → y.key ≡ Own y.session y.id → (xs : List Consumer) → AllOwn xs → AllOwn (xs ++ y ∷ [])
+own_push y h [] k = (h, tt)
+own_push y h (x ∷ xs) k = (k.0, own_push y h xs k.1)
+
 -- after a consumer is made
-pub sound_created : (life : Life) (consumers : List Consumer) (ss : List Subscription) (keys : List Key) (list : List Backlog) (place : ℕ) (s : SessionId) (c : ℕ) (d : Definition) → IsSound consumers ss keys list place → may_begin life consumers s c ≡ true →
-    IsSound (consumers ++ new_consumer s c (Own s c) ∷ []) (subs.put (record { key = Own s c; definition = d }) ss) (keys ++ Own s c ∷ []) (list ++ empty None ∷ []) place
-sound_created life consumers ss keys list place s c d h b =
+pub sound_created : (limit : ℕ) (life : Life) (consumers : List Consumer) (ss : List Subscription) (keys : List Key) (list : List Backlog) (place : ℕ) (s : SessionId) (c : ℕ) (d : Definition) → IsSound limit consumers ss keys list place → may_begin life consumers s c ≡ true →
+    IsSound limit (consumers ++ new_consumer s c (Own s c) ∷ []) (subs.put (record { key = Own s c; definition = d }) ss) (keys ++ Own s c ∷ []) (list ++ empty (Some limit) ∷ []) place
+sound_created limit life consumers ss keys list place s c d h b =
     let k : Key = Own s c in
     let x : Subscription = record { key = k; definition = d } in
     let y : Consumer = new_consumer s c k in
@@ -165,21 +184,22 @@ sound_created life consumers ss keys list place s c d h b =
     let put : subs.put x ss ≡ ss ++ x ∷ [] = ap (λ (xs : List Subscription). xs ++ x ∷ []) (subscription_missing k ss (subst (All (λ x. key_eq x k ≡ false)) (sym h.same) new)) in
     rw put (record {
       same = map-append (λ (s : Subscription). s.key) ss (x ∷ []) ∙ ap (λ (ks : List Key). ks ++ k ∷ []) h.same;
-      number = omega (arith, length-append list (empty None ∷ []), length-append ss (x ∷ []), h.number);
+      number = omega (arith, length-append list (empty (Some limit) ∷ []), length-append ss (x ∷ []), h.number);
       once = distinct_push keys k h.once new;
       made = All-push (IsOfConsumer (consumers ++ y ∷ [])) keys k (All-weaker (IsOfConsumer consumers) (IsOfConsumer (consumers ++ y ∷ [])) (still_made consumers y) keys h.made) (found_last (has_number s c) consumers y (own_number s c));
-      unlimited = All-push (λ (b : Backlog). b.limit ≡ None) list (empty None) h.unlimited refl;
-      accepted = subst HoldsAccepted (sym (stations_push ss list x (empty None) h.number)) (with_empty k d (stations_of ss list) h.accepted);
+      own = own_push y refl consumers h.own;
+      limited = All-push (HasLimit limit) list (empty (Some limit)) h.limited refl;
+      accepted = subst HoldsAccepted (sym (stations_push ss list x (empty (Some limit)) h.number)) (with_empty k d (stations_of ss list) h.accepted);
       places = h.places;
     })
 
 -- what callers see of the new consumer's subscription
-pub created_stations : (life : Life) (consumers : List Consumer) (ss : List Subscription) (keys : List Key) (list : List Backlog) (place : ℕ) (s : SessionId) (c : ℕ) (d : Definition) → IsSound consumers ss keys list place → may_begin life consumers s c ≡ true →
-    stations_of (subs.put (record { key = Own s c; definition = d }) ss) (list ++ empty None ∷ []) ≡ without (Own s c) (stations_of ss list) ++ record { key = Own s c; definition = d; rows = [] } ∷ []
-created_stations life consumers ss keys list place s c d h b =
+pub created_stations : (limit : ℕ) (life : Life) (consumers : List Consumer) (ss : List Subscription) (keys : List Key) (list : List Backlog) (place : ℕ) (s : SessionId) (c : ℕ) (d : Definition) → IsSound limit consumers ss keys list place → may_begin life consumers s c ≡ true →
+    stations_of (subs.put (record { key = Own s c; definition = d }) ss) (list ++ empty (Some limit) ∷ []) ≡ without (Own s c) (stations_of ss list) ++ record { key = Own s c; definition = d; missed = 0; rows = [] } ∷ []
+created_stations limit life consumers ss keys list place s c d h b =
     let k : Key = Own s c in
     let x : Subscription = record { key = k; definition = d } in
     let new = subst (All (λ x. key_eq x k ≡ false)) (sym h.same) (new_key life consumers keys s c b h.made) in
-    ap (λ (xs : List Subscription). stations_of (xs ++ x ∷ []) (list ++ empty None ∷ [])) (subscription_missing k ss new)
-    ∙ stations_push ss list x (empty None) h.number
-    ∙ ap (λ (xs : List Station). xs ++ station x (empty None) ∷ []) (sym (key_missing k (λ y. y) ss list new).2)
+    ap (λ (xs : List Subscription). stations_of (xs ++ x ∷ []) (list ++ empty (Some limit) ∷ [])) (subscription_missing k ss new)
+    ∙ stations_push ss list x (empty (Some limit)) h.number
+    ∙ ap (λ (xs : List Station). xs ++ station x (empty (Some limit)) ∷ []) (sym (key_missing k (λ y. y) ss list new).2)

@@ -1,20 +1,22 @@
 -- What callers see of the subscriptions with what is held for each, through each change.
 use Rattle.std.proofs.Common.{◌≡◌, ◌<◌, ◌≤◌, ◌==◌, ℕ, Bool, true, false, cond, List, [], ◌∷◌, ◌++◌, length, get_or, refl, ap, sym, ◌∙◌, arith, Option, Some, None, zero, suc}
-use Rattle.std.specs.Prelude.{◌+◌, not, position, nat_lt, is_some}
+use Rattle.std.specs.Prelude.{◌+◌, ◌&&◌, ◌||◌, not, position, nat_lt, is_some}
 use Rattle.std.specs.List.{All, position_or_len}
 use Rattle.std.proofs.lemmas.Bool.Decides.{nat_tests}
 use Rattle.std.proofs.lemmas.List.Elements.{All-head, All-tail, All-nil, All-cons}
 use Rattle.std.proofs.lemmas.List.Sums.{sum_by-cons}
+use Rattle.jm_base.specs.declared.mode.Mode.{Mode}
 use Rattle.jm_dest.specs.declared.key.Key.{Key}
 use Rattle.jm_dest.specs.Keys.{key_eq}
 use Rattle.jm_machine.specs.declared.state.PlacedRow.{PlacedRow}
 use Rattle.jm_machine.specs.declared.state.Station.{Station}
-use Rattle.jm_machine.specs.Machine.{station_of, at_key, with_rows, without}
-use Rattle.jm_machine.specs.Wants.{holders_of, placed_rows, is_shared, is_next_shared}
-use Rattle.jm_stations.specs.Backlogs.{Backlog, HasMoreRoom, changed_at, received, holders_at, shared_message, copy_wanted, next_placed, placed_at}
+use Rattle.jm_machine.specs.Machine.{station_of, at_key, missed_of, with_rows, without}
+use Rattle.jm_machine.specs.Rows.{settles_at_once}
+use Rattle.jm_machine.specs.Wants.{holders_of, placed_rows, is_copied, is_next_copied}
+use Rattle.jm_stations.specs.Backlogs.{Backlog, HasMoreRoom, changed_at, holders_at, kept_message, copy_wanted, next_placed, placed_at}
 use Rattle.jm_sub.specs.Subscriptions as subs
 use Rattle.jm_sub.specs.Subscriptions.{Subscription}
-use Rattle.jm_core.specs.State.{station, stations_of, keys_of}
+use Rattle.jm_core.specs.State.{HasLimit, station, stations_of, keys_of}
 
 -- what an index that was looked for says
 pub found_at : {A : Type 0} (p : A → Bool) (xs : List A) (i : ℕ) → position p xs ≡ Some i → (position_or_len p xs ≡ i) × (i < length xs)
@@ -50,23 +52,23 @@ with g b = record b { rows = g b.rows }
 
 -- what stands under a key that is found
 pub key_found : (k : Key) (g : List PlacedRow → List PlacedRow) (ss : List Subscription) (bs : List Backlog) (d : Backlog) (i : ℕ) → length bs ≡ length ss → position_or_len (λ x. key_eq x k) (keys_of ss) ≡ i → i < length ss →
-    (at_key k (with_rows g) (stations_of ss bs) ≡ stations_of ss (changed_at i (with g) bs)) × (placed_rows (station_of k (stations_of ss bs)) ≡ (get_or bs i d).rows)
+    (at_key k (with_rows g) (stations_of ss bs) ≡ stations_of ss (changed_at i (with g) bs)) × (placed_rows (station_of k (stations_of ss bs)) ≡ (get_or bs i d).rows) × (missed_of (station_of k (stations_of ss bs)) ≡ (get_or bs i d).missed)
 key_found k g [] bs d i n e h = absurd (omega arith)
 key_found k g (s ∷ ss) [] d i n e h = absurd (omega arith)
 key_found k g (s ∷ ss) (b ∷ bs) d zero n e h = go (key_eq s.key k) refl
   where
-    go : (t : Bool) → key_eq s.key k ≡ t → (at_key k (with_rows g) (stations_of (s ∷ ss) (b ∷ bs)) ≡ stations_of (s ∷ ss) (with g b ∷ bs)) × (placed_rows (station_of k (stations_of (s ∷ ss) (b ∷ bs))) ≡ b.rows)
-    go true t = (rw t refl, rw t refl)
+    go : (t : Bool) → key_eq s.key k ≡ t → (at_key k (with_rows g) (stations_of (s ∷ ss) (b ∷ bs)) ≡ stations_of (s ∷ ss) (with g b ∷ bs)) × (placed_rows (station_of k (stations_of (s ∷ ss) (b ∷ bs))) ≡ b.rows) × (missed_of (station_of k (stations_of (s ∷ ss) (b ∷ bs))) ≡ b.missed)
+    go true t = (rw t refl, rw t refl, rw t refl)
     go false t = absurd (omega (arith, rw t at e))
 key_found k g (s ∷ ss) (b ∷ bs) d (suc i) n e h = go (key_eq s.key k) refl (key_found k g ss bs d i (omega arith))
   where
-    go : (t : Bool) → key_eq s.key k ≡ t → (position_or_len (λ x. key_eq x k) (keys_of ss) ≡ i → i < length ss → (at_key k (with_rows g) (stations_of ss bs) ≡ stations_of ss (changed_at i (with g) bs)) × (placed_rows (station_of k (stations_of ss bs)) ≡ (get_or bs i d).rows)) →
-        (at_key k (with_rows g) (stations_of (s ∷ ss) (b ∷ bs)) ≡ station s b ∷ stations_of ss (changed_at i (with g) bs)) × (placed_rows (station_of k (stations_of (s ∷ ss) (b ∷ bs))) ≡ (get_or bs i d).rows)
+    go : (t : Bool) → key_eq s.key k ≡ t → (position_or_len (λ x. key_eq x k) (keys_of ss) ≡ i → i < length ss → (at_key k (with_rows g) (stations_of ss bs) ≡ stations_of ss (changed_at i (with g) bs)) × (placed_rows (station_of k (stations_of ss bs)) ≡ (get_or bs i d).rows) × (missed_of (station_of k (stations_of ss bs)) ≡ (get_or bs i d).missed)) →
+        (at_key k (with_rows g) (stations_of (s ∷ ss) (b ∷ bs)) ≡ station s b ∷ stations_of ss (changed_at i (with g) bs)) × (placed_rows (station_of k (stations_of (s ∷ ss) (b ∷ bs))) ≡ (get_or bs i d).rows) × (missed_of (station_of k (stations_of (s ∷ ss) (b ∷ bs))) ≡ (get_or bs i d).missed)
     go true t rest = absurd (omega (arith, rw t at e))
     go false t rest =
         let j : position_or_len (λ x. key_eq x k) (keys_of ss) ≡ i = omega (arith, rw t at e) in
         let r = rest j (omega arith) in
-        (rw t (ap (λ ys. station s b ∷ ys) r.0), rw t r.1)
+        (rw t (ap (λ ys. station s b ∷ ys) r.0), rw t r.1, rw t r.2)
 
 -- a key that nothing stands under
 pub key_missing : (k : Key) (g : Station → Station) (ss : List Subscription) (bs : List Backlog) → All (λ x. key_eq x k ≡ false) (keys_of ss) →
@@ -102,8 +104,9 @@ more_room (s ∷ ss) [] (y ∷ ys) h = absurd (omega (arith, h.number))
 more_room (s ∷ ss) (x ∷ xs) [] h = absurd (omega (arith, h.number))
 more_room (s ∷ ss) (x ∷ xs) (y ∷ ys) h =
     let rows = ap (λ (b : Backlog). b.rows) (h.same zero x (omega arith)) in
+    let missed = ap (λ (b : Backlog). b.missed) (h.same zero x (omega arith)) in
     let rest = more_room ss xs ys (room_tail x y xs ys h) in
-    λ i. record { key = s.key; definition = s.definition; rows = rows i } ∷ rest i
+    λ i. record { key = s.key; definition = s.definition; missed = missed i; rows = rows i } ∷ rest i
 
 pub room_same : (xs : List Backlog) → HasMoreRoom xs xs
 room_same xs = record { number = refl; same = λ k d l. refl; room = λ k d l. omega arith }
@@ -121,8 +124,8 @@ room_again xs ys zs h g = record {
       omega (arith, one, two);
 }
 
-pub room_unlimited : (xs ys : List Backlog) → HasMoreRoom xs ys → All (λ (b : Backlog). b.limit ≡ None) xs → All (λ (b : Backlog). b.limit ≡ None) ys
-room_unlimited xs ys h u = λ k d l. let within : k < length xs = omega (arith, h.number, l) in ap (λ (b : Backlog). b.limit) (h.same k d within) ∙ u k d within
+pub room_limited : (limit : ℕ) (xs ys : List Backlog) → HasMoreRoom xs ys → All (HasLimit limit) xs → All (HasLimit limit) ys
+room_limited limit xs ys h u = λ k d l. let within : k < length xs = omega (arith, h.number, l) in ap (λ (b : Backlog). b.limit) (h.same k d within) ∙ u k d within
 
 -- a delivery
 pub length-changed : (i : ℕ) (f : Backlog → Backlog) (bs : List Backlog) → length (changed_at i f bs) ≡ length bs
@@ -130,10 +133,10 @@ length-changed i f [] = refl
 length-changed zero f (b ∷ bs) = refl
 length-changed (suc i) f (b ∷ bs) = ap suc (length-changed i f bs)
 
-pub changed_unlimited : (i now : ℕ) (bs : List Backlog) → All (λ (b : Backlog). b.limit ≡ None) bs → All (λ (b : Backlog). b.limit ≡ None) (changed_at i (received now) bs)
-changed_unlimited i now [] u = u
-changed_unlimited zero now (b ∷ bs) u = All-cons (λ (x : Backlog). x.limit ≡ None) (received now b) bs (All-head (λ (x : Backlog). x.limit ≡ None) b bs u) (All-tail (λ (x : Backlog). x.limit ≡ None) b bs u)
-changed_unlimited (suc i) now (b ∷ bs) u = All-cons (λ (x : Backlog). x.limit ≡ None) b (changed_at i (received now) bs) (All-head (λ (x : Backlog). x.limit ≡ None) b bs u) (changed_unlimited i now bs (All-tail (λ (x : Backlog). x.limit ≡ None) b bs u))
+pub changed_limited : (limit i : ℕ) (f : Backlog → Backlog) → ((b : Backlog) → (f b).limit ≡ b.limit) → (bs : List Backlog) → All (HasLimit limit) bs → All (HasLimit limit) (changed_at i f bs)
+changed_limited limit i f same [] u = u
+changed_limited limit zero f same (b ∷ bs) u = All-cons (HasLimit limit) (f b) bs (same b ∙ All-head (HasLimit limit) b bs u) (All-tail (HasLimit limit) b bs u)
+changed_limited limit (suc i) f same (b ∷ bs) u = All-cons (HasLimit limit) b (changed_at i f bs) (All-head (HasLimit limit) b bs u) (changed_limited limit i f same bs (All-tail (HasLimit limit) b bs u))
 
 -- the rows at a place
 pub holders_same : (place : ℕ) (ss : List Subscription) (bs : List Backlog) → length bs ≡ length ss → holders_at place bs ≡ holders_of place (stations_of ss bs)
@@ -145,18 +148,19 @@ holders_same place (s ∷ ss) (b ∷ bs) n =
     ∙ (λ i. placed_at place b.rows + holders_same place ss bs (omega arith) i)
     ∙ sym (sum_by-cons (λ (x : Station). placed_at place x.rows) (station s b) (stations_of ss bs))
 
-shared_same : (ss : List Subscription) (bs : List Backlog) (o : Option PlacedRow) → length bs ≡ length ss → is_some (shared_message bs o) ≡ is_shared (stations_of ss bs) o
-shared_same ss bs None n = refl
-shared_same ss bs (Some x) n = go (holders_at x.place bs == 1) ∙ ap (λ h. not (h == 1)) (holders_same x.place ss bs n)
+copied_same : (mode : Option Mode) (ss : List Subscription) (bs : List Backlog) (o : Option PlacedRow) → length bs ≡ length ss → is_some (kept_message (settles_at_once mode) bs o) ≡ is_copied mode (stations_of ss bs) o
+copied_same mode ss bs None n = refl
+copied_same mode ss bs (Some x) n = go (settles_at_once mode) (holders_at x.place bs == 1) ∙ ap (λ h. not (settles_at_once mode) || not (h == 1)) (holders_same x.place ss bs n)
   where
-    go : (b : Bool) → is_some (cond b None (Some x.row.message)) ≡ not b
-    go true = refl
-    go false = refl
+    go : (s b : Bool) → is_some (cond (s && b) None (Some x.row.message)) ≡ (not s || not b)
+    go true true = refl
+    go true false = refl
+    go false b = refl
 
--- where a delivery wants a copy, the next row of the key is not the only one that holds its message
-pub copy_is_shared : (now : ℕ) (k : Key) (ss : List Subscription) (bs : List Backlog) (i : ℕ) (d : Backlog) → length bs ≡ length ss → position (λ x. key_eq x k) (keys_of ss) ≡ Some i →
-    is_some (copy_wanted now bs (get_or bs i d).rows) ≡ is_next_shared now (Some k) (stations_of ss bs)
-copy_is_shared now k ss bs i d n e =
+-- where a delivery wants a copy, the machine's hands one out
+pub copy_is_copied : (mode : Option Mode) (now : ℕ) (k : Key) (ss : List Subscription) (bs : List Backlog) (i : ℕ) (d : Backlog) → length bs ≡ length ss → position (λ x. key_eq x k) (keys_of ss) ≡ Some i →
+    is_some (copy_wanted (settles_at_once mode) now bs (get_or bs i d).rows) ≡ is_next_copied mode now (Some k) (stations_of ss bs)
+copy_is_copied mode now k ss bs i d n e =
     let at = found_at (λ x. key_eq x k) (keys_of ss) i e in
     let found = key_found k (λ rows. rows) ss bs d i n at.0 (omega (arith, at.1, length-keys ss)) in
-    shared_same ss bs (next_placed now (get_or bs i d).rows) n ∙ ap (λ rows. is_shared (stations_of ss bs) (next_placed now rows)) (sym found.1)
+    copied_same mode ss bs (next_placed now (get_or bs i d).rows) n ∙ ap (λ rows. is_copied mode (stations_of ss bs) (next_placed now rows)) (sym found.1)

@@ -1,5 +1,5 @@
--- Plans: steps that are prepared, seen as what they change. No cause stands against the step, and there is room for what it changes.
-use Rattle.std.specs.Prelude.{◌≡◌, ◌≤◌, ◌<◌, ◌+◌, ◌&&◌, ℕ, true, All, IfSome, List, Option, None, Result, Ok, Err, MatchBool, MatchResult, map, length, is_some}
+-- Plans: steps that are prepared. No cause stands against the step, and there is room for what it changes.
+use Rattle.std.specs.Prelude.{◌≡◌, ◌≤◌, ◌<◌, ◌+◌, ◌&&◌, ℕ, true, All, IfSome, List, Option, Some, None, Result, Ok, Err, MatchBool, MatchResult, map, length, is_some}
 use Rattle.jm_base.specs.declared.refusal.Refusal.{Refusal}
 use Rattle.jm_dest.specs.declared.session.SessionId.{SessionId}
 use Rattle.jm_dest.specs.declared.key.Key.TheVariants.{Own}
@@ -10,13 +10,14 @@ use Rattle.jm_machine.specs.declared.call.Who.TheVariants.{Connection, Session}
 use Rattle.jm_machine.specs.declared.call.Call.{Call}
 use Rattle.jm_machine.specs.declared.call.Call.TheVariants.{Ask, Publish}
 use Rattle.jm_machine.specs.declared.call.Request.TheVariants as request
-use Rattle.jm_machine.specs.Life.{connection_of, is_new_session, mode_of}
-use Rattle.jm_machine.specs.Machine.{State, defined, is_stamped, may_begin, places_end, reply}
+use Rattle.jm_machine.specs.Life.{connection_of, is_new_session, is_open_connection, mode_of}
+use Rattle.jm_machine.specs.Machine.{State, consumer_of, defined, holding_at, is_stamped, key_at, may_begin, may_close_consumer, may_close_session, places_end, reply}
 use Rattle.jm_machine.specs.Selectors.{selector_refusal}
 use Rattle.jm_machine.specs.Wants.{is_want, may_want}
 use Rattle.jm_session.specs.Known.{may_receive}
 use Rattle.jm_sub.specs.Subscriptions.{Subscription}
 use Rattle.jm_core.specs.declared.publish.Publication.{Publication}
+use Rattle.jm_core.specs.declared.receive.Receiver.{Receiver}
 use Rattle.jm_core.specs.declared.receive.Taking.{Taking}
 use Rattle.jm_core.specs.declared.plan.Change.{Change}
 use Rattle.jm_core.specs.declared.plan.Change.TheVariants as change
@@ -39,15 +40,24 @@ pub record IsCreating (p : Provider) (who : Who) (call : Call) (s : SessionId) (
   pub subs_room : 0 < p.subscriptions.spare
   pub key_room : 0 < p.held.key_room
 
--- the call receives at that moment, as it may, and takes what stands under the consumer's key, with the copy that it wants
-pub record IsReceiving (p : Provider) (who : Who) (call : Call) (taking : Option Taking) (now : ℕ) : Type 0 where
+-- the call is the receiver's, in the mode of its session: it receives at that moment, as it may, and takes what stands under
+-- the consumer's key, with the copy that it wants
+pub record IsReceiving (p : Provider) (who : Who) (call : Call) (r : Receiver) (taking : Option Taking) : Type 0 where
+  pub sender : who ≡ Session r.session
+  pub asked : call ≡ Ask (request.Receive r.consumer r.moment)
+  pub mode : mode_of p.known.life r.session ≡ Some r.mode
+  pub allowed : may_receive p.known.life p.known.consumers r.session r.consumer ≡ true
+  pub taken : IsTaken (receiving p.known.life p.known.consumers r.session r.consumer) r p.held.keys p.held.list taking
+  pub within : IfSome taking (λ x. x.index < length p.held.list)
+
+-- the call asks, as it may, what the consumer's subscription missed, and that is so many publications
+pub record IsMissing (p : Provider) (who : Who) (call : Call) (n : ℕ) : Type 0 where
   pub session : SessionId
   pub consumer : ℕ
   pub sender : who ≡ Session session
-  pub asked : call ≡ Ask (request.Receive consumer now)
+  pub asked : call ≡ Ask (request.Missed consumer)
   pub allowed : may_receive p.known.life p.known.consumers session consumer ≡ true
-  pub taken : IsTaken (receiving p.known.life p.known.consumers session consumer) now p.held.keys p.held.list taking
-  pub within : IfSome taking (λ x. x.index < length p.held.list)
+  pub number : n ≡ (holding_at (key_at (consumer_of p.known.consumers session consumer)) (state_of p)).missed
 
 -- the call publishes those messages: its open session stamped them, each goes to the subscriptions that accept it, and
 -- there are places and room for all of them
@@ -67,13 +77,24 @@ abbrev pub IsPlan : Provider → Who → Call → Change → Type 0
 IsPlan p who call (change.Open c) =
     (who ≡ Connection c) × (call ≡ Ask request.Open) × (connection_of p.known.life.connections c ≡ None) × (0 < p.known.spare)
 IsPlan p who call (change.Start c) =
-    (who ≡ Connection c) × (call ≡ Ask request.Start) × (is_some (connection_of p.known.life.connections c) ≡ true)
+    (who ≡ Connection c) × (call ≡ Ask request.Start) × (is_open_connection (connection_of p.known.life.connections c) ≡ true)
 IsPlan p who call (change.Stop c) =
-    (who ≡ Connection c) × (call ≡ Ask request.Stop) × (is_some (connection_of p.known.life.connections c) ≡ true)
+    (who ≡ Connection c) × (call ≡ Ask request.Stop) × (is_open_connection (connection_of p.known.life.connections c) ≡ true)
+IsPlan p who call (change.CloseConnection c) =
+    (who ≡ Connection c) × (call ≡ Ask request.CloseConnection) × (is_some (connection_of p.known.life.connections c) ≡ true)
 IsPlan p who call (change.CreateSession s mode) =
     (who ≡ Session s) × (call ≡ Ask (request.CreateSession mode)) × (is_new_session p.known.life s ≡ true) × (0 < p.known.spare)
+IsPlan p who call (change.CloseSession s) =
+    (who ≡ Session s) × (call ≡ Ask request.CloseSession) × (may_close_session p.known.life s ≡ true)
 IsPlan p who call (change.CreateConsumer s c decision) = IsCreating p who call s c decision
-IsPlan p who call (change.Receive taking now) = IsReceiving p who call taking now
+IsPlan p who call (change.CloseConsumer s c) =
+    (who ≡ Session s) × (call ≡ Ask (request.CloseConsumer c)) × (may_close_consumer p.known.life p.known.consumers s c ≡ true)
+IsPlan p who call (change.Receive r taking) = IsReceiving p who call r taking
+IsPlan p who call (change.Acknowledge s mode) =
+    (who ≡ Session s) × (call ≡ Ask request.Acknowledge) × (mode_of p.known.life s ≡ Some mode)
+IsPlan p who call (change.Recover s) =
+    (who ≡ Session s) × (call ≡ Ask request.Recover) × (is_some (mode_of p.known.life s) ≡ true)
+IsPlan p who call (change.Missed n) = IsMissing p who call n
 IsPlan p who call (change.Publish publications) = IsPublishing p who call publications.items
 
 -- the plan is that of some call, on what is held

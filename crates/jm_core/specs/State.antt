@@ -1,5 +1,5 @@
 -- The machine's state, from what the core holds: the subscriptions, and what is held under the key of each.
-use Rattle.std.specs.Prelude.{◌≡◌, ℕ, ◌≤◌, true, List, [], ◌∷◌, map, length, All, None, is_some}
+use Rattle.std.specs.Prelude.{◌≡◌, ℕ, ◌≤◌, true, List, [], ◌∷◌, map, length, All, Some, is_some}
 use Rattle.std.specs.List.{IsDistinct}
 use Rattle.jm_dest.specs.declared.key.Key.{Key}
 use Rattle.jm_dest.specs.declared.key.Key.TheVariants.{Own}
@@ -13,7 +13,7 @@ use Rattle.jm_core.specs.Accepted.{HoldsAccepted}
 
 -- a subscription with what is held for it
 abbrev pub station : Subscription → Backlog → Station
-station s b = record { key = s.key; definition = s.definition; rows = b.rows }
+station s b = record { key = s.key; definition = s.definition; missed = b.missed; rows = b.rows }
 
 -- each subscription with what is held under its key, in order of creation
 abbrev pub stations_of : List Subscription → List Backlog → List Station
@@ -30,13 +30,23 @@ abbrev pub IsOfConsumer : List Consumer → Key → Type 0
 IsOfConsumer consumers (Own s c) = is_some (consumer_of consumers s c) ≡ true
 IsOfConsumer consumers _ = ⊥
 
--- what every core keeps: under the key of each subscription something is held, without a limit; no key stands twice, and
--- each is that of a consumer; each row is accepted, and the next place is within the limit
-pub record IsSound (consumers : List Consumer) (subscriptions : List Subscription) (keys : List Key) (list : List Backlog) (next_place : ℕ) : Type 0 where
+-- each consumer's key is its own
+abbrev pub AllOwn : List Consumer → Type 0
+AllOwn [] = Unit {0}
+AllOwn (x ∷ consumers) = (x.key ≡ Own x.session x.id) × AllOwn consumers
+
+-- there may be at most so many rows
+abbrev pub HasLimit : ℕ → Backlog → Type 0
+HasLimit limit b = b.limit ≡ Some limit
+
+-- what every core keeps: under the key of each subscription something is held, at most so many rows; no key stands twice,
+-- and each is that of a consumer, whose key is its own; each row is accepted, and the next place is within the limit
+pub record IsSound (limit : ℕ) (consumers : List Consumer) (subscriptions : List Subscription) (keys : List Key) (list : List Backlog) (next_place : ℕ) : Type 0 where
   pub same : keys_of subscriptions ≡ keys
   pub number : length list ≡ length subscriptions
   pub once : IsDistinct key_eq keys
   pub made : All (IsOfConsumer consumers) keys
-  pub unlimited : All (λ (b : Backlog). b.limit ≡ None) list
+  pub own : AllOwn consumers
+  pub limited : All (HasLimit limit) list
   pub accepted : HoldsAccepted (stations_of subscriptions list)
   pub places : next_place ≤ places_end

@@ -31,7 +31,7 @@ published_reply (Err r) = Err r
 abbrev pub PublishFits : State → SessionId → List Content → Result (Unit {0}) Refusal → State → Type 0
 PublishFits old s messages result new = StepFits old (Session s) (Publish messages) (published_reply result) new
 
--- the stations after messages are published, the first at that place, the connections being these
-abbrev pub published_stations : Life → ℕ → List Content → List Station → List Station
-published_stations life place [] stations = stations
-published_stations life place (m ∷ messages) stations = published_stations life (place + 1) messages (map (offered (publisher_of life m) m place) stations)
+-- the stations after messages are published, the first at that place, with that limit, the connections being these
+abbrev pub published_stations : ℕ → Life → ℕ → List Content → List Station → List Station
+published_stations limit life place [] stations = stations
+published_stations limit life place (m ∷ messages) stations = published_stations limit life (place + 1) messages (map (offered limit (publisher_of life m) m place) stations)

@@ -5,27 +5,39 @@ use Rattle.jm_dest.specs.declared.key.Key.{Key}
 use Rattle.jm_machine.specs.declared.answer.Answer.{Answer}
 use Rattle.jm_machine.specs.declared.answer.Answer.TheVariants.{Nothing}
 use Rattle.jm_machine.specs.declared.state.Consumer.{Consumer}
+use Rattle.jm_machine.specs.declared.state.Row.{Row}
 use Rattle.jm_machine.specs.Life.{Life, is_started}
+use Rattle.jm_machine.specs.Rows.{deliver_placed, left_of, settles_at_once}
 use Rattle.jm_machine.specs.Machine.{consumer_of, key_at}
-use Rattle.jm_stations.specs.Backlogs.{Backlog, answered, changed_at, copy_wanted, received}
+use Rattle.jm_stations.specs.Backlogs.{Backlog, answered, changed_at, copy_wanted}
 use Rattle.jm_stations.specs.Stations.{index_in}
+use Rattle.jm_core.specs.declared.receive.Receiver.{Receiver}
 use Rattle.jm_core.specs.declared.receive.Taking.{Taking}
 
 -- the key that a consumer receives from, while its connection is started
 abbrev pub receiving : Life → List Consumer → SessionId → ℕ → Option Key
 receiving life consumers s c = if is_started life s.connection then key_at (consumer_of consumers s c) else None
 
+-- the receiver's mode settles a message in the step that delivers it
+abbrev pub settles : Receiver → Bool
+settles r = settles_at_once (Some r.mode)
+
+-- what a delivery to the receiver leaves of a row
+abbrev pub left_by : Receiver → Row → List Row
+left_by r = left_of (Some r.mode) r.session r.consumer
+
 -- a delivery takes nothing where there is no key, or nothing stands under it; else the next row there, with the copy
 -- that is wanted
-abbrev pub IsTaken : Option Key → ℕ → List Key → List Backlog → Option Taking → Type 0
-IsTaken None now keys list taking = taking ≡ None
-IsTaken (Some key) now keys list None = index_in keys key ≡ None
-IsTaken (Some key) now keys list (Some x) = (index_in keys key ≡ Some x.index) × ((d : Backlog) → x.copy ≡ copy_wanted now list (slice_index_or list x.index d).rows)
+abbrev pub IsTaken : Option Key → Receiver → List Key → List Backlog → Option Taking → Type 0
+IsTaken None r keys list taking = taking ≡ None
+IsTaken (Some key) r keys list None = index_in keys key ≡ None
+IsTaken (Some key) r keys list (Some x) =
+    (index_in keys key ≡ Some x.index) × ((d : Backlog) → x.copy ≡ copy_wanted (settles r) r.moment list (slice_index_or list x.index d).rows)
 
 -- a delivery from what stands there wants a copy
-abbrev pub wants_from : ℕ → List Backlog → Option Backlog → Bool
-wants_from now list None = false
-wants_from now list (Some b) = is_some (copy_wanted now list b.rows)
+abbrev pub wants_from : Receiver → List Backlog → Option Backlog → Bool
+wants_from r list None = false
+wants_from r list (Some b) = is_some (copy_wanted (settles r) r.moment list b.rows)
 
 -- what stands at the index, where there is one
 abbrev pub backlog_at : List Backlog → Option ℕ → Option Backlog
@@ -33,16 +45,25 @@ backlog_at list None = None
 backlog_at list (Some i) = slice_get list i
 
 -- a delivery from the key wants a copy
-abbrev pub wants_copy : Option Key → ℕ → List Key → List Backlog → Bool
-wants_copy None now keys list = false
-wants_copy (Some key) now keys list = wants_from now list (backlog_at list (index_in keys key))
+abbrev pub wants_copy : Option Key → Receiver → List Key → List Backlog → Bool
+wants_copy None r keys list = false
+wants_copy (Some key) r keys list = wants_from r list (backlog_at list (index_in keys key))
+
+-- what stands there after a delivery that leaves that of a row
+abbrev pub with_delivery : (Row → List Row) → ℕ → Backlog → Backlog
+with_delivery left now b = record b { rows = deliver_placed now left b.rows }
 
 -- what is held after the delivery
-abbrev pub taken_from : Option Taking → ℕ → List Backlog → List Backlog
-taken_from None now list = list
-taken_from (Some x) now list = changed_at x.index (received now) list
+abbrev pub taken_from : Option Taking → Receiver → List Backlog → List Backlog
+taken_from None r list = list
+taken_from (Some x) r list = changed_at x.index (with_delivery (left_by r) r.moment) list
 
 -- the answer is that of the delivery
 abbrev pub IsTold : Option Taking → ℕ → List Backlog → Answer → Type 0
 IsTold None now list a = a ≡ Nothing
 IsTold (Some x) now list a = (d : Backlog) → a ≡ answered now (slice_index_or list x.index d).rows
+
+-- so many publications were missed by what stands at the index, where there is one
+abbrev pub IsMissed : Option ℕ → List Backlog → ℕ → Type 0
+IsMissed None list n = n ≡ 0
+IsMissed (Some i) list n = (d : Backlog) → n ≡ (slice_index_or list i d).missed

@@ -50,7 +50,8 @@ pub(crate) fn prepare_create(
     Ok(decision)
 }
 
-/// Makes the consumer with the subscription that was decided, under whose key nothing is held.
+/// Makes the consumer with the subscription that was decided, under whose key nothing is held, of which there may be at
+/// most so many rows.
 pub(crate) fn make_create(
     sessions: &mut Sessions,
     subs: &mut Subs,
@@ -58,6 +59,7 @@ pub(crate) fn make_create(
     session: &SessionId,
     id: ConsumerId,
     decision: Decision,
+    limit: u32,
 )
     requires begins { machine.may_begin sessions.old.life sessions.old.consumers session.now id ≡ true }
     requires new { index_in stations.old.keys (Key.Own session.now id) ≡ None }
@@ -69,10 +71,10 @@ pub(crate) fn make_create(
         sessions.old.consumers ++ machine.new_consumer session.now id (Key.Own session.now id) ∷ [] }
     ensures subs { subs.new.list ≡ put decision subs.old.list }
     ensures keys { stations.new.keys ≡ stations.old.keys ++ Key.Own session.now id ∷ [] }
-    ensures list { stations.new.list ≡ stations.old.list ++ empty None ∷ [] }
+    ensures list { stations.new.list ≡ stations.old.list ++ empty (Some limit) ∷ [] }
     ensures next_place { stations.new.next_place ≡ stations.old.next_place }
 {
     subs.apply(decision);
-    stations.create(Key::Own(*session, id), None);
+    stations.create(Key::Own(*session, id), Some(limit));
     let _ = sessions.consumer(session, id, Key::Own(*session, id));
 }

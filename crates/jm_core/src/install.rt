@@ -2,15 +2,19 @@
 
 ghost use Rattle.jm_core.specs.Plans.{InstallFits, IsPlanned};
 
+use crate::close::{make_acknowledge, make_end, make_give_back};
 use crate::create::make_create;
-use crate::life::{make_open, make_session, make_start, make_stop};
+use crate::life::{
+    make_close_connection, make_close_consumer, make_close_session, make_open, make_session,
+    make_start, make_stop,
+};
 use crate::plan::Change;
 use crate::publish::{Publication, make_publications};
-use crate::receive::{Taking, make_delivery};
+use crate::receive::{Receiver, Taking, make_delivery};
 use crate::state::CoreState;
 use jm_base::Mode;
-use jm_dest::{ConnectionId, ConsumerId, Moment, SessionId};
-use jm_machine::Answer;
+use jm_dest::{ConnectionId, ConsumerId, SessionId};
+use jm_machine::{Answer, Consumers};
 use jm_sub::Decision;
 
 impl CoreState {
@@ -23,11 +27,17 @@ impl CoreState {
             Change::Open(id) => self.install_open(id),
             Change::Start(id) => self.install_start(id),
             Change::Stop(id) => self.install_stop(id),
+            Change::CloseConnection(id) => self.install_close_connection(id),
             Change::CreateSession(id, mode) => self.install_session(&id, mode),
+            Change::CloseSession(id) => self.install_close_session(&id),
             Change::CreateConsumer(session, id, decision) => {
                 self.install_consumer(&session, id, decision)
             }
-            Change::Receive(taking, now) => self.install_delivery(taking, now),
+            Change::CloseConsumer(session, id) => self.install_close_consumer(&session, id),
+            Change::Receive(receiver, taking) => self.install_delivery(&receiver, taking),
+            Change::Acknowledge(id, mode) => self.install_acknowledge(&id, mode),
+            Change::Recover(id) => self.install_recover(&id),
+            Change::Missed(number) => self.install_missed(number),
             Change::Publish(publications) => self.install_publications(publications),
         }
     }
@@ -56,11 +66,33 @@ impl CoreState {
         Answer::Done
     }
 
+    fn install_close_connection(&mut self, id: ConnectionId) -> Answer
+        requires { IsPlanned self.old (Change.CloseConnection id) }
+        ensures { InstallFits self.old (Change.CloseConnection id) result self.new }
+    {
+        make_close_connection(&mut self.sessions, id);
+        let which = Consumers::OfConnection(id);
+        make_give_back(&mut self.stations, &which);
+        make_end(&mut self.subs, &mut self.stations, &which);
+        Answer::Done
+    }
+
     fn install_session(&mut self, id: &SessionId, mode: Mode) -> Answer
         requires { IsPlanned self.old (Change.CreateSession id.now mode) }
         ensures { InstallFits self.old (Change.CreateSession id.now mode) result self.new }
     {
         make_session(&mut self.sessions, id, mode);
+        Answer::Done
+    }
+
+    fn install_close_session(&mut self, id: &SessionId) -> Answer
+        requires { IsPlanned self.old (Change.CloseSession id.now) }
+        ensures { InstallFits self.old (Change.CloseSession id.now) result self.new }
+    {
+        make_close_session(&mut self.sessions, id);
+        let which = Consumers::OfSession(*id);
+        make_give_back(&mut self.stations, &which);
+        make_end(&mut self.subs, &mut self.stations, &which);
         Answer::Done
     }
 
@@ -80,15 +112,50 @@ impl CoreState {
             session,
             id,
             decision,
+            self.limit,
         );
         Answer::Done
     }
 
-    fn install_delivery(&mut self, taking: Option<Taking>, now: Moment) -> Answer
-        requires { IsPlanned self.old (Change.Receive taking now) }
-        ensures { InstallFits self.old (Change.Receive taking now) result self.new }
+    fn install_close_consumer(&mut self, session: &SessionId, id: ConsumerId) -> Answer
+        requires { IsPlanned self.old (Change.CloseConsumer session.now id) }
+        ensures { InstallFits self.old (Change.CloseConsumer session.now id) result self.new }
     {
-        make_delivery(&mut self.stations, taking, now)
+        make_close_consumer(&mut self.sessions, session, id);
+        let which = Consumers::One(*session, id);
+        make_end(&mut self.subs, &mut self.stations, &which);
+        Answer::Done
+    }
+
+    fn install_delivery(&mut self, receiver: &Receiver, taking: Option<Taking>) -> Answer
+        requires { IsPlanned self.old (Change.Receive receiver.now taking) }
+        ensures { InstallFits self.old (Change.Receive receiver.now taking) result self.new }
+    {
+        make_delivery(&mut self.stations, receiver, taking)
+    }
+
+    /// Settles what is out to the session, where its mode lets the client acknowledge.
+    fn install_acknowledge(&mut self, id: &SessionId, mode: Mode) -> Answer
+        requires { IsPlanned self.old (Change.Acknowledge id.now mode) }
+        ensures { InstallFits self.old (Change.Acknowledge id.now mode) result self.new }
+    {
+        make_acknowledge(&mut self.stations, id, mode);
+        Answer::Done
+    }
+
+    fn install_recover(&mut self, id: &SessionId) -> Answer
+        requires { IsPlanned self.old (Change.Recover id.now) }
+        ensures { InstallFits self.old (Change.Recover id.now) result self.new }
+    {
+        make_give_back(&mut self.stations, &Consumers::OfSession(*id));
+        Answer::Done
+    }
+
+    fn install_missed(&self, number: u64) -> Answer
+        requires { IsPlanned self.now (Change.Missed number) }
+        ensures { InstallFits self.now (Change.Missed number) result self.now }
+    {
+        Answer::Missed(number)
     }
 
     fn install_publications(&mut self, publications: Vec<Publication>) -> Answer

@@ -3,6 +3,7 @@
 //! is refused and else takes all memory, and then made, which takes none.
 #![tactic(auto)]
 
+mod close;
 mod create;
 mod install;
 mod life;
@@ -15,7 +16,7 @@ mod state;
 
 pub use jm_machine::{
     Answer, Call, ClientCall, ConnectionState, Consumer, Definition, Delivery, PlacedRow, Reply,
-    Request, Row, SessionState, Station, Step, Who, copy_reply,
+    Request, Row, RowState, SessionState, Station, Step, Who, copy_reply,
 };
 pub use plan::Plan;
-pub use provider::{Core, law_core_reached, law_rows_in_order};
+pub use provider::{Core, law_core_reached, law_rows_in_order, law_rows_within_limit};

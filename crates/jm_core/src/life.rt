@@ -1,14 +1,15 @@
-//! Opens connections and sessions. Each call is prepared first, which finds why it is refused and else takes
-//! all room, and then made, which takes no memory.
+//! Opens and closes connections and sessions, and closes consumers. Each call that takes memory is prepared first,
+//! which finds why it is refused and else takes all room, and then made, which takes no memory.
 
-ghost use Rattle.std.specs.Prelude.{◌≡◌, ◌<◌, true, not, is_some, IfErr, OnOk, None};
+ghost use Rattle.std.specs.Prelude.{◌≡◌, ◌<◌, true, not, map, is_some, IfErr, OnOk, None};
 ghost use Rattle.jm_machine.specs.declared.call.Who.TheVariants.{Connection, Session};
-ghost use Rattle.jm_machine.specs.declared.call.Request.TheVariants.{Open, Start, Stop, CreateSession};
+ghost use Rattle.jm_machine.specs.declared.call.Request.TheVariants.{Open, Start, Stop, CloseConnection, CreateSession, CloseSession};
 ghost use Rattle.jm_machine.specs.Life as life;
+ghost use Rattle.jm_machine.specs.Machine as machine;
 ghost use Rattle.jm_session.specs.Known.{cause};
 
 use jm_base::{Mode, Refusal};
-use jm_dest::{ConnectionId, SessionId};
+use jm_dest::{ConnectionId, ConsumerId, SessionId};
 use jm_session::Sessions;
 
 /// Finds why the connection may not be opened, and else makes room for it.
@@ -39,7 +40,7 @@ pub(crate) fn make_open(sessions: &mut Sessions, id: ConnectionId)
 
 /// Starts the connection.
 pub(crate) fn make_start(sessions: &mut Sessions, id: ConnectionId)
-    requires { is_some (life.connection_of sessions.old.life.connections id) ≡ true }
+    requires { life.is_open_connection (life.connection_of sessions.old.life.connections id) ≡ true }
     ensures life { sessions.new.life ≡ life.life_after sessions.old.life (Connection id) Start }
     ensures consumers { sessions.new.consumers ≡ sessions.old.consumers }
 {
@@ -48,7 +49,7 @@ pub(crate) fn make_start(sessions: &mut Sessions, id: ConnectionId)
 
 /// Stops the connection.
 pub(crate) fn make_stop(sessions: &mut Sessions, id: ConnectionId)
-    requires { is_some (life.connection_of sessions.old.life.connections id) ≡ true }
+    requires { life.is_open_connection (life.connection_of sessions.old.life.connections id) ≡ true }
     ensures life { sessions.new.life ≡ life.life_after sessions.old.life (Connection id) Stop }
     ensures consumers { sessions.new.consumers ≡ sessions.old.consumers }
 {
@@ -78,4 +79,32 @@ pub(crate) fn make_session(sessions: &mut Sessions, id: &SessionId, mode: Mode)
     ensures consumers { sessions.new.consumers ≡ sessions.old.consumers }
 {
     let _ = sessions.session(id, mode);
+}
+
+/// Closes the connection, its sessions and their consumers.
+pub(crate) fn make_close_connection(sessions: &mut Sessions, id: ConnectionId)
+    requires { is_some (life.connection_of sessions.old.life.connections id) ≡ true }
+    ensures life { sessions.new.life ≡ life.life_after sessions.old.life (Connection id) CloseConnection }
+    ensures consumers { sessions.new.consumers ≡ map (machine.closed_consumer (machine.of_connection id)) sessions.old.consumers }
+{
+    let _ = sessions.close_connection(id);
+}
+
+/// Closes the session and its consumers.
+pub(crate) fn make_close_session(sessions: &mut Sessions, id: &SessionId)
+    requires { machine.may_close_session sessions.old.life id.now ≡ true }
+    ensures life { sessions.new.life ≡ life.life_after sessions.old.life (Session id.now) CloseSession }
+    ensures consumers { sessions.new.consumers ≡ map (machine.closed_consumer (machine.of_session id.now)) sessions.old.consumers }
+{
+    let _ = sessions.close_session(id);
+}
+
+/// Closes the session's consumer of that number.
+pub(crate) fn make_close_consumer(sessions: &mut Sessions, session: &SessionId, id: ConsumerId)
+    requires { machine.may_close_consumer sessions.old.life sessions.old.consumers session.now id ≡ true }
+    ensures life { sessions.new.life ≡ sessions.old.life }
+    ensures consumers { sessions.new.consumers ≡
+        map (machine.closed_consumer (machine.of_number session.now id)) sessions.old.consumers }
+{
+    let _ = sessions.close_consumer(session, id);
 }

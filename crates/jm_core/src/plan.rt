@@ -6,7 +6,7 @@ ghost use Rattle.jm_core.specs.Plans.{PlanFits};
 use crate::create::prepare_create;
 use crate::life::{prepare_open, prepare_session};
 use crate::publish::{Publication, prepare_publications};
-use crate::receive::{Taking, prepare_delivery, receiving_key};
+use crate::receive::{Receiver, Taking, missed_key, missed_under, prepare_delivery, receiving_key};
 use crate::state::CoreState;
 use jm_base::{Mode, Refusal, Str};
 use jm_dest::{ConnectionId, ConsumerId, Moment, Name, SessionId};
@@ -21,10 +21,17 @@ pub(crate) enum Change {
     Open(ConnectionId),
     Start(ConnectionId),
     Stop(ConnectionId),
+    CloseConnection(ConnectionId),
     CreateSession(SessionId, Mode),
+    CloseSession(SessionId),
     CreateConsumer(SessionId, ConsumerId, Decision),
-    /// What is taken at that moment: nothing where the connection is stopped.
-    Receive(Option<Taking>, Moment),
+    CloseConsumer(SessionId, ConsumerId),
+    /// What the receiver takes: nothing where the connection is stopped.
+    Receive(Receiver, Option<Taking>),
+    Acknowledge(SessionId, Mode),
+    Recover(SessionId),
+    /// So many publications were missed.
+    Missed(u64),
     Publish(Vec<Publication>),
 }
 
@@ -72,27 +79,50 @@ impl CoreState {
         }
     }
 
-    #[tactic(auto, unfolding(jm_machine::specs::Machine::refusal, jm_machine::specs::Machine::reply))]
     pub(crate) fn plan_request(&mut self, who: Who, request: &Request) -> Result<Change, Refusal>
         ensures { PlanFits self.old who (Call.Ask request.now) result self.new }
     {
         match who {
-            Who::Connection(connection) => match request {
-                Request::Open => self.plan_open(connection),
-                Request::Start => self.plan_start(connection),
-                Request::Stop => self.plan_stop(connection),
-                _ => Err(Refusal::IllegalState),
-            },
-            Who::Session(session) => match request {
-                Request::CreateSession { mode } => self.plan_session(&session, *mode),
-                Request::CreateConsumer {
-                    consumer,
-                    topic,
-                    selector,
-                } => self.plan_consumer(&session, *consumer, topic, selector),
-                Request::Receive { consumer, now } => self.plan_delivery(&session, *consumer, *now),
-                _ => Err(Refusal::IllegalState),
-            },
+            Who::Connection(connection) => self.plan_of_connection(connection, request),
+            Who::Session(session) => self.plan_of_session(&session, request),
+        }
+    }
+
+    #[tactic(auto, unfolding(jm_machine::specs::Machine::refusal, jm_machine::specs::Machine::reply))]
+    fn plan_of_connection(
+        &mut self,
+        connection: ConnectionId,
+        request: &Request,
+    ) -> Result<Change, Refusal>
+        ensures { PlanFits self.old (Who.Connection connection) (Call.Ask request.now) result self.new }
+    {
+        match request {
+            Request::Open => self.plan_open(connection),
+            Request::Start => self.plan_start(connection),
+            Request::Stop => self.plan_stop(connection),
+            Request::CloseConnection => self.plan_close_connection(connection),
+            _ => Err(Refusal::IllegalState),
+        }
+    }
+
+    #[tactic(auto, unfolding(jm_machine::specs::Machine::refusal, jm_machine::specs::Machine::reply))]
+    fn plan_of_session(&mut self, session: &SessionId, request: &Request) -> Result<Change, Refusal>
+        ensures { PlanFits self.old (Who.Session session.now) (Call.Ask request.now) result self.new }
+    {
+        match request {
+            Request::CreateSession { mode } => self.plan_session(session, *mode),
+            Request::CloseSession => self.plan_close_session(session),
+            Request::CreateConsumer {
+                consumer,
+                topic,
+                selector,
+            } => self.plan_consumer(session, *consumer, topic, selector),
+            Request::CloseConsumer { consumer } => self.plan_close_consumer(session, *consumer),
+            Request::Receive { consumer, now } => self.plan_delivery(session, *consumer, *now),
+            Request::Acknowledge => self.plan_acknowledge(session),
+            Request::Recover => self.plan_recover(session),
+            Request::Missed { consumer } => self.plan_missed(session, *consumer),
+            _ => Err(Refusal::IllegalState),
         }
     }
 
@@ -108,7 +138,7 @@ impl CoreState {
     fn plan_start(&self, id: ConnectionId) -> Result<Change, Refusal>
         ensures { PlanFits self.now (Who.Connection id) (Call.Ask Request.Start) result self.now }
     {
-        if !self.sessions.is_used(id) {
+        if !self.sessions.is_open_connection(id) {
             return Err(Refusal::IllegalState);
         }
         Ok(Change::Start(id))
@@ -118,10 +148,20 @@ impl CoreState {
     fn plan_stop(&self, id: ConnectionId) -> Result<Change, Refusal>
         ensures { PlanFits self.now (Who.Connection id) (Call.Ask Request.Stop) result self.now }
     {
-        if !self.sessions.is_used(id) {
+        if !self.sessions.is_open_connection(id) {
             return Err(Refusal::IllegalState);
         }
         Ok(Change::Stop(id))
+    }
+
+    #[tactic(auto, unfolding(jm_machine::specs::Machine::refusal, jm_machine::specs::Machine::reply))]
+    fn plan_close_connection(&self, id: ConnectionId) -> Result<Change, Refusal>
+        ensures { PlanFits self.now (Who.Connection id) (Call.Ask Request.CloseConnection) result self.now }
+    {
+        if !self.sessions.is_used(id) {
+            return Err(Refusal::IllegalState);
+        }
+        Ok(Change::CloseConnection(id))
     }
 
     #[tactic(auto, unfolding(jm_machine::specs::Machine::refusal, jm_machine::specs::Machine::reply, jm_machine::specs::Wants::may_want))]
@@ -130,6 +170,16 @@ impl CoreState {
     {
         prepare_session(&mut self.sessions, id)?;
         Ok(Change::CreateSession(*id, mode))
+    }
+
+    #[tactic(auto, unfolding(jm_machine::specs::Machine::refusal, jm_machine::specs::Machine::reply))]
+    fn plan_close_session(&self, id: &SessionId) -> Result<Change, Refusal>
+        ensures { PlanFits self.now (Who.Session id.now) (Call.Ask Request.CloseSession) result self.now }
+    {
+        if !self.sessions.may_close_session(id) {
+            return Err(Refusal::IllegalState);
+        }
+        Ok(Change::CloseSession(*id))
     }
 
     fn plan_consumer(
@@ -154,17 +204,60 @@ impl CoreState {
         Ok(Change::CreateConsumer(*session, id, decision))
     }
 
+    #[tactic(auto, unfolding(jm_machine::specs::Machine::refusal, jm_machine::specs::Machine::reply))]
+    fn plan_close_consumer(&self, session: &SessionId, id: ConsumerId) -> Result<Change, Refusal>
+        ensures { PlanFits self.now (Who.Session session.now) (Call.Ask (Request.CloseConsumer id)) result self.now }
+    {
+        if !self.sessions.may_close_consumer(session, id) {
+            return Err(Refusal::IllegalState);
+        }
+        Ok(Change::CloseConsumer(*session, id))
+    }
+
     fn plan_delivery(
         &self,
         session: &SessionId,
-        id: ConsumerId,
+        consumer: ConsumerId,
         now: Moment,
     ) -> Result<Change, Refusal>
-        ensures { PlanFits self.now (Who.Session session.now) (Call.Ask (Request.Receive id now)) result self.now }
+        ensures { PlanFits self.now (Who.Session session.now) (Call.Ask (Request.Receive consumer now)) result self.now }
     {
-        let key = receiving_key(&self.sessions, session, id)?;
-        let taking = prepare_delivery(&self.stations, key, now)?;
-        Ok(Change::Receive(taking, now))
+        let (mode, key) = receiving_key(&self.sessions, session, consumer)?;
+        let receiver = Receiver {
+            session: *session,
+            mode,
+            consumer,
+            moment: now,
+        };
+        let taking = prepare_delivery(&self.stations, key, &receiver)?;
+        Ok(Change::Receive(receiver, taking))
+    }
+
+    #[tactic(auto, unfolding(jm_machine::specs::Machine::refusal, jm_machine::specs::Machine::reply))]
+    fn plan_acknowledge(&self, id: &SessionId) -> Result<Change, Refusal>
+        ensures { PlanFits self.now (Who.Session id.now) (Call.Ask Request.Acknowledge) result self.now }
+    {
+        match self.sessions.mode_of(id) {
+            Some(mode) => Ok(Change::Acknowledge(*id, mode)),
+            None => Err(Refusal::IllegalState),
+        }
+    }
+
+    #[tactic(auto, unfolding(jm_machine::specs::Machine::refusal, jm_machine::specs::Machine::reply))]
+    fn plan_recover(&self, id: &SessionId) -> Result<Change, Refusal>
+        ensures { PlanFits self.now (Who.Session id.now) (Call.Ask Request.Recover) result self.now }
+    {
+        if !self.sessions.is_open(id) {
+            return Err(Refusal::IllegalState);
+        }
+        Ok(Change::Recover(*id))
+    }
+
+    fn plan_missed(&self, session: &SessionId, id: ConsumerId) -> Result<Change, Refusal>
+        ensures { PlanFits self.now (Who.Session session.now) (Call.Ask (Request.Missed id)) result self.now }
+    {
+        let key = missed_key(&self.sessions, session, id)?;
+        Ok(Change::Missed(missed_under(&self.stations, key)))
     }
 
     #[tactic(auto, unfolding(jm_machine::specs::Machine::publish_refusal, jm_machine::specs::Machine::reply))]

@@ -1,12 +1,13 @@
-ghost use Rattle.std.specs.Prelude.{◌≡◌, ◌≤◌, length, MatchResult, IfOk, IfErr, OnErr};
+ghost use Rattle.std.specs.Prelude.{◌≡◌, length, true, false, MatchResult, IfOk, IfErr, OnErr};
 ghost use Rattle.jm_base.specs.declared.refusal.Refusal.TheVariants.{OutOfRange};
 ghost use Rattle.jm_machine.specs.Machine as machine;
 ghost use Rattle.jm_machine.specs.Client.{Progress, begun, RunOwed};
 ghost use Rattle.jm_machine.specs.Isolation.{Reached};
 ghost use Rattle.jm_core.specs.Accepted.{HoldsAccepted};
 ghost use Rattle.jm_core.specs.Kept.{IsNumberOfMessages};
+ghost use Rattle.jm_core.specs.Limits.{AllWithin};
 ghost use Rattle.jm_core.specs.Plans.{InstallFits, IsPlan, IsPlanned, IsRefused};
-ghost use Rattle.jm_core.specs.Provider.{state_of};
+ghost use Rattle.jm_core.specs.Provider.{may_open, state_of};
 ghost use Rattle.jm_core.specs.Steps.{StepFits};
 
 use crate::plan::Plan;
@@ -67,15 +68,25 @@ pub fn law_rows_in_order(core: &Core)
     core.state.law_accepted();
 }
 
+/// The law of how many rows each core holds, proved; the function itself does nothing.
+///
+/// Each subscription that is not durable holds at most as many rows as the limit says, waiting and out.
+pub fn law_rows_within_limit(core: &Core)
+    ensures { AllWithin (state_of core.now).limit (state_of core.now).stations }
+{
+    let _ = &core.state;
+}
+
 impl Core {
-    /// A core that holds nothing, in that opening of the provider. `OutOfRange` exactly where the
-    /// number is 0.
-    pub fn new(alloc: Global, opening: u32) -> Result<Core, Refusal>
+    /// A core that holds nothing, in that opening of the provider, each of whose subscriptions holds at most so many
+    /// rows, if it is not durable. `OutOfRange` exactly where the number of the opening is 0, or the limit is 0 or above
+    /// 1,000,000.
+    pub fn new(alloc: Global, opening: u32, held_limit: u32) -> Result<Core, Refusal>
         ensures { MatchResult result
-            (λ core. (state_of core ≡ machine.new_core opening) × (1 ≤ opening))
-            (λ refusal. (refusal ≡ OutOfRange) × (opening ≡ 0)) }
+            (λ core. (state_of core ≡ machine.new_core opening held_limit) × (may_open opening held_limit ≡ true))
+            (λ refusal. (refusal ≡ OutOfRange) × (may_open opening held_limit ≡ false)) }
     {
-        let state = CoreState::new(alloc, opening)?;
+        let state = CoreState::new(alloc, opening, held_limit)?;
         Ok(Core { state })
     }
 
@@ -94,21 +105,28 @@ impl Core {
         self.state.opening()
     }
 
-    /// The connections that were opened, in order.
+    /// How many rows a subscription that is not durable may hold.
+    pub fn held_limit(&self) -> u32
+        ensures { result ≡ (state_of self.now).limit }
+    {
+        self.state.limit()
+    }
+
+    /// The connections that were opened, in order. One that was closed stays known.
     pub fn connections(&self) -> &[ConnectionState]
         ensures { result.now ≡ (state_of self.now).life.connections }
     {
         self.state.connections()
     }
 
-    /// The sessions that were opened, in order.
+    /// The sessions that were opened, in order. One that was closed stays known.
     pub fn sessions(&self) -> &[SessionState]
         ensures { result.now ≡ (state_of self.now).life.sessions }
     {
         self.state.sessions()
     }
 
-    /// The consumers that were made, in order.
+    /// The consumers that were made, in order. One that was closed stays known.
     pub fn consumers(&self) -> &[Consumer]
         ensures { result.now ≡ (state_of self.now).consumers }
     {
@@ -169,8 +187,8 @@ impl Core {
     /// Plans one step and installs it. A refusal is the first cause that stands, in the order of `Refusal`, and leaves
     /// the core as it was; so does `Memory`, which comes only to a call that takes memory, and only where no
     /// other cause stands, or in place of `InvalidSelector`. Memory is taken to open a connection or a session,
-    /// to make a consumer, to publish, and by a `Receive` whose message another subscription holds too, which
-    /// hands out a copy. Any other `Receive` takes none, nor do `Start` and `Stop`.
+    /// to make a consumer, to publish, and by a `Receive` that hands out a copy: in mode `Client`, and of a message that
+    /// another subscription holds too. No other call takes any.
     pub fn step(&mut self, step: &Step) -> Result<Answer, Refusal>
         ensures { StepFits (state_of self.old) step.now.who step.now.call result (state_of self.new) }
     {

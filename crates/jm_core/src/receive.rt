@@ -1,20 +1,34 @@
 //! Delivers the next row under a key. A delivery is prepared first, which makes the copy that it wants, and
 //! then made, which takes no memory.
 
-ghost use Rattle.std.specs.Prelude.{◌≡◌, ◌<◌, true, false, length, slice_index_or, IfSome, IfOk, IfErr, OnOk, OnErr};
+ghost use Rattle.std.specs.Prelude.{◌≡◌, ◌<◌, true, false, length, slice_index_or, IfSome, IfOk, IfErr, OnOk, OnErr, Some};
 ghost use Rattle.std.specs.Option.{option_copied};
 ghost use Rattle.jm_base.specs.declared.refusal.Refusal.TheVariants.{IllegalState};
+ghost use Rattle.jm_machine.specs.Life.{mode_of};
+ghost use Rattle.jm_machine.specs.Machine.{consumer_of, key_at};
+ghost use Rattle.jm_machine.specs.Rows.{settles_at_once};
 ghost use Rattle.jm_session.specs.Known.{may_receive};
-ghost use Rattle.jm_stations.specs.Backlogs.{Backlog, copy_wanted};
-ghost use Rattle.jm_core.specs.Takings.{IsTaken, IsTold, receiving, taken_from, wants_copy};
+ghost use Rattle.jm_stations.specs.Backlogs.{Backlog, answered, changed_at, copy_wanted};
+ghost use Rattle.jm_stations.specs.Stations.{index_in};
+ghost use Rattle.jm_core.specs.Takings as spec;
+ghost use Rattle.jm_core.specs.Takings.{IsMissed, IsTaken, IsTold, receiving, taken_from, wants_copy};
 
-use jm_base::Refusal;
+use jm_base::{Mode, Refusal};
 use jm_dest::{ConsumerId, Key, Moment, SessionId};
 use jm_header::Message;
 use jm_machine::Answer;
 use jm_session::Sessions;
 use jm_stations::Stations;
 use std::alloc::AllocError;
+
+/// Who receives, and when: a session in its mode, through its consumer, at a moment.
+#[derive(Drop)]
+pub(crate) struct Receiver {
+    pub session: SessionId,
+    pub mode: Mode,
+    pub consumer: ConsumerId,
+    pub moment: Moment,
+}
 
 /// A delivery that is to be made: the index of the key, and the copy that it wants.
 #[derive(Drop)]
@@ -23,30 +37,42 @@ pub(crate) struct Taking {
     pub copy: Option<Message>,
 }
 
-/// The key that the consumer receives from, and none where its connection is stopped; or why it may not receive.
+/// Whether the mode settles a message in the step that delivers it.
+fn settles(mode: Mode) -> bool
+    ensures { result ≡ settles_at_once (Some mode) }
+{
+    match mode {
+        Mode::Auto | Mode::Dups => true,
+        Mode::Client => false,
+    }
+}
+
+/// The mode of the session and the key that its consumer receives from, which is none where the connection is stopped;
+/// or why it may not receive.
 pub(crate) fn receiving_key<'a>(
     sessions: &'a Sessions,
     session: &SessionId,
     id: ConsumerId,
-) -> Result<Option<&'a Key>, Refusal>
+) -> Result<(Mode, Option<&'a Key>), Refusal>
     ensures ok { OnOk result (may_receive sessions.now.life sessions.now.consumers session.now id ≡ true) }
-    ensures key { IfOk result (λ key.
-        option_copied key ≡ receiving sessions.now.life sessions.now.consumers session.now id) }
+    ensures mode { IfOk result (λ x. mode_of sessions.now.life session.now ≡ Some x.0) }
+    ensures key { IfOk result (λ x.
+        option_copied x.1 ≡ receiving sessions.now.life sessions.now.consumers session.now id) }
     ensures illegal { IfErr result (λ refusal. refusal ≡ IllegalState) }
     ensures refused { OnErr result (may_receive sessions.now.life sessions.now.consumers session.now id ≡ false) }
 {
-    if !sessions.is_open(session) {
+    let Some(mode) = sessions.mode_of(session) else {
         return Err(Refusal::IllegalState);
-    }
+    };
     match sessions.consumer_of(session, id) {
-        None => Err(Refusal::IllegalState),
-        Some(consumer) => {
+        Some(consumer) if consumer.is_active => {
             if sessions.is_started(session.connection) {
-                Ok(Some(&consumer.key))
+                Ok((mode, Some(&consumer.key)))
             } else {
-                Ok(None)
+                Ok((mode, None))
             }
         }
+        _ => Err(Refusal::IllegalState),
     }
 }
 
@@ -54,12 +80,12 @@ pub(crate) fn receiving_key<'a>(
 pub(crate) fn prepare_delivery(
     stations: &Stations,
     key: Option<&Key>,
-    now: Moment,
+    receiver: &Receiver,
 ) -> Result<Option<Taking>, AllocError>
     ensures ok { IfOk result (λ taking.
-        IsTaken (option_copied key.entry) now stations.now.keys stations.now.list taking) }
+        IsTaken (option_copied key.entry) receiver.now stations.now.keys stations.now.list taking) }
     ensures within { IfOk result (λ taking. IfSome taking (λ x. x.index < length stations.now.list)) }
-    ensures err { OnErr result (wants_copy (option_copied key.entry) now stations.now.keys stations.now.list ≡ true) }
+    ensures err { OnErr result (wants_copy (option_copied key.entry) receiver.now stations.now.keys stations.now.list ≡ true) }
 {
     let Some(key) = key else {
         return Ok(None);
@@ -67,24 +93,90 @@ pub(crate) fn prepare_delivery(
     match stations.index_of(key) {
         None => Ok(None),
         Some(index) => {
-            let copy = stations.copy_for(index, now)?;
+            let copy = stations.copy_for(index, receiver.moment, settles(receiver.mode))?;
             Ok(Some(Taking { index, copy }))
         }
     }
 }
 
-/// Delivers and settles the next row, where there is one.
-pub(crate) fn make_delivery(stations: &mut Stations, taking: Option<Taking>, now: Moment) -> Answer
+/// Delivers the next row, where there is one: it is settled where the receiver's mode settles at once, and else it is
+/// out to the session.
+pub(crate) fn make_delivery(
+    stations: &mut Stations,
+    receiver: &Receiver,
+    taking: Option<Taking>,
+) -> Answer
     requires within { IfSome taking (λ x. x.index < length stations.old.list) }
     requires copy { IfSome taking (λ x. (d : Backlog) →
-        x.copy ≡ copy_wanted now stations.old.list (slice_index_or stations.old.list x.index d).rows) }
-    ensures answer { IsTold taking now stations.old.list result }
+        x.copy ≡ copy_wanted (spec.settles receiver.now) receiver.now.moment stations.old.list
+        (slice_index_or stations.old.list x.index d).rows) }
+    ensures answer { IsTold taking receiver.now.moment stations.old.list result }
     ensures keys { stations.new.keys ≡ stations.old.keys }
-    ensures list { stations.new.list ≡ taken_from taking now stations.old.list }
+    ensures list { stations.new.list ≡ taken_from taking receiver.now stations.old.list }
     ensures next_place { stations.new.next_place ≡ stations.old.next_place }
 {
     match taking {
         None => Answer::Nothing,
-        Some(Taking { index, copy }) => stations.receive(index, now, copy),
+        Some(Taking { index, copy }) => deliver_from(stations, index, receiver, copy),
+    }
+}
+
+/// Delivers the next row under the key with that index, where there is one.
+#[tactic(auto, unfolding(jm_machine::specs::Rows::left_of))]
+fn deliver_from(
+    stations: &mut Stations,
+    index: usize,
+    receiver: &Receiver,
+    copy: Option<Message>,
+) -> Answer
+    requires within { index < length stations.old.list }
+    requires copy { (d : Backlog) →
+        copy ≡ copy_wanted (spec.settles receiver.now) receiver.now.moment stations.old.list
+        (slice_index_or stations.old.list index d).rows }
+    ensures answer { (d : Backlog) → result ≡ answered receiver.now.moment (slice_index_or stations.old.list index d).rows }
+    ensures keys { stations.new.keys ≡ stations.old.keys }
+    ensures list { stations.new.list ≡
+        changed_at index (spec.with_delivery (spec.left_by receiver.now) receiver.now.moment) stations.old.list }
+    ensures next_place { stations.new.next_place ≡ stations.old.next_place }
+{
+    match receiver.mode {
+        Mode::Auto | Mode::Dups => stations.receive(index, receiver.moment, copy),
+        Mode::Client => stations.deliver(
+            index,
+            receiver.moment,
+            copy,
+            receiver.session,
+            receiver.consumer,
+        ),
+    }
+}
+
+/// The key that the consumer receives from, whether its connection is started or not; or why it may not be used.
+pub(crate) fn missed_key<'a>(
+    sessions: &'a Sessions,
+    session: &SessionId,
+    id: ConsumerId,
+) -> Result<&'a Key, Refusal>
+    ensures ok { OnOk result (may_receive sessions.now.life sessions.now.consumers session.now id ≡ true) }
+    ensures key { IfOk result (λ key. key_at (consumer_of sessions.now.consumers session.now id) ≡ Some key.now) }
+    ensures illegal { IfErr result (λ refusal. refusal ≡ IllegalState) }
+    ensures refused { OnErr result (may_receive sessions.now.life sessions.now.consumers session.now id ≡ false) }
+{
+    if !sessions.may_receive(session, id) {
+        return Err(Refusal::IllegalState);
+    }
+    match sessions.consumer_of(session, id) {
+        Some(consumer) => Ok(&consumer.key),
+        None => Err(Refusal::IllegalState),
+    }
+}
+
+/// How many publications were missed under the key; none where nothing stands there.
+pub(crate) fn missed_under(stations: &Stations, key: &Key) -> u64
+    ensures { IsMissed (index_in stations.now.keys key.now) stations.now.list result }
+{
+    match stations.index_of(key) {
+        None => 0,
+        Some(index) => stations.missed(index),
     }
 }

@@ -1,12 +1,12 @@
 //! What the core holds, and each call on it.
 
-ghost use Rattle.std.specs.Prelude.{◌≡◌, ◌+◌, ◌≤◌, ◌&&◌, [], ◌∷◌, nat_le, is_some, length, MatchResult, IfOk, IfErr, OnOk, OnErr, Some, None};
+ghost use Rattle.std.specs.Prelude.{◌≡◌, ◌+◌, ◌≤◌, ◌&&◌, [], ◌∷◌, true, false, nat_le, is_some, length, MatchResult, IfOk, IfErr, OnOk, OnErr, Some, None};
 ghost use Rattle.jm_base.specs.declared.refusal.Refusal.TheVariants.{OutOfRange, Memory};
 ghost use Rattle.jm_machine.specs.Life as life;
 ghost use Rattle.jm_machine.specs.Machine as machine;
 ghost use Rattle.jm_core.specs.Accepted.{HoldsAccepted};
 ghost use Rattle.jm_core.specs.Kept.{IsNumberOfMessages};
-ghost use Rattle.jm_core.specs.Provider.{state_of};
+ghost use Rattle.jm_core.specs.Provider.{may_open, state_of};
 ghost use Rattle.jm_core.specs.Steps.{StepFits, PublishFits};
 
 use crate::publish::{make_publication, prepare_publication};
@@ -28,6 +28,8 @@ use std::slice::from_ref;
 pub(crate) struct CoreState {
     pub alloc: Global,
     pub opening: Number,
+    /// How many rows a subscription may hold.
+    pub limit: u32,
     pub sessions: Sessions,
     pub subs: Subs,
     pub stations: Stations,
@@ -41,14 +43,18 @@ impl Model for CoreState {
 
     ghost view = { λ c. record {
       opening = c.opening;
+      limit = c.limit;
       known = c.sessions;
       subscriptions = c.subs;
       held = c.stations;
     } };
 
     ghost invariant = { λ c.
-        IsSound c.sessions.consumers c.subs.list c.stations.keys c.stations.list c.stations.next_place };
+        IsSound c.limit c.sessions.consumers c.subs.list c.stations.keys c.stations.list c.stations.next_place };
 }
+
+/// The greatest number of rows that may be a limit (ours).
+const GREATEST_LIMIT: u32 = 1_000_000;
 
 /// The first number that is no place (ours).
 const PLACES_END: u64 = 1 << 63;
@@ -64,17 +70,21 @@ fn is_stamped(opening: Number, session: &SessionId, messages: &[Message]) -> boo
 }
 
 impl CoreState {
-    /// A core that holds nothing, in that opening of the provider. `OutOfRange` exactly where the
-    /// number is 0.
-    pub(crate) fn new(alloc: Global, opening: u32) -> Result<CoreState, Refusal>
+    /// A core that holds nothing, in that opening of the provider, with that limit of rows. `OutOfRange` exactly where
+    /// `Core::new` says.
+    pub(crate) fn new(alloc: Global, opening: u32, held_limit: u32) -> Result<CoreState, Refusal>
         ensures { MatchResult result
-            (λ core. (state_of core ≡ machine.new_core opening) × (1 ≤ opening))
-            (λ refusal. (refusal ≡ OutOfRange) × (opening ≡ 0)) }
+            (λ core. (state_of core ≡ machine.new_core opening held_limit) × (may_open opening held_limit ≡ true))
+            (λ refusal. (refusal ≡ OutOfRange) × (may_open opening held_limit ≡ false)) }
     {
         let opening = Number::new(opening)?;
+        if held_limit == 0 || held_limit > GREATEST_LIMIT {
+            return Err(Refusal::OutOfRange);
+        }
         Ok(CoreState {
             alloc,
             opening,
+            limit: held_limit,
             sessions: Sessions::new(alloc),
             subs: Subs::new(alloc),
             stations: Stations::new(alloc),
@@ -90,6 +100,13 @@ impl CoreState {
         ensures { result ≡ self.now.opening }
     {
         self.opening
+    }
+
+    /// How many rows a subscription may hold.
+    pub(crate) fn limit(&self) -> u32
+        ensures { result ≡ self.now.limit }
+    {
+        self.limit
     }
 
     /// The connections that were opened, in order.
@@ -130,6 +147,7 @@ impl CoreState {
         Ok(CoreState {
             alloc: self.alloc,
             opening: self.opening,
+            limit: self.limit,
             sessions,
             subs,
             stations,
@@ -163,6 +181,7 @@ impl CoreState {
                 Ok(Some(Station {
                     key: key.copy()?,
                     definition,
+                    missed: self.stations.missed(index),
                     rows: List::new(rows),
                 }))
             }

@@ -12,19 +12,19 @@ use Rattle.jm_header.specs.Headers.{message_of, is_in_range, stamped}
 use Rattle.jm_machine.specs.declared.call.Who.{Who}
 use Rattle.jm_machine.specs.declared.call.Who.TheVariants.{Connection, Session}
 use Rattle.jm_machine.specs.declared.call.Request.{Request}
-use Rattle.jm_machine.specs.declared.call.Request.TheVariants.{CreateConsumer, Receive}
+use Rattle.jm_machine.specs.declared.call.Request.TheVariants.{CloseConnection, CreateConsumer, Receive, Acknowledge}
 use Rattle.jm_machine.specs.declared.call.Call.{Call}
 use Rattle.jm_machine.specs.declared.call.Call.TheVariants.{Publish, Ask as AskStep}
 use Rattle.jm_machine.specs.declared.call.ClientCall.{ClientCall}
 use Rattle.jm_machine.specs.declared.call.ClientCall.TheVariants.{Ask, Send}
 use Rattle.jm_machine.specs.declared.answer.Answer.{Answer}
-use Rattle.jm_machine.specs.declared.answer.Answer.TheVariants.{Done, Sent as SentAs, Delivered, Nothing}
+use Rattle.jm_machine.specs.declared.answer.Answer.TheVariants.{Done, Sent as SentAs, Delivered, Nothing, Missed}
 use Rattle.jm_machine.specs.declared.entry.Entry.{Entry}
 use Rattle.jm_machine.specs.declared.entry.Entry.TheVariants.{Asked, Sent}
 use Rattle.jm_machine.specs.declared.state.Row.{Row}
 use Rattle.jm_machine.specs.Life.{mode_of, is_started}
 use Rattle.jm_machine.specs.Rows.{left_of}
-use Rattle.jm_machine.specs.Machine.{State, consumer_of, key_at, with_message, published, receive, held, refusal, publish_refusal, after, answer, replied, moved, reply, step}
+use Rattle.jm_machine.specs.Machine.{State, consumer_of, key_at, with_message, published, of_session, settled, is_client, receive, held, refusal, publish_refusal, after, answer, replied, moved, reply, step}
 use Rattle.jm_machine.specs.Wants.{is_want}
 use Rattle.jm_machine.specs.Client.{Progress, begun, stamp_of, send_reply, send_progress, reply_to, progress_to, CallFits, RepliesFit}
 use Rattle.jm_machine.specs.Entries.{sent_entry, is_not_made, entry_of, entries_of}
@@ -59,11 +59,13 @@ opening_receive f now (Some k) state = refl
 
 opening_after : (state : State) (who : Who) (request : Request) → (after state who request).opening ≡ state.opening
 unfolding after
+opening_after state (Connection c) CloseConnection = refl
 opening_after state (Connection c) request = refl
+opening_after state (Session s) Acknowledge = opening_if (is_client (mode_of state.life s)) (settled (of_session s) state) state state.opening refl refl
 opening_after state (Session s) (CreateConsumer c topic selector) = refl
 opening_after state (Session s) (Receive c now) =
-    opening_if (is_started state.life s.connection) (receive (left_of (mode_of state.life s)) now (key_at (consumer_of state.consumers s c)) state) state state.opening
-    (opening_receive (left_of (mode_of state.life s)) now (key_at (consumer_of state.consumers s c)) state) refl
+    opening_if (is_started state.life s.connection) (receive (left_of (mode_of state.life s) s c) now (key_at (consumer_of state.consumers s c)) state) state state.opening
+    (opening_receive (left_of (mode_of state.life s) s c) now (key_at (consumer_of state.consumers s c)) state) refl
 opening_after state (Session s) _ = refl
 
 opening_step : (state : State) (who : Who) (call : Call) → (step state who call).opening ≡ state.opening
@@ -114,6 +116,7 @@ number_or k (Ok Done) = k
 number_or k (Ok (SentAs n)) = n
 number_or k (Ok (Delivered d)) = k
 number_or k (Ok Nothing) = k
+number_or k (Ok (Missed n)) = k
 number_or k (Err r) = k
 
 replied_number : (o : Option Refusal) (k : ℕ) → number_or k (replied o (SentAs k)) ≡ k
@@ -206,6 +209,10 @@ call_led p next (Send s draft destination now) (Ok Nothing) f = absurd (no_nothi
   where
     no_nothing : (k : ℕ) → Nothing ≡ SentAs k → ⊥
     no_nothing k h = cc
+call_led p next (Send s draft destination now) (Ok (Missed n)) f = absurd (no_missed (p.sent s + 1) (send_answer p.state s (Missed n) (p.sent s + 1) (stamp_of p s draft destination now) f.0))
+  where
+    no_missed : (k : ℕ) → Missed n ≡ SentAs k → ⊥
+    no_missed k h = cc
 call_led p next (Send s draft destination now) (Err r) f = refused_led p next s draft destination now r (is_want (Err r)) f
 
 -- a list of calls

@@ -1,10 +1,10 @@
 -- The consumers of all keys, seen at one key.
-use Rattle.std.proofs.Common.{◌≡◌, ℕ, Bool, true, false, cond, List, [], ◌∷◌, ◌++◌, refl, ap, subst, ◌∙◌, arith, Option, Some, None}
+use Rattle.std.proofs.Common.{◌≡◌, ℕ, Bool, true, false, cond, List, [], ◌∷◌, ◌++◌, refl, ap, subst, ◌∙◌, arith, map, sym, Option, Some, None}
 use Rattle.std.specs.Prelude.{filter}
 use Rattle.std.proofs.lemmas.Bool.Decides.{nat_tests}
 use Rattle.jm_dest.specs.declared.session.SessionId.{SessionId}
 use Rattle.jm_dest.specs.declared.key.Key.{Key}
-use Rattle.jm_dest.specs.declared.key.Key.TheVariants.{Own}
+use Rattle.jm_dest.specs.declared.key.Key.TheVariants.{Own, SharedOwn, Durable, Queue as OfQueue}
 use Rattle.jm_dest.specs.Keys.{key_eq}
 use Rattle.jm_machine.specs.declared.call.Who.TheVariants.{Session}
 use Rattle.jm_machine.specs.declared.call.Request.{Request}
@@ -12,9 +12,13 @@ use Rattle.jm_machine.specs.declared.call.Request.TheVariants.{CreateConsumer}
 use Rattle.jm_machine.specs.declared.entry.Entry.{Entry}
 use Rattle.jm_machine.specs.declared.entry.Entry.TheVariants.{Asked}
 use Rattle.jm_machine.specs.declared.state.Consumer.{Consumer}
+use Rattle.jm_machine.specs.declared.state.Row.{Row}
+use Rattle.jm_machine.specs.declared.state.RowState.{RowState}
+use Rattle.jm_machine.specs.declared.state.RowState.TheVariants.{Waiting, Out}
 use Rattle.jm_machine.specs.Owns.{is_own}
-use Rattle.jm_machine.specs.Machine.{has_number, consumer_of, is_active, key_at}
+use Rattle.jm_machine.specs.Machine.{has_number, consumer_of, is_active, key_at, closed_consumer, is_one_of, ends, State, station_of, rows_of}
 use Rattle.jm_machine.specs.Lone.{Scope, belongs}
+use Rattle.jm_law.proofs.Lists.{filter_map_same}
 use Rattle.jm_law.proofs.Same.{session_same, key_same}
 
 -- the session of a consumer whose subscription has the key is an own one
@@ -86,3 +90,84 @@ key_not_mine S s c xs p n = key_other S (consumer_of xs s c) (subst (λ v. KeyIs
 pub placed_push : (S : Scope) (y : Consumer) → key_eq y.key S.key ≡ belongs S y.session y.id → (xs : List Consumer) → Placed S xs → Placed S (xs ++ y ∷ [])
 placed_push S y h [] p = (h, tt)
 placed_push S y h (x ∷ xs) p = (p.0, placed_push S y h xs p.1)
+
+-- consumers close, and keep their keys and numbers
+closed_keeps : (p : SessionId → ℕ → Bool) (x : Consumer) → ((closed_consumer p x).key ≡ x.key) × (((closed_consumer p x).session ≡ x.session) × ((closed_consumer p x).id ≡ x.id))
+closed_keeps p x = go (p x.session x.id)
+  where
+    go : (b : Bool) → ((cond b (record x { is_active = false }) x).key ≡ x.key) × (((cond b (record x { is_active = false }) x).session ≡ x.session) × ((cond b (record x { is_active = false }) x).id ≡ x.id))
+    go true = (refl, (refl, refl))
+    go false = (refl, (refl, refl))
+
+pub placed_closed : (S : Scope) (p : SessionId → ℕ → Bool) (xs : List Consumer) → Placed S xs → Placed S (map (closed_consumer p) xs)
+placed_closed S p [] h = tt
+placed_closed S p (x ∷ xs) h =
+    let k = closed_keeps p x in
+    (ap (λ (y : Key). key_eq y S.key) k.0 ∙ h.0 ∙ sym (ap (λ (s : SessionId). belongs S s x.id) k.1.0) ∙ sym (ap (λ (c : ℕ). belongs S (closed_consumer p x).session c) k.1.1), placed_closed S p xs h.1)
+
+-- the key's consumers close as all do
+pub closed_in : (S : Scope) (p : SessionId → ℕ → Bool) (xs : List Consumer) → filter (λ x. key_eq x.key S.key) (map (closed_consumer p) xs) ≡ map (closed_consumer p) (filter (λ x. key_eq x.key S.key) xs)
+closed_in S p xs = filter_map_same _ _ (λ x. ap (λ (y : Key). key_eq y S.key) (closed_keeps p x).0) xs
+
+-- none of the key's consumers passes
+abbrev pub Passes : Scope → (SessionId → ℕ → Bool) → Type 0
+Passes S p = (s : SessionId) (c : ℕ) → belongs S s c ≡ true → p s c ≡ false
+
+pub closed_out : (S : Scope) (p : SessionId → ℕ → Bool) → Passes S p → (xs : List Consumer) → Placed S xs → filter (λ x. key_eq x.key S.key) (map (closed_consumer p) xs) ≡ filter (λ x. key_eq x.key S.key) xs
+closed_out S p h [] q = refl
+closed_out S p h (x ∷ xs) q = one (key_eq x.key S.key) refl (closed_out S p h xs q.1)
+  where
+    stays : key_eq x.key S.key ≡ true → closed_consumer p x ≡ x
+    stays e = ap (λ (b : Bool). cond b (record x { is_active = false }) x) (h x.session x.id (sym q.0 ∙ e))
+
+    one : (b : Bool) → key_eq x.key S.key ≡ b → filter (λ y. key_eq y.key S.key) (map (closed_consumer p) xs) ≡ filter (λ y. key_eq y.key S.key) xs →
+        filter (λ y. key_eq y.key S.key) (map (closed_consumer p) (x ∷ xs)) ≡ cond b (x ∷ filter (λ y. key_eq y.key S.key) xs) (filter (λ y. key_eq y.key S.key) xs)
+    one true e rest =
+        ap (λ (z : Consumer). cond (key_eq z.key S.key) (z ∷ filter (λ y. key_eq y.key S.key) (map (closed_consumer p) xs)) (filter (λ y. key_eq y.key S.key) (map (closed_consumer p) xs))) (stays e)
+        ∙ ap (λ (v : Bool). cond v (x ∷ filter (λ y. key_eq y.key S.key) (map (closed_consumer p) xs)) (filter (λ y. key_eq y.key S.key) (map (closed_consumer p) xs))) e
+        ∙ ap (λ t. x ∷ t) rest
+    one false e rest =
+        ap (λ (v : Bool). cond v (closed_consumer p x ∷ filter (λ y. key_eq y.key S.key) (map (closed_consumer p) xs)) (filter (λ y. key_eq y.key S.key) (map (closed_consumer p) xs))) (ap (λ (y : Key). key_eq y S.key) (closed_keeps p x).0 ∙ e)
+        ∙ rest
+
+-- the key's consumers say whether it ends
+one_in : (p : SessionId → ℕ → Bool) (k : Key) (xs : List Consumer) → is_one_of p (filter (λ x. key_eq x.key k) xs) k ≡ is_one_of p xs k
+one_in p k [] = refl
+one_in p k (x ∷ xs) = grind (arith, nat_tests, one_in p k xs)
+
+pub ends_in : (p : SessionId → ℕ → Bool) (k : Key) (xs : List Consumer) → ends p (filter (λ x. key_eq x.key k) xs) k ≡ ends p xs k
+ends_in p (OfQueue name) xs = refl
+ends_in p (Own s c) xs = one_in p (Own s c) xs
+ends_in p (SharedOwn client name) xs = refl
+ends_in p (Durable client name) xs = refl
+
+one_out : (S : Scope) (p : SessionId → ℕ → Bool) → Passes S p → (xs : List Consumer) → Placed S xs → is_one_of p xs S.key ≡ false
+one_out S p h [] q = refl
+one_out S p h (x ∷ xs) q = go (key_eq x.key S.key) refl (one_out S p h xs q.1)
+  where
+    go : (b : Bool) → key_eq x.key S.key ≡ b → is_one_of p xs S.key ≡ false → is_one_of p (x ∷ xs) S.key ≡ false
+    go true e r = let i : p x.session x.id ≡ false = h x.session x.id (sym q.0 ∙ e) in grind (arith, nat_tests)
+    go false e r = grind (arith, nat_tests)
+
+pub ends_out : (S : Scope) (p : SessionId → ℕ → Bool) → Passes S p → (xs : List Consumer) → Placed S xs → ends p xs S.key ≡ false
+ends_out S p h xs q = go S.key (one_out S p h xs q)
+  where
+    go : (k : Key) → is_one_of p xs k ≡ false → ends p xs k ≡ false
+    go (OfQueue name) i = refl
+    go (Own s c) i = i
+    go (SharedOwn client name) i = refl
+    go (Durable client name) i = refl
+
+-- rows that are out to own sessions alone
+abbrev pub OutBy : List SessionId → RowState → Type 0
+OutBy sessions Waiting = Unit {0}
+OutBy sessions (Out s c) = is_own sessions s ≡ true
+
+abbrev pub OwnOut : List SessionId → List Row → Type 0
+OwnOut sessions [] = Unit {0}
+OwnOut sessions (r ∷ rows) = OutBy sessions r.state × OwnOut sessions rows
+
+-- what each state keeps at the key: which consumers are the key's, and that its rows are out to own sessions alone
+pub record Sound (S : Scope) (state : State) : Type 0 where
+  pub placed : Placed S state.consumers
+  pub out : OwnOut S.sessions (rows_of (station_of S.key state.stations))

@@ -1,6 +1,6 @@
 -- Each consumer of a state that the provider reaches has the key that its number says.
 use Rattle.std.proofs.Common.{◌≡◌, ℕ, Bool, true, false, cond, List, [], ◌∷◌, ◌++◌, refl, ap, sym, subst, ◌∙◌, arith, Option, Some, None}
-use Rattle.std.specs.Prelude.{◌&&◌, ◌||◌, ◌==◌, is_some}
+use Rattle.std.specs.Prelude.{map, ◌&&◌, ◌||◌, ◌==◌, is_some}
 use Rattle.std.specs.List.{list_any}
 use Rattle.std.proofs.lemmas.Bool.Decides.{nat_tests}
 use Rattle.jm_base.specs.declared.refusal.Refusal.{Refusal}
@@ -12,7 +12,7 @@ use Rattle.jm_dest.specs.Keys.{key_eq}
 use Rattle.jm_machine.specs.declared.call.Who.{Who}
 use Rattle.jm_machine.specs.declared.call.Who.TheVariants.{Connection, Session}
 use Rattle.jm_machine.specs.declared.call.Request.{Request}
-use Rattle.jm_machine.specs.declared.call.Request.TheVariants.{CreateConsumer, Receive}
+use Rattle.jm_machine.specs.declared.call.Request.TheVariants.{CloseConnection, CloseSession, CreateConsumer, CloseConsumer, Receive, Acknowledge}
 use Rattle.jm_machine.specs.declared.call.Call.{Call}
 use Rattle.jm_machine.specs.declared.call.Call.TheVariants.{Ask, Publish}
 use Rattle.jm_machine.specs.declared.entry.Entry.{Entry}
@@ -21,7 +21,7 @@ use Rattle.jm_machine.specs.declared.state.Consumer.{Consumer}
 use Rattle.jm_machine.specs.Owns.{is_own}
 use Rattle.jm_machine.specs.Life.{is_started, mode_of}
 use Rattle.jm_machine.specs.Rows.{left_of}
-use Rattle.jm_machine.specs.Machine.{State, has_number, consumer_of, key_at, receive, held, refusal, publish_refusal, after, published, moved, step}
+use Rattle.jm_machine.specs.Machine.{State, has_number, consumer_of, key_at, closed_consumer, of_session, of_connection, of_number, settled, is_client, receive, held, refusal, publish_refusal, after, published, moved, step}
 use Rattle.jm_machine.specs.Lone.{creates, first_named, named_by, scope_of}
 use Rattle.jm_machine.specs.Isolation.{Reached}
 use Rattle.jm_machine.specs.Isolation.Reached.{New, Stepped}
@@ -38,6 +38,14 @@ keyed_push : (y : Consumer) → y.key ≡ Own y.session y.id → (xs : List Cons
 keyed_push y h [] k = (h, tt)
 keyed_push y h (x ∷ xs) k = (k.0, keyed_push y h xs k.1)
 
+keyed_closed : (p : SessionId → ℕ → Bool) (xs : List Consumer) → Keyed xs → Keyed (map (closed_consumer p) xs)
+keyed_closed p [] k = tt
+keyed_closed p (x ∷ xs) k = (go (p x.session x.id), keyed_closed p xs k.1)
+  where
+    go : (b : Bool) → (cond b (record x { is_active = false }) x).key ≡ Own (cond b (record x { is_active = false }) x).session (cond b (record x { is_active = false }) x).id
+    go true = k.0
+    go false = k.0
+
 keyed_if : (b : Bool) (x y : State) → Keyed x.consumers → Keyed y.consumers → Keyed (cond b x y).consumers
 keyed_if true x y p q = p
 keyed_if false x y p q = q
@@ -48,11 +56,15 @@ keyed_moved (Some r) x y p q = q
 
 keyed_after : (state : State) (who : Who) (request : Request) → Keyed state.consumers → Keyed (after state who request).consumers
 unfolding after
+keyed_after state (Connection c) CloseConnection k = keyed_closed (of_connection c) state.consumers k
 keyed_after state (Connection c) request k = k
-keyed_after state (Session s) (CreateConsumer c topic selector) k = keyed_push (record { session = s; id = c; key = Own s c }) refl state.consumers k
+keyed_after state (Session s) CloseSession k = keyed_closed (of_session s) state.consumers k
+keyed_after state (Session s) (CloseConsumer c) k = keyed_closed (of_number s c) state.consumers k
+keyed_after state (Session s) Acknowledge k = keyed_if (is_client (mode_of state.life s)) (settled (of_session s) state) state k k
+keyed_after state (Session s) (CreateConsumer c topic selector) k = keyed_push (record { session = s; id = c; key = Own s c; is_active = true }) refl state.consumers k
 keyed_after state (Session s) (Receive c now) k =
-    keyed_if (is_started state.life s.connection) (receive (left_of (mode_of state.life s)) now (key_at (consumer_of state.consumers s c)) state) state
-    (subst Keyed (sym (received_consumers (left_of (mode_of state.life s)) now (key_at (consumer_of state.consumers s c)) state)) k) k
+    keyed_if (is_started state.life s.connection) (receive (left_of (mode_of state.life s) s c) now (key_at (consumer_of state.consumers s c)) state) state
+    (subst Keyed (sym (received_consumers (left_of (mode_of state.life s) s c) now (key_at (consumer_of state.consumers s c)) state)) k) k
 keyed_after state (Session s) _ k = k
 
 keyed_step : (state : State) (who : Who) (call : Call) → Keyed state.consumers → Keyed (step state who call).consumers
@@ -61,15 +73,15 @@ keyed_step state who (Ask request) k = keyed_moved (refusal state.life state.con
 keyed_step state who (Publish messages) k = keyed_moved (publish_refusal state who messages) (published state messages) state (subst Keyed (sym (published_consumers state messages)) k) k
 
 pub reached_keyed : (state : State) → Reached state → Keyed state.consumers
-reached_keyed state (New opening) = tt
+reached_keyed state (New opening limit) = tt
 reached_keyed state (Stepped before who call r) = keyed_step before who call (reached_keyed before r)
 
 -- the consumer that a number finds has that number's key
-abbrev HasOwn : SessionId → ℕ → Option Consumer → Type 0
+abbrev pub HasOwn : SessionId → ℕ → Option Consumer → Type 0
 HasOwn s c None = Unit {0}
 HasOwn s c (Some y) = y.key ≡ Own s c
 
-found_own : (s : SessionId) (c : ℕ) (xs : List Consumer) → Keyed xs → HasOwn s c (consumer_of xs s c)
+pub found_own : (s : SessionId) (c : ℕ) (xs : List Consumer) → Keyed xs → HasOwn s c (consumer_of xs s c)
 found_own s c [] k = tt
 found_own s c (x ∷ xs) k = go (has_number s c x) refl (found_own s c xs k.1)
   where

@@ -10,3 +10,4 @@ pub mod Clients
 pub mod Unshared
 pub mod EntrySteps
 pub mod Keyed
+pub mod Homed

@@ -1,17 +1,19 @@
 -- A change of the connections and sessions, seen by some of them.
 use Rattle.std.proofs.Common.{◌≡◌, ℕ, Bool, true, false, List, refl, arith}
-use Rattle.std.specs.Prelude.{filter}
+use Rattle.std.specs.Prelude.{filter, map, ◌==◌}
 use Rattle.std.proofs.lemmas.Bool.Decides.{nat_tests}
 use Rattle.jm_dest.specs.declared.session.SessionId.{SessionId}
+use Rattle.jm_dest.specs.Names.{session_eq}
 use Rattle.jm_machine.specs.declared.call.Who.{Who}
 use Rattle.jm_machine.specs.declared.call.Who.TheVariants.{Connection, Session}
 use Rattle.jm_machine.specs.declared.call.Request.{Request}
-use Rattle.jm_machine.specs.declared.call.Request.TheVariants.{Open, Start, Stop, CreateSession}
+use Rattle.jm_machine.specs.declared.call.Request.TheVariants.{Open, Start, Stop, CloseConnection, CreateSession, CloseSession}
 use Rattle.jm_machine.specs.declared.state.ConnectionState.{ConnectionState}
 use Rattle.jm_machine.specs.declared.state.SessionState.{SessionState}
 use Rattle.jm_machine.specs.Owns.{is_own, is_own_connection}
-use Rattle.jm_machine.specs.Life.{Life, connection_of, session_of, mode_of, is_started, is_new_session, with_started, life_after, own_life}
+use Rattle.jm_machine.specs.Life.{Life, connection_of, session_of, mode_of, is_started, is_new_session, with_started, closed_if, close_sessions, life_after, own_life}
 use Rattle.jm_law.proofs.Lists.{find_filter, filter_map_same, filter_map_out, push_in, push_out, cond_map, cond_one}
+use Rattle.jm_machine.specs.Machine.{may_close_session}
 use Rattle.jm_law.proofs.Same.{session_same, own_connection}
 
 -- what an own session sees of its connection and of itself is what there is
@@ -32,6 +34,9 @@ own_started sessions life s h = rw (own_connection_of sessions life s.connection
 pub own_new : (sessions : List SessionId) (life : Life) (s : SessionId) → is_own sessions s ≡ true → is_new_session (own_life sessions life) s ≡ is_new_session life s
 own_new sessions life s h = rw (own_connection_of sessions life s.connection (own_connection sessions s h), own_session sessions life s h)
 
+pub own_closes : (sessions : List SessionId) (life : Life) (s : SessionId) → is_own sessions s ≡ true → may_close_session (own_life sessions life) s ≡ may_close_session life s
+own_closes sessions life s h = rw (own_connection_of sessions life s.connection (own_connection sessions s h), own_session sessions life s h)
+
 -- the caller is one of the sessions or their connections
 abbrev pub is_own_who : List SessionId → Who → Bool
 is_own_who sessions (Connection c) = is_own_connection sessions c
@@ -42,6 +47,28 @@ started_in sessions c on connections = filter_map_same _ _ (λ x. grind (arith, 
 
 started_out : (sessions : List SessionId) (c : ℕ) (on : Bool) → is_own_connection sessions c ≡ false → (connections : List ConnectionState) → filter (λ x. is_own_connection sessions x.id) (with_started c on connections) ≡ filter (λ x. is_own_connection sessions x.id) connections
 started_out sessions c on o connections = filter_map_out _ _ (λ x. grind (arith, nat_tests)) (λ x e. grind (arith, nat_tests)) connections
+
+-- what passes no own one is none of these sessions, and none of their connections
+abbrev pub NotOf : List SessionId → (SessionId → Bool) → Type 0
+NotOf sessions p = (t : SessionId) → is_own sessions t ≡ true → p t ≡ false
+
+pub apart_session : (sessions : List SessionId) (s : SessionId) → is_own sessions s ≡ false → NotOf sessions (λ t. session_eq t s)
+apart_session sessions s h t o = grind (arith, nat_tests, session_same t s)
+
+pub apart_connection : (sessions : List SessionId) (c : ℕ) → is_own_connection sessions c ≡ false → NotOf sessions (λ t. t.connection == c)
+apart_connection sessions c h t o = grind (arith, nat_tests, own_connection sessions t)
+
+closed_in : (sessions : List SessionId) (c : ℕ) (connections : List ConnectionState) → filter (λ x. is_own_connection sessions x.id) (map (closed_if c) connections) ≡ map (closed_if c) (filter (λ x. is_own_connection sessions x.id) connections)
+closed_in sessions c connections = filter_map_same _ _ (λ x. grind (arith, nat_tests)) connections
+
+closed_out : (sessions : List SessionId) (c : ℕ) → is_own_connection sessions c ≡ false → (connections : List ConnectionState) → filter (λ x. is_own_connection sessions x.id) (map (closed_if c) connections) ≡ filter (λ x. is_own_connection sessions x.id) connections
+closed_out sessions c o connections = filter_map_out _ _ (λ x. grind (arith, nat_tests)) (λ x e. grind (arith, nat_tests)) connections
+
+shut_in : (sessions : List SessionId) (p : SessionId → Bool) (xs : List SessionState) → filter (λ x. is_own sessions x.id) (close_sessions p xs) ≡ close_sessions p (filter (λ x. is_own sessions x.id) xs)
+shut_in sessions p xs = filter_map_same _ _ (λ x. grind (arith, nat_tests)) xs
+
+shut_out : (sessions : List SessionId) (p : SessionId → Bool) → NotOf sessions p → (xs : List SessionState) → filter (λ x. is_own sessions x.id) (close_sessions p xs) ≡ filter (λ x. is_own sessions x.id) xs
+shut_out sessions p h xs = filter_map_out _ _ (λ x. grind (arith, nat_tests)) (λ x e. let i : p x.id ≡ false = h x.id e in grind (arith, nat_tests)) xs
 
 abbrev life_by : List ConnectionState → List SessionState → Life
 life_by connections sessions = record { connections = connections; sessions = sessions }
@@ -57,6 +84,8 @@ life_own sessions life (Connection c) Start h = two (started_in sessions c true 
 life_own sessions life (Connection c) Stop h = two (started_in sessions c false life.connections) refl
 life_own sessions life (Session s) (CreateSession mode) h =
     rw (own_new sessions life s h) (cond_map (own_life sessions) (is_new_session life s) _ life _ _ (λ _. two refl (push_in _ _ h life.sessions)) refl)
+life_own sessions life (Connection c) CloseConnection h = two (closed_in sessions c life.connections) (shut_in sessions (λ s. s.connection == c) life.sessions)
+life_own sessions life (Session s) CloseSession h = two refl (shut_in sessions (λ t. session_eq t s) life.sessions)
 life_own sessions life _ _ h = refl
 
 -- any other call does nothing to it
@@ -67,4 +96,6 @@ life_other sessions life (Connection c) Start h = two (started_out sessions c tr
 life_other sessions life (Connection c) Stop h = two (started_out sessions c false h life.connections) refl
 life_other sessions life (Session s) (CreateSession mode) h =
     cond_one (own_life sessions) (is_new_session life s) _ life _ (λ _. two refl (push_out _ _ h life.sessions)) refl
+life_other sessions life (Connection c) CloseConnection h = two (closed_out sessions c h life.connections) (shut_out sessions (λ s. s.connection == c) (apart_connection sessions c h) life.sessions)
+life_other sessions life (Session s) CloseSession h = two refl (shut_out sessions (λ t. session_eq t s) (apart_session sessions s h) life.sessions)
 life_other sessions life _ _ h = refl

@@ -1,6 +1,7 @@
 -- What a request of the machine is to one key's subscription.
-use Rattle.std.proofs.Common.{◌≡◌, ℕ, Bool, true, false, List, [], refl, ap, sym, ◌∙◌, Option, Some, None}
-use Rattle.std.specs.Prelude.{filter, ◌&&◌, is_some}
+use Rattle.std.proofs.Common.{◌≡◌, ℕ, Bool, true, false, cond, List, [], ◌∷◌, map, refl, ap, sym, ◌∙◌, arith, Option, Some, None}
+use Rattle.std.specs.Prelude.{filter, not, ◌&&◌, is_some}
+use Rattle.std.proofs.lemmas.Bool.Decides.{nat_tests}
 use Rattle.jm_base.specs.declared.refusal.Refusal.{Refusal}
 use Rattle.jm_base.specs.declared.refusal.Refusal.TheVariants.{IllegalState}
 use Rattle.jm_dest.specs.declared.session.SessionId.{SessionId}
@@ -9,38 +10,135 @@ use Rattle.jm_dest.specs.declared.key.Key.TheVariants.{Own}
 use Rattle.jm_dest.specs.Keys.{key_eq}
 use Rattle.jm_machine.specs.declared.call.Who.TheVariants.{Connection, Session}
 use Rattle.jm_machine.specs.declared.call.Request.{Request}
-use Rattle.jm_machine.specs.declared.call.Request.TheVariants.{CreateSession, CreateConsumer, Receive}
+use Rattle.jm_machine.specs.declared.call.Request.TheVariants.{CloseConnection, CreateSession, CloseSession, CreateConsumer, CloseConsumer, Receive, Acknowledge, Recover, Missed}
 use Rattle.jm_machine.specs.declared.call.Call.TheVariants.{Ask}
 use Rattle.jm_machine.specs.declared.answer.Answer.{Answer}
+use Rattle.jm_machine.specs.declared.call.Who.{Who}
 use Rattle.jm_machine.specs.declared.state.Row.{Row}
+use Rattle.jm_machine.specs.declared.state.RowState.{RowState}
+use Rattle.jm_machine.specs.declared.state.RowState.TheVariants.{Waiting, Out}
 use Rattle.jm_machine.specs.declared.state.PlacedRow.{PlacedRow}
 use Rattle.jm_machine.specs.declared.state.Station.{Station}
 use Rattle.jm_machine.specs.declared.state.Definition.{Definition}
 use Rattle.jm_machine.specs.declared.state.Consumer.{Consumer}
 use Rattle.jm_machine.specs.Owns.{is_own, is_own_connection}
-use Rattle.jm_machine.specs.Life.{Life, mode_of, is_started, own_life}
-use Rattle.jm_machine.specs.Rows.{left_of, bare, deliver, deliver_placed}
-use Rattle.jm_machine.specs.Machine.{State, station_of, definition_of, rows_of, with_rows, put, joined, consumer_of, is_active, key_at, held, unless, defined, receive, refusal, answer, after, replied, reply}
-use Rattle.jm_machine.specs.Lone.{Scope, Lone, lone_of, lone_put, lone_joined, lone_receive, lone_did, about, belongs, true_or_none, is_true, lone_holding, lone_refusal, lone_reply}
-use Rattle.jm_law.proofs.Same.{key_same, key_refl}
+use Rattle.jm_machine.specs.Life.{Life, mode_of, is_started, life_after, own_life}
+use Rattle.jm_machine.specs.Rows.{is_out, goes_out, given_back, left_of, bare, deliver, deliver_placed}
+use Rattle.jm_machine.specs.Machine.{State, station_of, definition_of, missed_of, rows_of, with_rows, put, joined, consumer_of, is_active, key_at, held, unless, defined, of_session, of_connection, of_number, settled_rows, returned_rows, settled, returned, closed_consumer, ends, closed, with_life, is_client, receive, refusal, answer, after, replied, reply}
+use Rattle.jm_machine.specs.Lone.{Scope, Lone, lone_of, lone_put, lone_joined, lone_ended, lone_settled, lone_returned, lone_closed, lone_life, lone_receive, lone_did, about, belongs, true_or_none, is_true, lone_holding, lone_refusal, lone_reply}
+use Rattle.jm_law.proofs.Same.{session_same, own_connection, key_same, key_refl}
 use Rattle.jm_law.proofs.Lists.{push_in, push_out, cond_map, cond_one}
-use Rattle.jm_law.proofs.Stations.{mapped, station_of-at, station_of_other-at, station-put, other-put, bare-deliver}
-use Rattle.jm_law.proofs.Life.{own_mode, own_started, own_new, life_own, life_other}
-use Rattle.jm_law.proofs.Consumers.{Fitting, FairRequest, Placed, IsOther, consumer_own, key_mine, key_not_mine}
+use Rattle.jm_law.proofs.Stations.{mapped, station_of-map, station_of-at, station_of_other-at, station-put, other-put, station-ended, bare-deliver, bare-settled, bare-returned}
+use Rattle.jm_law.proofs.Life.{own_mode, own_started, own_session, own_new, own_closes, life_own, life_other}
+use Rattle.jm_law.proofs.Consumers.{Fitting, FairRequest, Placed, Sound, OutBy, OwnOut, Passes, IsOther, consumer_own, key_mine, key_not_mine, closed_in, closed_out, ends_in, ends_out}
 
 -- what is held of a key, from its station
-abbrev pub lone_at : Life → List Consumer → Option Station → Lone
-lone_at l cs o = record { life = l; consumers = cs; definition = definition_of o; rows = rows_of o }
+abbrev pub lone_at : ℕ → Life → List Consumer → Option Station → Lone
+lone_at n l cs o = record { limit = n; life = l; consumers = cs; definition = definition_of o; missed = missed_of o; rows = rows_of o }
 
-pub three : {l m : Life} {cs ds : List Consumer} {o p : Option Station} → l ≡ m → cs ≡ ds → o ≡ p → lone_at l cs o ≡ lone_at m ds p
-three {l} {m} {cs} {ds} {o} {p} e f g =
-    ap (λ (x : Life). lone_at x cs o) e ∙ ap (λ (x : List Consumer). lone_at m x o) f ∙ ap (λ (x : Option Station). lone_at m ds x) g
+pub three : {n : ℕ} {l m : Life} {cs ds : List Consumer} {o p : Option Station} → l ≡ m → cs ≡ ds → o ≡ p → lone_at n l cs o ≡ lone_at n m ds p
+three {n} {l} {m} {cs} {ds} {o} {p} e f g =
+    ap (λ (x : Life). lone_at n x cs o) e ∙ ap (λ (x : List Consumer). lone_at n m x o) f ∙ ap (λ (x : Option Station). lone_at n m ds x) g
 
 -- a change of the key's rows
 pub rows_case : (f : List PlacedRow → List PlacedRow) (g : List Row → List Row) → ((xs : List PlacedRow) → bare (f xs) ≡ g (bare xs)) → g [] ≡ [] →
-    (l : Life) (cs : List Consumer) (o : Option Station) → lone_at l cs (mapped (with_rows f) o) ≡ record (lone_at l cs o) { rows = g (rows_of o) }
-rows_case f g h e l cs None = ap (λ (rs : List Row). record (lone_at l cs None) { rows = rs }) (sym e)
-rows_case f g h e l cs (Some x) = ap (λ (rs : List Row). record (lone_at l cs (Some x)) { rows = rs }) (h x.rows)
+    (n : ℕ) (l : Life) (cs : List Consumer) (o : Option Station) → lone_at n l cs (mapped (with_rows f) o) ≡ record (lone_at n l cs o) { rows = g (rows_of o) }
+rows_case f g h e n l cs None = ap (λ (rs : List Row). record (lone_at n l cs None) { rows = rs }) (sym e)
+rows_case f g h e n l cs (Some x) = ap (λ (rs : List Row). record (lone_at n l cs (Some x)) { rows = rs }) (h x.rows)
+
+-- rows that are out through consumers that pass are settled, and wait again
+project_settled : (S : Scope) (p : SessionId → ℕ → Bool) (state : State) → lone_of S (settled p state) ≡ lone_settled p (lone_of S state)
+unfolding lone_of
+project_settled S p state =
+    three refl refl (station_of-map S.key (with_rows (settled_rows p)) (λ x. refl) state.stations)
+    ∙ rows_case (settled_rows p) (filter (λ r. not (is_out p r))) (bare-settled p) refl state.limit (own_life S.sessions state.life) (filter (λ x. key_eq x.key S.key) state.consumers) (station_of S.key state.stations)
+
+project_returned : (S : Scope) (p : SessionId → ℕ → Bool) (state : State) → lone_of S (returned p state) ≡ lone_returned p (lone_of S state)
+unfolding lone_of
+project_returned S p state =
+    three refl refl (station_of-map S.key (with_rows (returned_rows p)) (λ x. refl) state.stations)
+    ∙ rows_case (returned_rows p) (map (given_back p)) (bare-returned p) refl state.limit (own_life S.sessions state.life) (filter (λ x. key_eq x.key S.key) state.consumers) (station_of S.key state.stations)
+
+-- consumers close
+closed_case : (n : ℕ) (l : Life) (cs : List Consumer) (o : Option Station) (b : Bool) → lone_at n l cs (cond b None o) ≡ cond b (lone_ended (lone_at n l cs o)) (lone_at n l cs o)
+closed_case n l cs o true = refl
+closed_case n l cs o false = refl
+
+project_closed : (S : Scope) (p : SessionId → ℕ → Bool) (state : State) → lone_of S (closed p state) ≡ lone_closed S.key p (lone_of S state)
+unfolding lone_of
+project_closed S p state =
+    let cs : List Consumer = map (closed_consumer p) (filter (λ x. key_eq x.key S.key) state.consumers) in
+    three refl (closed_in S p state.consumers)
+    (station-ended S.key (ends p state.consumers) state.stations ∙ ap (λ b. cond b None (station_of S.key state.stations)) (sym (ends_in p S.key state.consumers)))
+    ∙ closed_case state.limit (own_life S.sessions state.life) cs (station_of S.key state.stations) (ends p (filter (λ x. key_eq x.key S.key) state.consumers) S.key)
+
+closed_other : (S : Scope) (p : SessionId → ℕ → Bool) (state : State) → Passes S p → Placed S state.consumers → lone_of S (closed p state) ≡ lone_of S state
+unfolding lone_of
+closed_other S p state h q =
+    three refl (closed_out S p h state.consumers q)
+    (station-ended S.key (ends p state.consumers) state.stations ∙ ap (λ b. cond b None (station_of S.key state.stations)) (ends_out S p h state.consumers q))
+
+-- none of the own sessions passes
+abbrev NoneOf : List SessionId → (SessionId → ℕ → Bool) → Type 0
+NoneOf sessions p = (s : SessionId) (c : ℕ) → is_own sessions s ≡ true → p s c ≡ false
+
+not_out : (sessions : List SessionId) (p : SessionId → ℕ → Bool) → NoneOf sessions p → (a : RowState) → OutBy sessions a → goes_out p a ≡ false
+not_out sessions p h Waiting o = refl
+not_out sessions p h (Out s c) o = h s c o
+
+none_settled : (sessions : List SessionId) (p : SessionId → ℕ → Bool) → NoneOf sessions p → (rows : List Row) → OwnOut sessions rows → filter (λ r. not (is_out p r)) rows ≡ rows
+none_settled sessions p h [] o = refl
+none_settled sessions p h (r ∷ rows) o = let e : is_out p r ≡ false = not_out sessions p h r.state o.0 in rw e (ap (λ rs. r ∷ rs) (none_settled sessions p h rows o.1))
+
+none_returned : (sessions : List SessionId) (p : SessionId → ℕ → Bool) → NoneOf sessions p → (rows : List Row) → OwnOut sessions rows → map (given_back p) rows ≡ rows
+none_returned sessions p h [] o = refl
+none_returned sessions p h (r ∷ rows) o = let e : is_out p r ≡ false = not_out sessions p h r.state o.0 in rw e (ap (λ rs. r ∷ rs) (none_returned sessions p h rows o.1))
+
+settled_other : (S : Scope) (p : SessionId → ℕ → Bool) (state : State) → NoneOf S.sessions p → Sound S state → lone_of S (settled p state) ≡ lone_of S state
+unfolding lone_of
+settled_other S p state h d = project_settled S p state ∙ ap (λ (rs : List Row). record (lone_of S state) { rows = rs }) (none_settled S.sessions p h (rows_of (station_of S.key state.stations)) d.out)
+
+returned_other : (S : Scope) (p : SessionId → ℕ → Bool) (state : State) → NoneOf S.sessions p → Sound S state → lone_of S (returned p state) ≡ lone_of S state
+unfolding lone_of
+returned_other S p state h d = project_returned S p state ∙ ap (λ (rs : List Row). record (lone_of S state) { rows = rs }) (none_returned S.sessions p h (rows_of (station_of S.key state.stations)) d.out)
+
+other_session : (sessions : List SessionId) (s : SessionId) → is_own sessions s ≡ false → NoneOf sessions (of_session s)
+other_session sessions s h t d o = grind (arith, nat_tests, session_same t s)
+
+other_connection : (sessions : List SessionId) (c : ℕ) → is_own_connection sessions c ≡ false → NoneOf sessions (of_connection c)
+other_connection sessions c h t d o = grind (arith, nat_tests, own_connection sessions t)
+
+other_number : (S : Scope) (s : SessionId) (c : ℕ) → belongs S s c ≡ false → Passes S (of_number s c)
+other_number S s c h t d o = go (of_number s c t d) refl
+  where
+    go : (b : Bool) → of_number s c t d ≡ b → b ≡ false
+    go false e = refl
+    go true e =
+        let i : t ≡ s = grind (arith, nat_tests, session_same t s) in
+        let j : d ≡ c = grind (arith, nat_tests) in
+        cc
+
+belongs_own : (S : Scope) (s : SessionId) (c : ℕ) → belongs S s c ≡ true → is_own S.sessions s ≡ true
+belongs_own S s c h = grind (arith, nat_tests)
+
+-- sessions close, with their connection or alone
+project_life : (S : Scope) (who : Who) (request : Request) (state : State) → own_life S.sessions (life_after state.life who request) ≡ life_after (own_life S.sessions state.life) who request → lone_of S (with_life who request state) ≡ lone_life who request (lone_of S state)
+unfolding lone_of
+project_life S who request state e = three e refl refl
+
+shut_own : (S : Scope) (p : SessionId → ℕ → Bool) (who : Who) (request : Request) (state : State) → own_life S.sessions (life_after state.life who request) ≡ life_after (own_life S.sessions state.life) who request →
+    lone_of S (closed p (returned p (with_life who request state))) ≡ lone_closed S.key p (lone_returned p (lone_life who request (lone_of S state)))
+shut_own S p who request state e =
+    project_closed S p (returned p (with_life who request state))
+    ∙ ap (lone_closed S.key p) (project_returned S p (with_life who request state) ∙ ap (lone_returned p) (project_life S who request state e))
+
+shut_other : (S : Scope) (p : SessionId → ℕ → Bool) (who : Who) (request : Request) (state : State) → NoneOf S.sessions p → Sound S state → own_life S.sessions (life_after state.life who request) ≡ own_life S.sessions state.life →
+    lone_of S (closed p (returned p (with_life who request state))) ≡ lone_of S state
+unfolding lone_of
+shut_other S p who request state h d e =
+    closed_other S p (returned p (with_life who request state)) (λ t c b. h t c (belongs_own S t c b)) d.placed
+    ∙ returned_other S p (with_life who request state) h (record { placed = d.placed; out = d.out })
+    ∙ three e refl refl
 
 -- a consumer of the key receives, and one of another key
 receive_own : (S : Scope) (f : Row → List Row) (now : ℕ) (k : Option Key) (state : State) → k ≡ Some S.key → lone_of S (receive f now k state) ≡ lone_receive f now (lone_of S state)
@@ -48,7 +146,7 @@ unfolding lone_of
 receive_own S f now k state e =
     ap (λ (k : Option Key). lone_of S (receive f now k state)) e
     ∙ three refl refl (station_of-at S.key (with_rows (deliver_placed now f)) (λ y. refl) state.stations)
-    ∙ rows_case (deliver_placed now f) (deliver now f) (bare-deliver now f) refl (own_life S.sessions state.life) (filter (λ y. key_eq y.key S.key) state.consumers) (station_of S.key state.stations)
+    ∙ rows_case (deliver_placed now f) (deliver now f) (bare-deliver now f) refl state.limit (own_life S.sessions state.life) (filter (λ y. key_eq y.key S.key) state.consumers) (station_of S.key state.stations)
 
 receive_other : (S : Scope) (f : Row → List Row) (now : ℕ) (k : Option Key) (state : State) → IsOther S k → lone_of S (receive f now k state) ≡ lone_of S state
 unfolding lone_of
@@ -82,7 +180,12 @@ own_refusal S state s (CreateSession mode) o f p n = rw (own_new S.sessions stat
 own_refusal S state s (CreateConsumer c topic selector) o f p n =
     let mine : belongs S s c ≡ true = sym f ∙ and_two (is_own S.sessions s) (key_eq (Own s c) S.key) n in
     rw (own_mode S.sessions state.life s o, consumer_own S s c mine state.consumers p)
+own_refusal S state s CloseSession o f p n = rw (own_closes S.sessions state.life s o)
+own_refusal S state s (CloseConsumer c) o f p n = rw (own_mode S.sessions state.life s o, own_session S.sessions state.life s o, consumer_own S s c n state.consumers p)
 own_refusal S state s (Receive c now) o f p n = rw (own_mode S.sessions state.life s o, consumer_own S s c n state.consumers p)
+own_refusal S state s Acknowledge o f p n = rw (own_mode S.sessions state.life s o)
+own_refusal S state s Recover o f p n = rw (own_mode S.sessions state.life s o)
+own_refusal S state s (Missed c) o f p n = rw (own_mode S.sessions state.life s o, consumer_own S s c n state.consumers p)
 own_refusal S state s _ o f p n = refl
 
 -- a receive that is not refused is a standing consumer's
@@ -94,11 +197,16 @@ receives : (state : State) (s : SessionId) (c now : ℕ) → refused state s (Re
 unfolding refusal
 receives state s c now h = and_two (is_some (mode_of state.life s)) _ (passed _ h)
 
+counts : (state : State) (s : SessionId) (c : ℕ) → refused state s (Missed c) ≡ None → is_active (consumer_of state.consumers s c) ≡ true
+unfolding refusal
+counts state s c h = and_two (is_some (mode_of state.life s)) _ (passed _ h)
+
 -- the answer to an own session's request that names the key's consumer
 own_answer : (S : Scope) (state : State) (s : SessionId) (request : Request) → is_own S.sessions s ≡ true → Placed S state.consumers → is_true (about S s request) ≡ true → refused state s request ≡ None →
     answer state.life state.consumers (held state (Session s) request) (Session s) request ≡ answer (lone_of S state).life (lone_of S state).consumers (lone_holding (lone_of S state)) (Session s) request
 unfolding lone_of answer
 own_answer S state s (Receive c now) o p n m = rw (own_started S.sessions state.life s o, key_mine S s c state.consumers p n (receives state s c now m))
+own_answer S state s (Missed c) o p n m = rw (key_mine S s c state.consumers p n (counts state s c m))
 own_answer S state s _ o p n m = refl
 
 true_named : (a : Option Bool) → is_true a ≡ true → true_or_none a ≡ true
@@ -125,8 +233,13 @@ own_after S state s (CreateSession mode) o p n m = three (life_own S.sessions st
 own_after S state s (CreateConsumer c topic selector) o p n m = created_own S s c (defined topic selector) state (key_same (Own s c) S.key (and_two (is_own S.sessions s) (key_eq (Own s c) S.key) n))
 own_after S state s (Receive c now) o p n m =
     rw (own_started S.sessions state.life s o, own_mode S.sessions state.life s o)
-    (cond_map (lone_of S) (is_started state.life s.connection) (receive (left_of (mode_of state.life s)) now (key_at (consumer_of state.consumers s c)) state) state _ _
-    (λ _. receive_own S (left_of (mode_of state.life s)) now (key_at (consumer_of state.consumers s c)) state (key_mine S s c state.consumers p n (receives state s c now m))) refl)
+    (cond_map (lone_of S) (is_started state.life s.connection) (receive (left_of (mode_of state.life s) s c) now (key_at (consumer_of state.consumers s c)) state) state _ _
+    (λ _. receive_own S (left_of (mode_of state.life s) s c) now (key_at (consumer_of state.consumers s c)) state (key_mine S s c state.consumers p n (receives state s c now m))) refl)
+own_after S state s CloseSession o p n m = shut_own S (of_session s) (Session s) CloseSession state (life_own S.sessions state.life (Session s) CloseSession o)
+own_after S state s (CloseConsumer c) o p n m = project_closed S (of_number s c) state
+own_after S state s Acknowledge o p n m =
+    rw (own_mode S.sessions state.life s o) (cond_map (lone_of S) (is_client (mode_of state.life s)) (settled (of_session s) state) state _ _ (λ _. project_settled S (of_session s) state) refl)
+own_after S state s Recover o p n m = project_returned S (of_session s) state
 own_after S state s _ o p n m = refl
 
 -- what a request does that names nothing of the key's
@@ -140,20 +253,27 @@ not_named true y h e = e
 not_named false true h e = absurd (let i : false ≡ true = h refl in cc)
 not_named false false h e = refl
 
-pub other_after : (S : Scope) (state : State) (s : SessionId) (request : Request) → Fitting S → Placed S state.consumers → Elsewhere S s (about S s request) → lone_of S (after state (Session s) request) ≡ lone_of S state
+pub other_after : (S : Scope) (state : State) (s : SessionId) (request : Request) → Fitting S → Sound S state → Elsewhere S s (about S s request) → lone_of S (after state (Session s) request) ≡ lone_of S state
 unfolding lone_of after
-other_after S state s (CreateSession mode) f p n = three (life_other S.sessions state.life (Session s) (CreateSession mode) n) refl refl
-other_after S state s (CreateConsumer c topic selector) f p n = created_other S s c (defined topic selector) state (not_named (is_own S.sessions s) (key_eq (Own s c) S.key) (f.own s c) n)
-other_after S state s (Receive c now) f p n =
+other_after S state s (CreateSession mode) f d n = three (life_other S.sessions state.life (Session s) (CreateSession mode) n) refl refl
+other_after S state s (CreateConsumer c topic selector) f d n = created_other S s c (defined topic selector) state (not_named (is_own S.sessions s) (key_eq (Own s c) S.key) (f.own s c) n)
+other_after S state s CloseSession f d n = shut_other S (of_session s) (Session s) CloseSession state (other_session S.sessions s n) d (life_other S.sessions state.life (Session s) CloseSession n)
+other_after S state s (CloseConsumer c) f d n = closed_other S (of_number s c) state (other_number S s c n) d.placed
+other_after S state s (Receive c now) f d n =
     cond_one (lone_of S) (is_started state.life s.connection) _ state (lone_of S state)
-    (λ _. receive_other S (left_of (mode_of state.life s)) now (key_at (consumer_of state.consumers s c)) state (key_not_mine S s c state.consumers p n)) refl
-other_after S state s _ f p n = refl
+    (λ _. receive_other S (left_of (mode_of state.life s) s c) now (key_at (consumer_of state.consumers s c)) state (key_not_mine S s c state.consumers d.placed n)) refl
+other_after S state s Acknowledge f d n =
+    cond_one (lone_of S) (is_client (mode_of state.life s)) (settled (of_session s) state) state (lone_of S state) (λ _. settled_other S (of_session s) state (other_session S.sessions s n) d) refl
+other_after S state s Recover f d n = returned_other S (of_session s) state (other_session S.sessions s n) d
+other_after S state s _ f d n = refl
 
 -- what a connection's request does
 pub connection_own : (S : Scope) (state : State) (c : ℕ) (request : Request) → is_own_connection S.sessions c ≡ true → lone_of S (after state (Connection c) request) ≡ lone_did S.key (lone_of S state) (Connection c) request
 unfolding lone_of after lone_did
+connection_own S state c CloseConnection o = shut_own S (of_connection c) (Connection c) CloseConnection state (life_own S.sessions state.life (Connection c) CloseConnection o)
 connection_own S state c request o = three (life_own S.sessions state.life (Connection c) request o) refl refl
 
-pub connection_other : (S : Scope) (state : State) (c : ℕ) (request : Request) → is_own_connection S.sessions c ≡ false → lone_of S (after state (Connection c) request) ≡ lone_of S state
+pub connection_other : (S : Scope) (state : State) (c : ℕ) (request : Request) → is_own_connection S.sessions c ≡ false → Sound S state → lone_of S (after state (Connection c) request) ≡ lone_of S state
 unfolding lone_of after
-connection_other S state c request n = three (life_other S.sessions state.life (Connection c) request n) refl refl
+connection_other S state c CloseConnection n d = shut_other S (of_connection c) (Connection c) CloseConnection state (other_connection S.sessions c n) d (life_other S.sessions state.life (Connection c) CloseConnection n)
+connection_other S state c request n d = three (life_other S.sessions state.life (Connection c) request n) refl refl

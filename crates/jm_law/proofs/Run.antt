@@ -1,6 +1,7 @@
 -- A run of the machine is, at one key, a run of its subscription alone.
 use Rattle.std.proofs.Common.{◌≡◌, ℕ, ◌+◌, Bool, true, false, cond, List, [], ◌∷◌, ◌++◌, refl, ap, sym, subst, ◌∙◌, Option, Some, None}
-use Rattle.std.specs.Prelude.{is_ok}
+use Rattle.std.specs.Prelude.{is_ok, is_none, is_some, find, filter, map, length, ◌&&◌, ◌||◌}
+use Rattle.jm_dest.specs.Names.{session_eq}
 use Rattle.jm_base.specs.declared.refusal.Refusal.{Refusal}
 use Rattle.jm_base.specs.declared.refusal.Refusal.TheVariants.{IllegalState}
 use Rattle.jm_dest.specs.declared.session.SessionId.{SessionId}
@@ -9,18 +10,23 @@ use Rattle.jm_dest.specs.declared.key.Key.TheVariants.{Own}
 use Rattle.jm_header.specs.declared.content.Content.{Content}
 use Rattle.jm_machine.specs.declared.call.Who.TheVariants.{Connection, Session}
 use Rattle.jm_machine.specs.declared.call.Request.{Request}
-use Rattle.jm_machine.specs.declared.call.Request.TheVariants.{CreateSession, CreateConsumer, Receive}
+use Rattle.jm_machine.specs.declared.call.Request.TheVariants.{CloseConnection, CreateSession, CloseSession, CreateConsumer, CloseConsumer, Receive, Acknowledge, Recover}
 use Rattle.jm_machine.specs.declared.entry.Entry.{Entry}
 use Rattle.jm_machine.specs.declared.entry.Entry.TheVariants.{Asked, Sent}
 use Rattle.jm_machine.specs.declared.answer.Answer.{Answer}
 use Rattle.jm_machine.specs.declared.state.Consumer.{Consumer}
 use Rattle.jm_machine.specs.declared.state.Row.{Row}
-use Rattle.jm_machine.specs.Life.{Life, mode_of, is_started, is_new_session, life_after}
-use Rattle.jm_machine.specs.Rows.{left_of}
-use Rattle.jm_machine.specs.Machine.{State, Holding, consumer_of, key_at, with_message, published, receive, held, new_consumer, unless, refusal, publish_refusal, after, answer, replied, reply, moved, step}
+use Rattle.jm_machine.specs.declared.state.RowState.TheVariants.{Waiting}
+use Rattle.jm_machine.specs.Owns.{is_own}
+use Rattle.jm_base.specs.declared.mode.Mode.{Mode}
+use Rattle.jm_machine.specs.Life.{Life, connection_of, session_of, is_closed_connection, mode_of, is_started, is_new_session, close_sessions, life_after}
+use Rattle.jm_machine.specs.declared.state.SessionState.{SessionState}
+use Rattle.jm_machine.specs.Rows.{fresh, given_back, is_next, is_out, live, change_first, deliver, left_of, sent_out, settles_at_once}
+use Rattle.jm_machine.specs.Machine.{State, Holding, consumer_of, key_at, with_message, published, receive, held, new_consumer, unless, is_full, one_missed, closed_consumer, ends, of_session, of_connection, of_number, settled, is_client, refusal, publish_refusal, after, answer, replied, reply, moved, step}
 use Rattle.jm_machine.specs.Entries.{life_after_entry}
-use Rattle.jm_machine.specs.Lone.{Scope, Lone, Item, lone_of, lone_end, lone_replies, fed, feed, replies_in}
-use Rattle.jm_law.proofs.Consumers.{Fitting, FairRequest, FairEntry, FairAll, Placed, placed_push}
+use Rattle.jm_machine.specs.Lone.{Scope, Lone, Item, lone_of, lone_ended, lone_settled, lone_returned, lone_closed, lone_life, lone_receive, lone_did, lone_after, lone_end, lone_refusal, lone_replies, about, true_or_none, fed, feed, replies_in}
+use Rattle.jm_machine.specs.Lone.Item.{Called, Came}
+use Rattle.jm_law.proofs.Consumers.{Fitting, FairRequest, FairEntry, FairAll, Placed, Sound, OutBy, OwnOut, placed_push, placed_closed}
 use Rattle.jm_law.proofs.EntrySteps.{state_after_entry, Replied, EntriesFit}
 use Rattle.jm_law.proofs.Steps.{lone_replies-append, entry_step, entry_told}
 
@@ -46,14 +52,18 @@ placed_moved S (Some r) x y p q = q
 placed_after : (S : Scope) (state : State) (s : SessionId) (request : Request) → FairRequest S s request → Placed S state.consumers → Placed S (after state (Session s) request).consumers
 unfolding after
 placed_after S state s (CreateConsumer c topic selector) f p = placed_push S (new_consumer s c (Own s c)) f state.consumers p
+placed_after S state s CloseSession f p = placed_closed S (of_session s) state.consumers p
+placed_after S state s (CloseConsumer c) f p = placed_closed S (of_number s c) state.consumers p
+placed_after S state s Acknowledge f p = placed_if S (is_client (mode_of state.life s)) (settled (of_session s) state) state p p
 placed_after S state s (Receive c now) f p =
-    placed_if S (is_started state.life s.connection) (receive (left_of (mode_of state.life s)) now (key_at (consumer_of state.consumers s c)) state) state
-    (subst (Placed S) (sym (received_consumers (left_of (mode_of state.life s)) now (key_at (consumer_of state.consumers s c)) state)) p) p
+    placed_if S (is_started state.life s.connection) (receive (left_of (mode_of state.life s) s c) now (key_at (consumer_of state.consumers s c)) state) state
+    (subst (Placed S) (sym (received_consumers (left_of (mode_of state.life s) s c) now (key_at (consumer_of state.consumers s c)) state)) p) p
 placed_after S state s _ f p = p
 
-connection_consumers : (state : State) (c : ℕ) (request : Request) → (after state (Connection c) request).consumers ≡ state.consumers
+placed_connection : (S : Scope) (state : State) (c : ℕ) (request : Request) → Placed S state.consumers → Placed S (after state (Connection c) request).consumers
 unfolding after
-connection_consumers state c request = refl
+placed_connection S state c CloseConnection p = placed_closed S (of_connection c) state.consumers p
+placed_connection S state c request p = p
 
 -- each entry keeps which consumers are the key's
 placed_entry : (S : Scope) (state : State) (e : Entry) → FairEntry S e → Placed S state.consumers → Placed S (state_after_entry state e).consumers
@@ -62,9 +72,101 @@ placed_entry S state (Asked (Session s) request r) f p =
     placed_moved S (refusal state.life state.consumers (held state (Session s) request) (Session s) request) (after state (Session s) request) state (placed_after S state s request f p) p
 placed_entry S state (Asked (Connection c) request r) f p =
     placed_moved S (refusal state.life state.consumers (held state (Connection c) request) (Connection c) request) (after state (Connection c) request) state
-    (subst (Placed S) (sym (connection_consumers state c request)) p) p
+    (placed_connection S state c request p) p
 placed_entry S state (Sent m) f p =
     placed_moved S (publish_refusal state (Session m.sender.session) (m ∷ [])) (published state (m ∷ [])) state (subst (Placed S) (sym (published_consumers state (m ∷ []))) p) p
+
+-- rows that are out to own sessions alone, after each item
+out_append : (sessions : List SessionId) (xs ys : List Row) → OwnOut sessions xs → OwnOut sessions ys → OwnOut sessions (xs ++ ys)
+out_append sessions [] ys a b = b
+out_append sessions (x ∷ xs) ys a b = (a.0, out_append sessions xs ys a.1 b)
+
+out_filter : (sessions : List SessionId) (p : Row → Bool) (xs : List Row) → OwnOut sessions xs → OwnOut sessions (filter p xs)
+out_filter sessions p [] a = tt
+out_filter sessions p (x ∷ xs) a = go (p x) (out_filter sessions p xs a.1)
+  where
+    go : (b : Bool) → OwnOut sessions (filter p xs) → OwnOut sessions (cond b (x ∷ filter p xs) (filter p xs))
+    go true r = (a.0, r)
+    go false r = r
+
+out_returned : (sessions : List SessionId) (p : SessionId → ℕ → Bool) (xs : List Row) → OwnOut sessions xs → OwnOut sessions (map (given_back p) xs)
+out_returned sessions p [] a = tt
+out_returned sessions p (x ∷ xs) a = (go (is_out p x), out_returned sessions p xs a.1)
+  where
+    go : (b : Bool) → OutBy sessions (cond b (record x { state = Waiting }) x).state
+    go true = tt
+    go false = a.0
+
+out_change : (sessions : List SessionId) (p : Row → Bool) (f : Row → List Row) → ((r : Row) → OwnOut sessions (f r)) → (xs : List Row) → OwnOut sessions xs → OwnOut sessions (change_first p f xs)
+out_change sessions p f h [] a = tt
+out_change sessions p f h (x ∷ xs) a = go (p x) (out_change sessions p f h xs a.1)
+  where
+    go : (b : Bool) → OwnOut sessions (change_first p f xs) → OwnOut sessions (cond b (f x ++ xs) (x ∷ change_first p f xs))
+    go true r = out_append sessions (f x) xs (h x) a.1
+    go false r = (a.0, r)
+
+out_deliver : (sessions : List SessionId) (now : ℕ) (f : Row → List Row) → ((r : Row) → OwnOut sessions (f r)) → (xs : List Row) → OwnOut sessions xs → OwnOut sessions (deliver now f xs)
+out_deliver sessions now f h xs a = out_change sessions (is_next now (live now xs)) f h (live now xs) (out_filter sessions _ xs a)
+
+out_left : (sessions : List SessionId) (mode : Option Mode) (s : SessionId) (c : ℕ) → is_own sessions s ≡ true → (r : Row) → OwnOut sessions (left_of mode s c r)
+unfolding left_of
+out_left sessions mode s c o r = go (settles_at_once mode)
+  where
+    go : (b : Bool) → OwnOut sessions (cond b [] (sent_out s c r ∷ []))
+    go true = tt
+    go false = (o, tt)
+
+out_if : (sessions : List SessionId) (b : Bool) (x y : Lone) → OwnOut sessions x.rows → OwnOut sessions y.rows → OwnOut sessions (cond b x y).rows
+out_if sessions true x y p q = p
+out_if sessions false x y p q = q
+
+out_closed : (sessions : List SessionId) (k : Key) (p : SessionId → ℕ → Bool) (l : Lone) → OwnOut sessions l.rows → OwnOut sessions (lone_closed k p l).rows
+out_closed sessions k p l a =
+    let left : Lone = record l { consumers = map (closed_consumer p) l.consumers } in
+    out_if sessions (ends p l.consumers k) (lone_ended left) left tt a
+
+own_one : (a b : Bool) → (a && b) ≡ true → a ≡ true
+own_one true b h = refl
+own_one false b h = cc
+
+out_did : (S : Scope) (l : Lone) (s : SessionId) (request : Request) → true_or_none (about S s request) ≡ true → OwnOut S.sessions l.rows → OwnOut S.sessions (lone_did S.key l (Session s) request).rows
+unfolding lone_did
+out_did S l s CloseSession n a = out_closed S.sessions S.key (of_session s) (lone_returned (of_session s) (lone_life (Session s) CloseSession l)) (out_returned S.sessions (of_session s) l.rows a)
+out_did S l s (CreateConsumer c topic selector) n a = tt
+out_did S l s (CloseConsumer c) n a = out_closed S.sessions S.key (of_number s c) l a
+out_did S l s (Receive c now) n a =
+    out_if S.sessions (is_started l.life s.connection) (lone_receive (left_of (mode_of l.life s) s c) now l) l
+    (out_deliver S.sessions now (left_of (mode_of l.life s) s c) (out_left S.sessions (mode_of l.life s) s c (own_one (is_own S.sessions s) (S.numbers s c) n)) l.rows a) a
+out_did S l s Acknowledge n a = out_if S.sessions (is_client (mode_of l.life s)) (lone_settled (of_session s) l) l (out_filter S.sessions _ l.rows a) a
+out_did S l s Recover n a = out_returned S.sessions (of_session s) l.rows a
+out_did S l s _ n a = a
+
+out_connection : (S : Scope) (l : Lone) (c : ℕ) (request : Request) → OwnOut S.sessions l.rows → OwnOut S.sessions (lone_did S.key l (Connection c) request).rows
+unfolding lone_did
+out_connection S l c CloseConnection a = out_closed S.sessions S.key (of_connection c) (lone_returned (of_connection c) (lone_life (Connection c) CloseConnection l)) (out_returned S.sessions (of_connection c) l.rows a)
+out_connection S l c request a = a
+
+out_taken : (S : Scope) (l : Lone) (s : SessionId) (request : Request) (u v : Bool) → true_or_none (about S s request) ≡ u → OwnOut S.sessions l.rows → OwnOut S.sessions (cond (u && v) (lone_did S.key l (Session s) request) l).rows
+out_taken S l s request true true h a = out_did S l s request h a
+out_taken S l s request true false h a = a
+out_taken S l s request false v h a = a
+
+out_after : (S : Scope) (l : Lone) (i : Item) → OwnOut S.sessions l.rows → OwnOut S.sessions (lone_after S l i).rows
+out_after S l (Called (Connection c) request) a = out_connection S l c request a
+out_after S l (Called (Session s) request) a = out_taken S l s request (true_or_none (about S s request)) (is_none (lone_refusal l (Session s) request)) refl a
+out_after S l (Came m) a = out_if S.sessions (is_full l.limit S.key (length l.rows)) (record l { missed = one_missed l.missed }) (record l { rows = l.rows ++ fresh m ∷ [] }) a (out_append S.sessions l.rows (fresh m ∷ []) a (tt, tt))
+
+out_end : (S : Scope) (l : Lone) (items : List Item) → OwnOut S.sessions l.rows → OwnOut S.sessions (lone_end S l items).rows
+out_end S l [] a = a
+out_end S l (i ∷ items) a = out_end S (lone_after S l i) items (out_after S l i a)
+
+-- each entry keeps what is kept at the key
+sound_entry : (S : Scope) (state : State) (before : List Entry) (e : Entry) → Fitting S → FairEntry S e → Sound S state → Replied state e → Sound S (state_after_entry state e)
+unfolding lone_of
+sound_entry S state before e f g d h = record {
+  placed = placed_entry S state e g d.placed;
+  out = subst (λ (l : Lone). OwnOut S.sessions l.rows) (sym (entry_step S state before e f g d h)) (out_end S (lone_of S state) (fed S state.life before (lone_of S state) e) d.out);
+}
 
 both_same : {A : Type 0} {a b c d : List A} → a ≡ b → c ≡ d → a ++ c ≡ b ++ d
 both_same p q = cc
@@ -82,19 +184,36 @@ after_life : (state : State) (s : SessionId) (request : Request) → (after stat
 unfolding after life_after
 after_life state s (CreateSession mode) = refl
 after_life state s (CreateConsumer c topic selector) = refl
+after_life state s Acknowledge = life_if (is_client (mode_of state.life s)) (settled (of_session s) state) state state.life refl refl
 after_life state s (Receive c now) =
-    life_if (is_started state.life s.connection) (receive (left_of (mode_of state.life s)) now (key_at (consumer_of state.consumers s c)) state) state state.life
-    (received_life (left_of (mode_of state.life s)) now (key_at (consumer_of state.consumers s c)) state) refl
+    life_if (is_started state.life s.connection) (receive (left_of (mode_of state.life s) s c) now (key_at (consumer_of state.consumers s c)) state) state state.life
+    (received_life (left_of (mode_of state.life s) s c) now (key_at (consumer_of state.consumers s c)) state) refl
 after_life state s _ = refl
 
--- a session's request that is refused opens nothing
+-- nothing closes where no session has the number
+close_none : (s : SessionId) (xs : List SessionState) → is_some (find (λ x. session_eq x.id s) xs) ≡ false → close_sessions (λ t. session_eq t s) xs ≡ xs
+close_none s [] h = refl
+close_none s (x ∷ xs) h = go (session_eq x.id s) refl h (close_none s xs)
+  where
+    go : (b : Bool) → session_eq x.id s ≡ b → is_some (cond b (Some x) (find (λ y. session_eq y.id s) xs)) ≡ false → (is_some (find (λ y. session_eq y.id s) xs) ≡ false → close_sessions (λ t. session_eq t s) xs ≡ xs) →
+        cond b (record x { is_open = false }) x ∷ close_sessions (λ t. session_eq t s) xs ≡ x ∷ xs
+    go true e i r = cc
+    go false e i r = ap (λ t. x ∷ t) (r i)
+
+none_opened : (a b : Bool) (r : Refusal) → unless (a || b) IllegalState ≡ Some r → a ≡ false
+none_opened true b r e = cc
+none_opened false b r e = refl
+
+-- a session's request that is refused opens nothing, and closes nothing
 refused_life : (life : Life) (consumers : List Consumer) (h : Holding) (s : SessionId) (request : Request) (r : Refusal) → refusal life consumers h (Session s) request ≡ Some r → life_after life (Session s) request ≡ life
 unfolding refusal life_after
 refused_life life consumers h s (CreateSession mode) r e = go (is_new_session life s) e
   where
-    go : (b : Bool) → unless b IllegalState ≡ Some r → cond b (record life { sessions = life.sessions ++ record { id = s; mode = mode } ∷ [] }) life ≡ life
+    go : (b : Bool) → unless b IllegalState ≡ Some r → cond b (record life { sessions = life.sessions ++ record { id = s; mode = mode; is_open = true } ∷ [] }) life ≡ life
     go true e = cc
     go false e = refl
+refused_life life consumers h s CloseSession r e =
+    ap (λ (xs : List SessionState). record life { sessions = xs }) (close_none s life.sessions (none_opened (is_some (session_of life.sessions s)) (is_closed_connection (connection_of life.connections s.connection)) r e))
 refused_life life consumers h s _ r e = refl
 
 session_life : (state : State) (s : SessionId) (request : Request) (o : Option Refusal) → refusal state.life state.consumers (held state (Session s) request) (Session s) request ≡ o →
@@ -105,6 +224,7 @@ session_life state s request (Some r) e = sym (refused_life state.life state.con
 connection_life : (state : State) (c : ℕ) (request : Request) (o : Option Refusal) (a : Answer) →
     (moved o (after state (Connection c) request) state).life ≡ cond (is_ok (replied o a)) (life_after state.life (Connection c) request) state.life
 unfolding after
+connection_life state c CloseConnection None a = refl
 connection_life state c request None a = refl
 connection_life state c request (Some r) a = refl
 
@@ -125,15 +245,15 @@ entry_life state (Asked (Connection c) request told) h =
 entry_life state (Sent m) h = moved_life (publish_refusal state (Session m.sender.session) (m ∷ [])) (published state (m ∷ [])) state (published_life state (m ∷ []))
 
 -- over a whole list of entries
-pub run_alone : (S : Scope) → Fitting S → (entries : List Entry) (place : ℕ) (before : List Entry) (state : State) → FairAll S entries → Placed S state.consumers → EntriesFit state entries →
+pub run_alone : (S : Scope) → Fitting S → (entries : List Entry) (place : ℕ) (before : List Entry) (state : State) → FairAll S entries → Sound S state → EntriesFit state entries →
     replies_in S place entries ≡ lone_replies S (lone_of S state) (feed S place state.life before (lone_of S state) entries)
 unfolding feed
 run_alone S f [] place before state g p h = refl
 run_alone S f (e ∷ entries) place before state g p h =
     let items : List Item = fed S state.life before (lone_of S state) e in
     let next : State = state_after_entry state e in
-    let rest = run_alone S f entries (place + 1) (e ∷ before) next g.1 (placed_entry S state e g.0 p) h.1 in
-    both_same (entry_told S state place before e g.0 p h.0)
+    let rest = run_alone S f entries (place + 1) (e ∷ before) next g.1 (sound_entry S state before e f g.0 p h.0) h.1 in
+    both_same (entry_told S state place before e g.0 p.placed h.0)
     (rest
     ∙ ap (λ (x : Lone). lone_replies S x (feed S (place + 1) next.life (e ∷ before) x entries)) (entry_step S state before e f g.0 p h.0)
     ∙ ap (λ (x : Life). lone_replies S (lone_end S (lone_of S state) items) (feed S (place + 1) x (e ∷ before) (lone_end S (lone_of S state) items) entries)) (entry_life state e h.0))

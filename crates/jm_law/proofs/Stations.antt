@@ -1,5 +1,7 @@
 -- At one key a change of the stations is a change of that key's.
-use Rattle.std.proofs.Common.{◌≡◌, ℕ, Bool, true, false, List, [], ◌∷◌, ◌++◌, map, refl, ap, ◌∙◌, arith, Option, Some, None}
+use Rattle.std.proofs.Common.{◌≡◌, ℕ, Bool, true, false, cond, List, [], ◌∷◌, ◌++◌, map, length, suc, refl, ap, ◌∙◌, arith, Option, Some, None}
+use Rattle.std.specs.Prelude.{filter, not}
+use Rattle.jm_dest.specs.declared.session.SessionId.{SessionId}
 use Rattle.std.proofs.lemmas.Bool.Decides.{nat_tests}
 use Rattle.jm_dest.specs.declared.key.Key.{Key}
 use Rattle.jm_dest.specs.Keys.{key_eq}
@@ -7,8 +9,8 @@ use Rattle.jm_machine.specs.declared.state.Row.{Row}
 use Rattle.jm_machine.specs.declared.state.PlacedRow.{PlacedRow}
 use Rattle.jm_machine.specs.declared.state.Station.{Station}
 use Rattle.jm_machine.specs.declared.state.Definition.{Definition}
-use Rattle.jm_machine.specs.Rows.{is_next, live, change_first, deliver, bare, change_placed, live_placed, deliver_placed}
-use Rattle.jm_machine.specs.Machine.{station_of, at_key, without}
+use Rattle.jm_machine.specs.Rows.{is_out, given_back, is_next, live, change_first, deliver, bare, change_placed, live_placed, deliver_placed}
+use Rattle.jm_machine.specs.Machine.{station_of, at_key, without, settled_rows, returned_rows}
 use Rattle.jm_law.proofs.Same.{key_same, key_refl}
 
 abbrev pub mapped : (Station → Station) → Option Station → Option Station
@@ -35,7 +37,7 @@ station_of_other-at k l f g h (x ∷ xs) = grind (arith, nat_tests, g x, apart k
 
 -- a new subscription of the key, and of another
 abbrev pub emptied : Key → Definition → Station
-emptied k d = record { key = k; definition = d; rows = [] }
+emptied k d = record { key = k; definition = d; missed = 0; rows = [] }
 
 pub station-put : (k : Key) (d : Definition) (xs : List Station) → station_of k (without k xs ++ emptied k d ∷ []) ≡ Some (emptied k d)
 station-put k d [] = grind (arith, nat_tests, key_refl k)
@@ -44,6 +46,33 @@ station-put k d (x ∷ xs) = grind (arith, nat_tests, station-put k d xs)
 pub other-put : (k l : Key) (d : Definition) → key_eq l k ≡ false → (xs : List Station) → station_of k (without l xs ++ emptied l d ∷ []) ≡ station_of k xs
 other-put k l d h [] = grind (arith, nat_tests)
 other-put k l d h (x ∷ xs) = grind (arith, nat_tests, apart k l x.key h, other-put k l d h xs)
+
+-- subscriptions that end
+abbrev left_by : (Key → Bool) → List Station → List Station
+left_by e xs = filter (λ x. not (e x.key)) xs
+
+abbrev nothing : Option Station
+nothing = None
+
+none_left : (b : Bool) → nothing ≡ cond b nothing nothing
+none_left true = refl
+none_left false = refl
+
+pub station-ended : (k : Key) (e : Key → Bool) (xs : List Station) → station_of k (left_by e xs) ≡ cond (e k) None (station_of k xs)
+station-ended k e [] = none_left (e k)
+station-ended k e (x ∷ xs) = go (key_eq x.key k) refl (station-ended k e xs)
+  where
+    here : (v : Bool) → e k ≡ v → key_eq x.key k ≡ true → station_of k (left_by e xs) ≡ cond (e k) None (station_of k xs) → station_of k (cond (not v) (x ∷ left_by e xs) (left_by e xs)) ≡ cond v None (Some x)
+    here true f h r = r ∙ ap (λ (c : Bool). cond c None (station_of k xs)) f
+    here false f h r = ap (λ (c : Bool). cond c (Some x) (station_of k (left_by e xs))) h
+
+    there : (v : Bool) → key_eq x.key k ≡ false → station_of k (cond v (x ∷ left_by e xs) (left_by e xs)) ≡ station_of k (left_by e xs)
+    there true h = ap (λ (c : Bool). cond c (Some x) (station_of k (left_by e xs))) h
+    there false h = refl
+
+    go : (b : Bool) → key_eq x.key k ≡ b → station_of k (left_by e xs) ≡ cond (e k) None (station_of k xs) → station_of k (left_by e (x ∷ xs)) ≡ cond (e k) None (cond b (Some x) (station_of k xs))
+    go true h r = ap (λ (y : Key). station_of k (cond (not (e y)) (x ∷ left_by e xs) (left_by e xs))) (key_same x.key k h) ∙ here (e k) refl h r
+    go false h r = there (not (e x.key)) h ∙ r
 
 -- rows without their places
 pub bare-append : (xs ys : List PlacedRow) → bare (xs ++ ys) ≡ bare xs ++ bare ys
@@ -66,3 +95,17 @@ pub bare-deliver : (now : ℕ) (f : Row → List Row) (xs : List PlacedRow) → 
 bare-deliver now f xs =
     bare-change (is_next now (live now (bare xs))) f (live_placed now xs)
     ∙ ap (change_first (is_next now (live now (bare xs))) f) (bare-live now xs)
+
+-- settled, and waiting again
+pub bare-settled : (p : SessionId → ℕ → Bool) (xs : List PlacedRow) → bare (settled_rows p xs) ≡ filter (λ r. not (is_out p r)) (bare xs)
+bare-settled p [] = refl
+bare-settled p (x ∷ xs) = grind (arith, nat_tests, bare-settled p xs)
+
+pub bare-returned : (p : SessionId → ℕ → Bool) (xs : List PlacedRow) → bare (returned_rows p xs) ≡ map (given_back p) (bare xs)
+bare-returned p [] = refl
+bare-returned p (x ∷ xs) = ap (λ t. given_back p x.row ∷ t) (bare-returned p xs)
+
+-- without its place the list is as long
+pub bare-length : (xs : List PlacedRow) → length (bare xs) ≡ length xs
+bare-length [] = refl
+bare-length (x ∷ xs) = ap (λ n. suc n) (bare-length xs)

@@ -1,6 +1,6 @@
 -- A step of the machine at an entry is what the entry feeds to one key's subscription.
 use Rattle.std.proofs.Common.{◌≡◌, ℕ, Bool, true, false, cond, List, [], ◌∷◌, ◌++◌, refl, ap, sym, ◌∙◌, Option, Some, None}
-use Rattle.std.specs.Prelude.{filter, ◌&&◌, is_ok, is_none, Ok}
+use Rattle.std.specs.Prelude.{filter, length, ◌&&◌, is_ok, is_none, Ok}
 use Rattle.jm_base.specs.declared.refusal.Refusal.{Refusal}
 use Rattle.jm_dest.specs.declared.session.SessionId.{SessionId}
 use Rattle.jm_dest.specs.declared.key.Key.{Key}
@@ -9,7 +9,7 @@ use Rattle.jm_dest.specs.Keys.{key_eq}
 use Rattle.jm_header.specs.declared.content.Content.{Content}
 use Rattle.jm_machine.specs.declared.call.Who.TheVariants.{Connection, Session}
 use Rattle.jm_machine.specs.declared.call.Request.{Request}
-use Rattle.jm_machine.specs.declared.call.Request.TheVariants.{CreateConsumer, Receive}
+use Rattle.jm_machine.specs.declared.call.Request.TheVariants.{CreateConsumer, CloseConsumer, Receive, Missed}
 use Rattle.jm_machine.specs.declared.call.Call.TheVariants.{Ask}
 use Rattle.jm_machine.specs.declared.answer.Answer.{Answer}
 use Rattle.jm_machine.specs.declared.answer.Answer.TheVariants.{Done}
@@ -22,14 +22,14 @@ use Rattle.jm_machine.specs.declared.state.Consumer.{Consumer}
 use Rattle.jm_machine.specs.Owns.{is_own, is_own_connection}
 use Rattle.jm_machine.specs.Life.{Life, own_life}
 use Rattle.jm_machine.specs.Rows.{fresh}
-use Rattle.jm_machine.specs.Machine.{State, station_of, definition_of, rows_of, with_rows, Publisher, publisher_of, accepts, offered, with_message, published, held, refusal, publish_refusal, answer, after, replied, moved, reply, step}
+use Rattle.jm_machine.specs.Machine.{State, station_of, definition_of, rows_of, with_rows, Publisher, publisher_of, accepts, is_full, one_missed, brought, offered, with_message, published, held, refusal, publish_refusal, answer, after, replied, moved, reply, step}
 use Rattle.jm_machine.specs.Entries.{committed}
-use Rattle.jm_machine.specs.Lone.{Scope, Lone, Item, lone_of, lone_did, about, true_or_none, is_true, is_answered, lone_refusal, lone_after, lone_told, lone_replies, lone_end, is_own_call, lone_accepts, came, accepted, fed, at_place, placed, told}
+use Rattle.jm_machine.specs.Lone.{Scope, Lone, Item, lone_of, lone_did, about, true_or_none, is_true, is_answered, lone_refusal, lone_brought, lone_after, lone_told, lone_replies, lone_end, is_own_call, lone_accepts, came, accepted, fed, at_place, placed, told}
 use Rattle.jm_machine.specs.Lone.Item.{Called, Came}
 use Rattle.jm_law.proofs.Same.{key_same}
 use Rattle.jm_law.proofs.Lists.{append_assoc, into_cond, moved_map, moved_one}
-use Rattle.jm_law.proofs.Stations.{mapped, station_of-map, bare-append}
-use Rattle.jm_law.proofs.Consumers.{Fitting, FairRequest, FairEntry, Placed}
+use Rattle.jm_law.proofs.Stations.{mapped, station_of-map, bare-append, bare-length}
+use Rattle.jm_law.proofs.Consumers.{Fitting, FairRequest, FairEntry, Placed, Sound}
 use Rattle.jm_law.proofs.EntrySteps.{state_after_entry, Replied}
 use Rattle.jm_law.proofs.Projection.{lone_at, three, refused, own_refusal, own_reply, own_after, Elsewhere, other_after, connection_own, connection_other}
 
@@ -58,24 +58,41 @@ has_key k (x ∷ xs) = go (key_eq x.key k) refl (has_key k xs)
     go false e h = h
 
 -- one publication
-abbrev offer : Bool → Content → ℕ → Station → Station
-offer b m place x = cond b (with_rows (λ rows. rows ++ record { place = place; row = fresh m } ∷ []) x) x
+abbrev offer : ℕ → Bool → Content → ℕ → Station → Station
+offer n b m place x = cond b (brought n m place x) x
 
-offer_key : (m : Content) (place : ℕ) (x : Station) (b : Bool) → (offer b m place x).key ≡ x.key
-offer_key m place x true = refl
-offer_key m place x false = refl
+brought_key : (n : ℕ) (m : Content) (place : ℕ) (x : Station) → (brought n m place x).key ≡ x.key
+brought_key n m place x = go (is_full n x.key (length x.rows))
+  where
+    go : (b : Bool) → (cond b (record { key = x.key; definition = x.definition; missed = one_missed x.missed; rows = x.rows }) (with_rows (λ rows. rows ++ record { place = place; row = fresh m } ∷ []) x)).key ≡ x.key
+    go true = refl
+    go false = refl
 
-offer_case : (l : Life) (cs : List Consumer) (m : Content) (place : ℕ) (x : Station) (b : Bool) →
-    lone_at l cs (Some (offer b m place x)) ≡ cond b (record (lone_at l cs (Some x)) { rows = rows_of (Some x) ++ fresh m ∷ [] }) (lone_at l cs (Some x))
-offer_case l cs m place x true = ap (λ (rs : List Row). record (lone_at l cs (Some x)) { rows = rs }) (bare-append x.rows (record { place = place; row = fresh m } ∷ []))
-offer_case l cs m place x false = refl
+offer_key : (n : ℕ) (m : Content) (place : ℕ) (x : Station) (b : Bool) → (offer n b m place x).key ≡ x.key
+offer_key n m place x true = brought_key n m place x
+offer_key n m place x false = refl
 
-message_case : (l : Life) (cs : List Consumer) (p : Publisher) (m : Content) (place : ℕ) (k : Key) (o : Option Station) → HasKey k o →
-    lone_at l cs (mapped (offered p m place) o) ≡ cond (lone_accepts k (definition_of o) p m) (record (lone_at l cs o) { rows = rows_of o ++ fresh m ∷ [] }) (lone_at l cs o)
-message_case l cs p m place k None h = refl
-message_case l cs p m place k (Some x) h =
-    offer_case l cs m place x (accepts x.key x.definition p m)
-    ∙ ap (λ (y : Key). cond (accepts y x.definition p m) (record (lone_at l cs (Some x)) { rows = rows_of (Some x) ++ fresh m ∷ [] }) (lone_at l cs (Some x))) h
+-- a message that comes
+brought_case : (n : ℕ) (l : Life) (cs : List Consumer) (m : Content) (place : ℕ) (x : Station) → lone_at n l cs (Some (brought n m place x)) ≡ lone_brought x.key m (lone_at n l cs (Some x))
+brought_case n l cs m place x =
+    go (is_full n x.key (length x.rows)) ∙ ap (λ (i : ℕ). cond (is_full n x.key i) (record (lone_at n l cs (Some x)) { missed = one_missed x.missed }) (record (lone_at n l cs (Some x)) { rows = rows_of (Some x) ++ fresh m ∷ [] })) (sym (bare-length x.rows))
+  where
+    go : (b : Bool) → lone_at n l cs (Some (cond b (record { key = x.key; definition = x.definition; missed = one_missed x.missed; rows = x.rows }) (with_rows (λ rows. rows ++ record { place = place; row = fresh m } ∷ []) x)))
+        ≡ cond b (record (lone_at n l cs (Some x)) { missed = one_missed x.missed }) (record (lone_at n l cs (Some x)) { rows = rows_of (Some x) ++ fresh m ∷ [] })
+    go true = refl
+    go false = ap (λ (rs : List Row). record (lone_at n l cs (Some x)) { rows = rs }) (bare-append x.rows (record { place = place; row = fresh m } ∷ []))
+
+offer_case : (n : ℕ) (l : Life) (cs : List Consumer) (m : Content) (place : ℕ) (x : Station) (b : Bool) →
+    lone_at n l cs (Some (offer n b m place x)) ≡ cond b (lone_brought x.key m (lone_at n l cs (Some x))) (lone_at n l cs (Some x))
+offer_case n l cs m place x true = brought_case n l cs m place x
+offer_case n l cs m place x false = refl
+
+message_case : (n : ℕ) (l : Life) (cs : List Consumer) (p : Publisher) (m : Content) (place : ℕ) (k : Key) (o : Option Station) → HasKey k o →
+    lone_at n l cs (mapped (offered n p m place) o) ≡ cond (lone_accepts k (definition_of o) p m) (lone_brought k m (lone_at n l cs o)) (lone_at n l cs o)
+message_case n l cs p m place k None h = refl
+message_case n l cs p m place k (Some x) h =
+    offer_case n l cs m place x (accepts x.key x.definition p m)
+    ∙ ap (λ (y : Key). cond (accepts y x.definition p m) (lone_brought y m (lone_at n l cs (Some x))) (lone_at n l cs (Some x))) h
 
 -- the subscription accepts a message of those connections
 abbrev takes : Scope → Life → Option Definition → Content → Bool
@@ -85,8 +102,8 @@ project_message : (S : Scope) (state : State) (m : Content) →
     lone_of S (with_message state m) ≡ cond (takes S state.life (lone_of S state).definition m) (lone_after S (lone_of S state) (Came m)) (lone_of S state)
 unfolding lone_of
 project_message S state m =
-    three refl refl (station_of-map S.key (offered (publisher_of state.life m) m state.next_place) (λ x. offer_key m state.next_place x (accepts x.key x.definition (publisher_of state.life m) m)) state.stations)
-    ∙ message_case (own_life S.sessions state.life) (filter (λ x. key_eq x.key S.key) state.consumers) (publisher_of state.life m) m state.next_place S.key (station_of S.key state.stations) (has_key S.key state.stations)
+    three refl refl (station_of-map S.key (offered state.limit (publisher_of state.life m) m state.next_place) (λ x. offer_key state.limit m state.next_place x (accepts x.key x.definition (publisher_of state.life m) m)) state.stations)
+    ∙ message_case state.limit (own_life S.sessions state.life) (filter (λ x. key_eq x.key S.key) state.consumers) (publisher_of state.life m) m state.next_place S.key (station_of S.key state.stations) (has_key S.key state.stations)
 
 -- all messages of a publication
 definition_case : (b : Bool) (x y : Lone) → x.definition ≡ y.definition → (cond b x y).definition ≡ y.definition
@@ -96,7 +113,10 @@ definition_case false x y h = refl
 message_definition : (S : Scope) (state : State) (m : Content) → (lone_of S (with_message state m)).definition ≡ (lone_of S state).definition
 message_definition S state m =
     ap (λ (l : Lone). l.definition) (project_message S state m)
-    ∙ definition_case (takes S state.life (lone_of S state).definition m) (lone_after S (lone_of S state) (Came m)) (lone_of S state) refl
+    ∙ definition_case (takes S state.life (lone_of S state).definition m) (lone_after S (lone_of S state) (Came m)) (lone_of S state) (brought_definition S.key m (lone_of S state))
+  where
+    brought_definition : (k : Key) (m : Content) (l : Lone) → (lone_brought k m l).definition ≡ l.definition
+    brought_definition k m l = elim (is_full l.limit k (length l.rows)) as (λ b. (cond b (record l { missed = one_missed l.missed }) (record l { rows = l.rows ++ fresh m ∷ [] })).definition ≡ l.definition) [ true ↦ refl | false ↦ refl ]
 
 came_one : (S : Scope) (l : Lone) (p : Content → Bool) (m : Content) (ms : List Content) → lone_end S l (came (filter p (m ∷ ms))) ≡ lone_end S (cond (p m) (lone_after S l (Came m)) l) (came (filter p ms))
 came_one S l p m ms = elim (p m) as (λ b. lone_end S l (came (cond b (m ∷ filter p ms) (filter p ms))) ≡ lone_end S (cond b (lone_after S l (Came m)) l) (came (filter p ms))) [ true ↦ refl | false ↦ refl ]
@@ -121,22 +141,24 @@ elsewhere S s (Some b) h = h
 
 pub elsewhere_other : (S : Scope) (s : SessionId) (request : Request) → is_own S.sessions s ≡ false → Elsewhere S s (about S s request)
 elsewhere_other S s (CreateConsumer c topic selector) n = not_belongs S s (key_eq (Own s c) S.key) n
+elsewhere_other S s (CloseConsumer c) n = not_belongs S s (S.numbers s c) n
 elsewhere_other S s (Receive c now) n = not_belongs S s (S.numbers s c) n
+elsewhere_other S s (Missed c) n = not_belongs S s (S.numbers s c) n
 elsewhere_other S s _ n = n
 
-step_case : (S : Scope) (state : State) (s : SessionId) (request : Request) → is_own S.sessions s ≡ true → Fitting S → FairRequest S s request → Placed S state.consumers → (v : Bool) → true_or_none (about S s request) ≡ v →
+step_case : (S : Scope) (state : State) (s : SessionId) (request : Request) → is_own S.sessions s ≡ true → Fitting S → FairRequest S s request → Sound S state → (v : Bool) → true_or_none (about S s request) ≡ v →
     lone_of S (step state (Session s) (Ask request)) ≡ cond (v && is_none (lone_refusal (lone_of S state) (Session s) request)) (lone_did S.key (lone_of S state) (Session s) request) (lone_of S state)
 unfolding step
 step_case S state s request o f g p true h =
-    rw (own_refusal S state s request o g p h) (moved_map (lone_of S) (refused state s request) (after state (Session s) request) state _ _ (λ m. own_after S state s request o p h m) refl)
+    rw (own_refusal S state s request o g p.placed h) (moved_map (lone_of S) (refused state s request) (after state (Session s) request) state _ _ (λ m. own_after S state s request o p.placed h m) refl)
 step_case S state s request o f g p false h =
     moved_one (lone_of S) (refused state s request) (after state (Session s) request) state (lone_of S state) (λ m. other_after S state s request f p (elsewhere S s (about S s request) h)) refl
 
-step_own : (S : Scope) (state : State) (s : SessionId) (request : Request) → is_own S.sessions s ≡ true → Fitting S → FairRequest S s request → Placed S state.consumers →
+step_own : (S : Scope) (state : State) (s : SessionId) (request : Request) → is_own S.sessions s ≡ true → Fitting S → FairRequest S s request → Sound S state →
     lone_of S (step state (Session s) (Ask request)) ≡ lone_after S (lone_of S state) (Called (Session s) request)
 step_own S state s request o f g p = step_case S state s request o f g p (true_or_none (about S s request)) refl
 
-step_other : (S : Scope) (state : State) (s : SessionId) (request : Request) → is_own S.sessions s ≡ false → Fitting S → Placed S state.consumers →
+step_other : (S : Scope) (state : State) (s : SessionId) (request : Request) → is_own S.sessions s ≡ false → Fitting S → Sound S state →
     lone_of S (step state (Session s) (Ask request)) ≡ lone_of S state
 unfolding step
 step_other S state s request n f p =
@@ -147,12 +169,12 @@ one_item S l true i = refl
 one_item S l false i = refl
 
 -- a connection's request, of which the accepted ones are fed
-connection_case : (S : Scope) (state : State) (c : ℕ) (request : Request) (r : Option Refusal) (a : Answer) (o : Bool) → is_own_connection S.sessions c ≡ o →
+connection_case : (S : Scope) (state : State) (c : ℕ) (request : Request) (r : Option Refusal) (a : Answer) (o : Bool) → is_own_connection S.sessions c ≡ o → Sound S state →
     lone_of S (moved r (after state (Connection c) request) state) ≡ lone_end S (lone_of S state) (cond (o && is_ok (replied r a)) (Called (Connection c) request ∷ []) [] ++ [])
-connection_case S state c request None a true e = connection_own S state c request e
-connection_case S state c request None a false e = connection_other S state c request e
-connection_case S state c request (Some r) a true e = refl
-connection_case S state c request (Some r) a false e = refl
+connection_case S state c request None a true e d = connection_own S state c request e
+connection_case S state c request None a false e d = connection_other S state c request e d
+connection_case S state c request (Some r) a true e d = refl
+connection_case S state c request (Some r) a false e d = refl
 
 -- a publication that is accepted
 published_ok : (o : Option Refusal) → replied o Done ≡ Ok Done → o ≡ None
@@ -160,7 +182,7 @@ published_ok None h = refl
 published_ok (Some r) h = cc
 
 -- the machine's step at an entry is what the entry feeds
-pub entry_step : (S : Scope) (state : State) (before : List Entry) (e : Entry) → Fitting S → FairEntry S e → Placed S state.consumers → Replied state e →
+pub entry_step : (S : Scope) (state : State) (before : List Entry) (e : Entry) → Fitting S → FairEntry S e → Sound S state → Replied state e →
     lone_of S (state_after_entry state e) ≡ lone_end S (lone_of S state) (fed S state.life before (lone_of S state) e)
 unfolding state_after_entry committed step reply
 entry_step S state before (Asked (Session s) request r) f g p h =
@@ -168,7 +190,7 @@ entry_step S state before (Asked (Session s) request r) f g p h =
     ∙ sym (one_item S (lone_of S state) (is_own S.sessions s) (Called (Session s) request))
 entry_step S state before (Asked (Connection c) request r) f g p h =
     rw h (connection_case S state c request (refusal state.life state.consumers (held state (Connection c) request) (Connection c) request)
-    (answer state.life state.consumers (held state (Connection c) request) (Connection c) request) (is_own_connection S.sessions c) refl)
+    (answer state.life state.consumers (held state (Connection c) request) (Connection c) request) (is_own_connection S.sessions c) refl p)
 entry_step S state before (Sent m) f g p h =
     ap (λ (o : Option Refusal). lone_of S (moved o (published state (m ∷ [])) state)) (published_ok (publish_refusal state (Session m.sender.session) (m ∷ [])) h)
     ∙ project_published S state (m ∷ [])

@@ -13,6 +13,7 @@ use Rattle.jm_law.proofs.Consumers.{Fitting}
 use Rattle.jm_law.proofs.EntrySteps.{EntriesFit}
 use Rattle.jm_law.proofs.Run.{run_alone}
 use Rattle.jm_law.proofs.Keyed.{placed_own, fair_own}
+use Rattle.jm_law.proofs.Homed.{out_own}
 use Rattle.jm_law.proofs.Clients.{all_fit}
 
 -- a consumer's own key
@@ -22,7 +23,7 @@ fitting s c opening entries = record { own = λ t d h. grind (arith, nat_tests) 
 by_key : (opening : State) (entries : List Entry) (key : Key) → is_unshared key opening ≡ true → Reached opening → EntriesFit opening entries → answered key opening entries ≡ alone key opening entries
 by_key opening entries (OfQueue name) u r f = cc
 by_key opening entries (Own s c) u r f =
-    run_alone (scope_of (Own s c) opening entries) (fitting s c opening entries) entries 0 [] opening (fair_own s c opening entries r) (placed_own s c opening entries r) f
+    run_alone (scope_of (Own s c) opening entries) (fitting s c opening entries) entries 0 [] opening (fair_own s c opening entries r) (record { placed = placed_own s c opening entries r; out = out_own s c opening r }) f
 by_key opening entries (SharedOwn client name) u r f = cc
 by_key opening entries (Durable client name) u r f = cc
 

@@ -1,8 +1,9 @@
 -- In every state that the provider reaches the rows of each subscription stand by place.
-use Rattle.std.proofs.Common.{◌≡◌, ◌<◌, ◌+◌, ℕ, Bool, true, false, cond, List, [], ◌∷◌, ◌++◌, map, length, refl, arith, Option, Some, None}
-use Rattle.std.specs.Prelude.{filter, not}
+use Rattle.std.proofs.Common.{◌≡◌, ◌<◌, ◌+◌, ℕ, Bool, true, false, cond, List, [], ◌∷◌, ◌++◌, map, length, refl, sym, subst, ◌⊎◌, inl, inr, arith, Option, Some, None}
+use Rattle.std.specs.Prelude.{filter}
 use Rattle.jm_base.specs.declared.mode.Mode.{Mode}
 use Rattle.jm_base.specs.declared.refusal.Refusal.{Refusal}
+use Rattle.jm_dest.specs.declared.session.SessionId.{SessionId}
 use Rattle.jm_dest.specs.declared.key.Key.{Key}
 use Rattle.jm_dest.specs.declared.key.Key.TheVariants.{Own}
 use Rattle.jm_dest.specs.Keys.{key_eq}
@@ -10,7 +11,7 @@ use Rattle.jm_header.specs.declared.content.Content.{Content}
 use Rattle.jm_machine.specs.declared.call.Who.{Who}
 use Rattle.jm_machine.specs.declared.call.Who.TheVariants.{Connection, Session}
 use Rattle.jm_machine.specs.declared.call.Request.{Request}
-use Rattle.jm_machine.specs.declared.call.Request.TheVariants.{CreateSession, CreateConsumer, Receive}
+use Rattle.jm_machine.specs.declared.call.Request.TheVariants.{CloseConnection, CreateSession, CloseSession, CreateConsumer, CloseConsumer, Receive, Acknowledge, Recover}
 use Rattle.jm_machine.specs.declared.call.Call.{Call}
 use Rattle.jm_machine.specs.declared.call.Call.TheVariants.{Ask, Publish}
 use Rattle.jm_machine.specs.declared.state.Definition.{Definition}
@@ -18,8 +19,8 @@ use Rattle.jm_machine.specs.declared.state.PlacedRow.{PlacedRow}
 use Rattle.jm_machine.specs.declared.state.Row.{Row}
 use Rattle.jm_machine.specs.declared.state.Station.{Station}
 use Rattle.jm_machine.specs.Life.{mode_of, is_started}
-use Rattle.jm_machine.specs.Rows.{AllAbove, InOrder, fresh, raised, settles_at_once, left_of, live_placed, change_placed, deliver_placed}
-use Rattle.jm_machine.specs.Machine.{State, Publisher, publisher_of, accepts, offered, with_message, with_rows, at_key, without, published, AllInOrder, receive, consumer_of, key_at, defined, held, refusal, publish_refusal, after, moved, step}
+use Rattle.jm_machine.specs.Rows.{AllAbove, InOrder, fresh, settles_at_once, sent_out, left_of, live_placed, change_placed, deliver_placed}
+use Rattle.jm_machine.specs.Machine.{State, Publisher, publisher_of, accepts, is_full, one_missed, brought, offered, with_message, with_rows, at_key, without, published, AllInOrder, receive, consumer_of, key_at, defined, of_session, of_connection, of_number, settled_rows, returned_rows, settled, returned, closed, with_life, is_client, held, refusal, publish_refusal, after, moved, step}
 use Rattle.jm_machine.specs.Isolation.{Reached}
 use Rattle.jm_machine.specs.Isolation.Reached.{New, Stepped}
 
@@ -42,31 +43,53 @@ order_filter n p (x ∷ rows) h = go (p x) (order_filter n p rows h.2)
     go true r = (h.0, above_filter x.place p rows h.1, r)
     go false r = r
 
--- a row that is settled goes, and another one stays at its place
-above_change : (n : ℕ) (p : Row → Bool) (mode : Option Mode) (rows : List PlacedRow) → AllAbove n rows → AllAbove n (change_placed p (left_of mode) rows)
-unfolding left_of
-above_change n p mode [] h = h
-above_change n p mode (x ∷ rows) h = go (p x.row) (settles_at_once mode) (above_change n p mode rows h.1)
-  where
-    go : (b c : Bool) → AllAbove n (change_placed p (left_of mode) rows) →
-        AllAbove n (cond b (map (λ r. record { place = x.place; row = r }) (cond c [] (record { message = x.row.message; count = raised x.row.count } ∷ [])) ++ rows) (x ∷ change_placed p (left_of mode) rows))
-    go true true r = h.1
-    go true false r = h
-    go false c r = (h.0, r)
+-- a row that passes goes, or stays at its place
+abbrev LeavesOne : (Row → List Row) → Type 0
+LeavesOne f = (r : Row) → (f r ≡ []) ⊎ ((x : Row) × (f r ≡ x ∷ []))
 
-order_change : (n : ℕ) (p : Row → Bool) (mode : Option Mode) (rows : List PlacedRow) → InOrder n rows → InOrder n (change_placed p (left_of mode) rows)
+left_one : (mode : Option Mode) (s : SessionId) (c : ℕ) → LeavesOne (left_of mode s c)
 unfolding left_of
-order_change n p mode [] h = h
-order_change n p mode (x ∷ rows) h = go (p x.row) (settles_at_once mode) (order_change n p mode rows h.2)
+left_one mode s c r = go (settles_at_once mode)
   where
-    go : (b c : Bool) → InOrder n (change_placed p (left_of mode) rows) →
-        InOrder n (cond b (map (λ r. record { place = x.place; row = r }) (cond c [] (record { message = x.row.message; count = raised x.row.count } ∷ [])) ++ rows) (x ∷ change_placed p (left_of mode) rows))
-    go true true r = h.2
-    go true false r = h
-    go false c r = (h.0, above_change x.place p mode rows h.1, r)
+    go : (b : Bool) → (cond b [] (sent_out s c r ∷ []) ≡ []) ⊎ ((x : Row) × (cond b [] (sent_out s c r ∷ []) ≡ x ∷ []))
+    go true = inl refl
+    go false = inr (sent_out s c r, refl)
 
-delivered : (n : ℕ) (now : ℕ) (mode : Option Mode) (rows : List PlacedRow) → InOrder n rows → InOrder n (deliver_placed now (left_of mode) rows)
-delivered n now mode rows h = order_change n _ mode (live_placed now rows) (order_filter n _ rows h)
+above_at : (n m : ℕ) (rs : List Row) (rows : List PlacedRow) → (rs ≡ []) ⊎ ((x : Row) × (rs ≡ x ∷ [])) → n < m → AllAbove n rows → AllAbove n (map (λ r. record { place = m; row = r }) rs ++ rows)
+above_at n m rs rows (inl e) l h = subst (λ (t : List Row). AllAbove n (map (λ r. record { place = m; row = r }) t ++ rows)) (sym e) h
+above_at n m rs rows (inr e) l h = subst (λ (t : List Row). AllAbove n (map (λ r. record { place = m; row = r }) t ++ rows)) (sym e.1) (l, h)
+
+above_change : (n : ℕ) (p : Row → Bool) (f : Row → List Row) → LeavesOne f → (rows : List PlacedRow) → AllAbove n rows → AllAbove n (change_placed p f rows)
+above_change n p f o [] h = h
+above_change n p f o (x ∷ rows) h = go (p x.row) (above_change n p f o rows h.1)
+  where
+    go : (b : Bool) → AllAbove n (change_placed p f rows) → AllAbove n (cond b (map (λ r. record { place = x.place; row = r }) (f x.row) ++ rows) (x ∷ change_placed p f rows))
+    go true r = above_at n x.place (f x.row) rows (o x.row) h.0 h.1
+    go false r = (h.0, r)
+
+order_at : (n m : ℕ) (rs : List Row) (rows : List PlacedRow) → (rs ≡ []) ⊎ ((x : Row) × (rs ≡ x ∷ [])) → m < n → AllAbove m rows → InOrder n rows → InOrder n (map (λ r. record { place = m; row = r }) rs ++ rows)
+order_at n m rs rows (inl e) l a h = subst (λ (t : List Row). InOrder n (map (λ r. record { place = m; row = r }) t ++ rows)) (sym e) h
+order_at n m rs rows (inr e) l a h = subst (λ (t : List Row). InOrder n (map (λ r. record { place = m; row = r }) t ++ rows)) (sym e.1) (l, a, h)
+
+order_change : (n : ℕ) (p : Row → Bool) (f : Row → List Row) → LeavesOne f → (rows : List PlacedRow) → InOrder n rows → InOrder n (change_placed p f rows)
+order_change n p f o [] h = h
+order_change n p f o (x ∷ rows) h = go (p x.row) (order_change n p f o rows h.2)
+  where
+    go : (b : Bool) → InOrder n (change_placed p f rows) → InOrder n (cond b (map (λ r. record { place = x.place; row = r }) (f x.row) ++ rows) (x ∷ change_placed p f rows))
+    go true r = order_at n x.place (f x.row) rows (o x.row) h.0 h.1 h.2
+    go false r = (h.0, above_change x.place p f o rows h.1, r)
+
+delivered : (n now : ℕ) (f : Row → List Row) → LeavesOne f → (rows : List PlacedRow) → InOrder n rows → InOrder n (deliver_placed now f rows)
+delivered n now f o rows h = order_change n _ f o (live_placed now rows) (order_filter n _ rows h)
+
+-- rows that wait again stand where they stood
+above_returned : (n : ℕ) (p : SessionId → ℕ → Bool) (rows : List PlacedRow) → AllAbove n rows → AllAbove n (returned_rows p rows)
+above_returned n p [] h = h
+above_returned n p (x ∷ rows) h = (h.0, above_returned n p rows h.1)
+
+order_returned : (n : ℕ) (p : SessionId → ℕ → Bool) (rows : List PlacedRow) → InOrder n rows → InOrder n (returned_rows p rows)
+order_returned n p [] h = h
+order_returned n p (x ∷ rows) h = (h.0, above_returned x.place p rows h.1, order_returned n p rows h.2)
 
 -- a row at the next place
 above_push : (n m : ℕ) (r : Row) (rows : List PlacedRow) → n < m → AllAbove n rows → AllAbove n (rows ++ record { place = m; row = r } ∷ [])
@@ -84,37 +107,51 @@ order_on n (x ∷ rows) h = (omega (arith, h.0), h.1, order_on n rows h.2)
 
 -- ---- stations
 
-order_offered : (p : Publisher) (m : Content) (n : ℕ) (x : Station) → InOrder n x.rows → InOrder (n + 1) (offered p m n x).rows
-order_offered p m n x h = go (accepts x.key x.definition p m)
+order_brought : (limit : ℕ) (m : Content) (n : ℕ) (x : Station) → InOrder n x.rows → InOrder (n + 1) (brought limit m n x).rows
+order_brought limit m n x h = go (is_full limit x.key (length x.rows))
   where
-    go : (b : Bool) → InOrder (n + 1) (cond b (with_rows (λ rows. rows ++ record { place = n; row = fresh m } ∷ []) x) x).rows
-    go true = order_push n (fresh m) x.rows h
+    go : (b : Bool) → InOrder (n + 1) (cond b (record { key = x.key; definition = x.definition; missed = one_missed x.missed; rows = x.rows }) (with_rows (λ rows. rows ++ record { place = n; row = fresh m } ∷ []) x)).rows
+    go true = order_on n x.rows h
+    go false = order_push n (fresh m) x.rows h
+
+order_offered : (limit : ℕ) (p : Publisher) (m : Content) (n : ℕ) (x : Station) → InOrder n x.rows → InOrder (n + 1) (offered limit p m n x).rows
+order_offered limit p m n x h = go (accepts x.key x.definition p m)
+  where
+    go : (b : Bool) → InOrder (n + 1) (cond b (brought limit m n x) x).rows
+    go true = order_brought limit m n x h
     go false = order_on n x.rows h
 
-all_offered : (p : Publisher) (m : Content) (n : ℕ) (xs : List Station) → AllInOrder n xs → AllInOrder (n + 1) (map (offered p m n) xs)
-all_offered p m n [] h = h
-all_offered p m n (x ∷ xs) h = (order_offered p m n x h.0, all_offered p m n xs h.1)
+all_offered : (limit : ℕ) (p : Publisher) (m : Content) (n : ℕ) (xs : List Station) → AllInOrder n xs → AllInOrder (n + 1) (map (offered limit p m n) xs)
+all_offered limit p m n [] h = h
+all_offered limit p m n (x ∷ xs) h = (order_offered limit p m n x h.0, all_offered limit p m n xs h.1)
 
-all_without : (n : ℕ) (k : Key) (xs : List Station) → AllInOrder n xs → AllInOrder n (without k xs)
-all_without n k [] h = h
-all_without n k (x ∷ xs) h = go (not (key_eq x.key k)) (all_without n k xs h.1)
+all_filter : (n : ℕ) (p : Station → Bool) (xs : List Station) → AllInOrder n xs → AllInOrder n (filter p xs)
+all_filter n p [] h = h
+all_filter n p (x ∷ xs) h = go (p x) (all_filter n p xs h.1)
   where
-    go : (b : Bool) → AllInOrder n (without k xs) → AllInOrder n (cond b (x ∷ without k xs) (without k xs))
+    go : (b : Bool) → AllInOrder n (filter p xs) → AllInOrder n (cond b (x ∷ filter p xs) (filter p xs))
     go true r = (h.0, r)
     go false r = r
 
-all_put : (n : ℕ) (k : Key) (d : Definition) (xs : List Station) → AllInOrder n xs → AllInOrder n (xs ++ record { key = k; definition = d; rows = [] } ∷ [])
+all_put : (n : ℕ) (k : Key) (d : Definition) (xs : List Station) → AllInOrder n xs → AllInOrder n (xs ++ record { key = k; definition = d; missed = 0; rows = [] } ∷ [])
 all_put n k d [] h = (tt, tt)
 all_put n k d (x ∷ xs) h = (h.0, all_put n k d xs h.1)
 
-all_at : (n : ℕ) (now : ℕ) (mode : Option Mode) (k : Key) (xs : List Station) → AllInOrder n xs → AllInOrder n (at_key k (with_rows (deliver_placed now (left_of mode))) xs)
-all_at n now mode k [] h = h
-all_at n now mode k (x ∷ xs) h = go (key_eq x.key k) (all_at n now mode k xs h.1)
+-- a change of rows that keeps their order
+abbrev KeepsOrder : ℕ → (List PlacedRow → List PlacedRow) → Type 0
+KeepsOrder n f = (rows : List PlacedRow) → InOrder n rows → InOrder n (f rows)
+
+all_at : (n : ℕ) (f : List PlacedRow → List PlacedRow) → KeepsOrder n f → (k : Key) (xs : List Station) → AllInOrder n xs → AllInOrder n (at_key k (with_rows f) xs)
+all_at n f g k [] h = h
+all_at n f g k (x ∷ xs) h = go (key_eq x.key k) (all_at n f g k xs h.1)
   where
-    go : (b : Bool) → AllInOrder n (at_key k (with_rows (deliver_placed now (left_of mode))) xs) →
-        AllInOrder n (cond b (with_rows (deliver_placed now (left_of mode)) x ∷ xs) (x ∷ at_key k (with_rows (deliver_placed now (left_of mode))) xs))
-    go true r = (delivered n now mode x.rows h.0, h.1)
+    go : (b : Bool) → AllInOrder n (at_key k (with_rows f) xs) → AllInOrder n (cond b (with_rows f x ∷ xs) (x ∷ at_key k (with_rows f) xs))
+    go true r = (g x.rows h.0, h.1)
     go false r = (h.0, r)
+
+all_each : (n : ℕ) (f : List PlacedRow → List PlacedRow) → KeepsOrder n f → (xs : List Station) → AllInOrder n xs → AllInOrder n (map (with_rows f) xs)
+all_each n f g [] h = h
+all_each n f g (x ∷ xs) h = (g x.rows h.0, all_each n f g xs h.1)
 
 -- ---- states
 
@@ -124,11 +161,21 @@ HasOrder state = AllInOrder state.next_place state.stations
 order_published : (state : State) (ms : List Content) → HasOrder state → HasOrder (published state ms)
 unfolding published
 order_published state [] h = h
-order_published state (m ∷ ms) h = order_published (with_message state m) ms (all_offered (publisher_of state.life m) m state.next_place state.stations h)
+order_published state (m ∷ ms) h = order_published (with_message state m) ms (all_offered state.limit (publisher_of state.life m) m state.next_place state.stations h)
 
-order_received : (mode : Option Mode) (now : ℕ) (k : Option Key) (state : State) → HasOrder state → HasOrder (receive (left_of mode) now k state)
-order_received mode now None state h = h
-order_received mode now (Some k) state h = all_at state.next_place now mode k state.stations h
+order_received : (mode : Option Mode) (s : SessionId) (c now : ℕ) (k : Option Key) (state : State) → HasOrder state → HasOrder (receive (left_of mode s c) now k state)
+order_received mode s c now None state h = h
+order_received mode s c now (Some k) state h = all_at state.next_place (deliver_placed now (left_of mode s c)) (delivered state.next_place now (left_of mode s c) (left_one mode s c)) k state.stations h
+
+order_settled : (p : SessionId → ℕ → Bool) (state : State) → HasOrder state → HasOrder (settled p state)
+order_settled p state h = all_each state.next_place (settled_rows p) (order_filter state.next_place _) state.stations h
+
+-- what closes gives back first
+order_closed : (p : SessionId → ℕ → Bool) (state : State) → HasOrder state → HasOrder (closed p state)
+order_closed p state h = all_filter state.next_place _ state.stations h
+
+order_given : (p : SessionId → ℕ → Bool) (state : State) → HasOrder state → HasOrder (returned p state)
+order_given p state h = all_each state.next_place (returned_rows p) (order_returned state.next_place p) state.stations h
 
 order_if : (b : Bool) (x y : State) → HasOrder x → HasOrder y → HasOrder (cond b x y)
 order_if true x y p q = p
@@ -140,12 +187,17 @@ order_moved (Some r) x y p q = q
 
 order_after : (state : State) (who : Who) (request : Request) → HasOrder state → HasOrder (after state who request)
 unfolding after
+order_after state (Connection c) CloseConnection h = order_closed (of_connection c) (returned (of_connection c) (with_life (Connection c) CloseConnection state)) (order_given (of_connection c) (with_life (Connection c) CloseConnection state) h)
 order_after state (Connection c) request h = h
 order_after state (Session s) (CreateSession mode) h = h
-order_after state (Session s) (CreateConsumer c topic selector) h = all_put state.next_place (Own s c) (defined topic selector) (without (Own s c) state.stations) (all_without state.next_place (Own s c) state.stations h)
+order_after state (Session s) CloseSession h = order_closed (of_session s) (returned (of_session s) (with_life (Session s) CloseSession state)) (order_given (of_session s) (with_life (Session s) CloseSession state) h)
+order_after state (Session s) (CreateConsumer c topic selector) h = all_put state.next_place (Own s c) (defined topic selector) (without (Own s c) state.stations) (all_filter state.next_place _ state.stations h)
 order_after state (Session s) (Receive c now) h =
-    order_if (is_started state.life s.connection) (receive (left_of (mode_of state.life s)) now (key_at (consumer_of state.consumers s c)) state) state
-    (order_received (mode_of state.life s) now (key_at (consumer_of state.consumers s c)) state h) h
+    order_if (is_started state.life s.connection) (receive (left_of (mode_of state.life s) s c) now (key_at (consumer_of state.consumers s c)) state) state
+    (order_received (mode_of state.life s) s c now (key_at (consumer_of state.consumers s c)) state h) h
+order_after state (Session s) (CloseConsumer c) h = order_closed (of_number s c) state h
+order_after state (Session s) Acknowledge h = order_if (is_client (mode_of state.life s)) (settled (of_session s) state) state (order_settled (of_session s) state h) h
+order_after state (Session s) Recover h = order_given (of_session s) state h
 order_after state (Session s) _ h = h
 
 order_step : (state : State) (who : Who) (call : Call) → HasOrder state → HasOrder (step state who call)
@@ -154,5 +206,5 @@ order_step state who (Ask request) h = order_moved (refusal state.life state.con
 order_step state who (Publish messages) h = order_moved (publish_refusal state who messages) (published state messages) state (order_published state messages h) h
 
 pub reached_in_order : (state : State) → Reached state → AllInOrder state.next_place state.stations
-reached_in_order state (New opening) = tt
+reached_in_order state (New opening limit) = tt
 reached_in_order state (Stepped before who call r) = order_step before who call (reached_in_order before r)

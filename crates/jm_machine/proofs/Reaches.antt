@@ -9,7 +9,6 @@ use Rattle.jm_machine.specs.declared.call.Call.TheVariants.{Publish, Ask as AskS
 use Rattle.jm_machine.specs.declared.call.ClientCall.{ClientCall}
 use Rattle.jm_machine.specs.declared.call.ClientCall.TheVariants.{Ask, Send}
 use Rattle.jm_machine.specs.declared.answer.Answer.{Answer}
-use Rattle.jm_machine.specs.Machine.{State}
 use Rattle.jm_machine.specs.Wants.{is_want}
 use Rattle.jm_machine.specs.Client.{Progress, stamp_of, send_progress, reply_to, progress_to, call_may_want, CallFits, CallOwed, RepliesFit, RunOwed}
 use Rattle.jm_machine.specs.Isolation.{Reached, RunsReach}

@@ -8,7 +8,7 @@ use Rattle.jm_base.specs.declared.refusal.Refusal.{Refusal}
 use Rattle.jm_base.specs.contracts.refusal.RefusalPartialEq.TheImpl as refusal_eq
 use Rattle.jm_header.proofs.Same.{content_same, destination_same, session_same, settings_same}
 use Rattle.jm_machine.specs.declared.answer.Answer.{Answer}
-use Rattle.jm_machine.specs.declared.answer.Answer.TheVariants.{Done, Sent, Delivered, Nothing}
+use Rattle.jm_machine.specs.declared.answer.Answer.TheVariants.{Done, Sent, Delivered, Nothing, Missed}
 use Rattle.jm_machine.specs.declared.answer.Delivery.{Delivery}
 use Rattle.jm_machine.specs.declared.call.Call.{Call}
 use Rattle.jm_machine.specs.declared.call.Call.TheVariants.{Ask, Publish}
@@ -39,18 +39,27 @@ answer_same Done Done = (λ _. refl, λ _. refl)
 answer_same Done (Sent b) = (λ e. cc, λ e. cc)
 answer_same Done (Delivered b) = (λ e. cc, λ e. cc)
 answer_same Done Nothing = (λ e. cc, λ e. cc)
+answer_same Done (Missed b) = (λ e. cc, λ e. cc)
 answer_same (Sent a) Done = (λ e. cc, λ e. cc)
 answer_same (Sent a) (Sent b) = Decides-like _ (λ e. ap Sent e) (λ e. cc) (Decides-eqb a b)
 answer_same (Sent a) (Delivered b) = (λ e. cc, λ e. cc)
 answer_same (Sent a) Nothing = (λ e. cc, λ e. cc)
+answer_same (Sent a) (Missed b) = (λ e. cc, λ e. cc)
 answer_same (Delivered a) Done = (λ e. cc, λ e. cc)
 answer_same (Delivered a) (Sent b) = (λ e. cc, λ e. cc)
 answer_same (Delivered a) (Delivered b) = Decides-like _ (λ e. ap Delivered e) (λ e. cc) (delivery_same a b)
 answer_same (Delivered a) Nothing = (λ e. cc, λ e. cc)
+answer_same (Delivered a) (Missed b) = (λ e. cc, λ e. cc)
 answer_same Nothing Done = (λ e. cc, λ e. cc)
 answer_same Nothing (Sent b) = (λ e. cc, λ e. cc)
 answer_same Nothing (Delivered b) = (λ e. cc, λ e. cc)
 answer_same Nothing Nothing = (λ _. refl, λ _. refl)
+answer_same Nothing (Missed b) = (λ e. cc, λ e. cc)
+answer_same (Missed a) Done = (λ e. cc, λ e. cc)
+answer_same (Missed a) (Sent b) = (λ e. cc, λ e. cc)
+answer_same (Missed a) (Delivered b) = (λ e. cc, λ e. cc)
+answer_same (Missed a) Nothing = (λ e. cc, λ e. cc)
+answer_same (Missed a) (Missed b) = Decides-like _ (λ e. ap Missed e) (λ e. cc) (Decides-eqb a b)
 
 pub reply_same : (a b : Result Answer Refusal) → Decides (result_eq (answer_eq.ghosts).eq (refusal_eq.ghosts).eq a b) (a ≡ b)
 reply_same (Ok a) (Ok b) = Decides-like _ (λ e. ap Ok e) (λ e. cc) (answer_same a b)

@@ -174,12 +174,13 @@ abbrev holding : Definition → List PlacedRow → ℕ → Progress
 holding definition rows n = record {
   state = record {
     opening = 1;
+    limit = 100000;
     life = record {
-      connections = record { id = 1; is_started = true } ∷ record { id = 2; is_started = false } ∷ [];
-      sessions = record { id = receiver; mode = Auto } ∷ record { id = publisher; mode = Auto } ∷ [];
+      connections = record { id = 1; is_started = true; is_open = true } ∷ record { id = 2; is_started = false; is_open = true } ∷ [];
+      sessions = record { id = receiver; mode = Auto; is_open = true } ∷ record { id = publisher; mode = Auto; is_open = true } ∷ [];
     };
-    consumers = record { session = receiver; id = 1; key = Own receiver 1 } ∷ [];
-    stations = record { key = Own receiver 1; definition = definition; rows = rows } ∷ [];
+    consumers = record { session = receiver; id = 1; key = Own receiver 1; is_active = true } ∷ [];
+    stations = record { key = Own receiver 1; definition = definition; missed = 0; rows = rows } ∷ [];
     next_place = n + 1;
   };
   sent = sent_after n;
@@ -195,6 +196,7 @@ abbrev begins : Progress
 begins = record {
   state = record {
     opening = 1;
+    limit = 100000;
     life = (holding positive_definition [] 0).state.life;
     consumers = [];
     stations = [];
@@ -222,7 +224,7 @@ abbrev after_send : Settings → List PlacedRow → ℕ → Bool → Progress
 after_send draft rows n b = holding positive_definition (if b then rows ++ placed draft (n + 1) ∷ [] else rows) (n + 1)
 
 choose : (b : Bool) (draft : Settings) (rows : List PlacedRow) (n : ℕ) →
-    record (holding positive_definition rows (n + 1)) { state = record (holding positive_definition rows (n + 1)).state { stations = cond b (record { key = Own receiver 1; definition = positive_definition; rows = rows ++ placed draft (n + 1) ∷ [] }) (record { key = Own receiver 1; definition = positive_definition; rows = rows }) ∷ [] } }
+    record (holding positive_definition rows (n + 1)) { state = record (holding positive_definition rows (n + 1)).state { stations = cond b (record { key = Own receiver 1; definition = positive_definition; missed = 0; rows = rows ++ placed draft (n + 1) ∷ [] }) (record { key = Own receiver 1; definition = positive_definition; missed = 0; rows = rows }) ∷ [] } }
     ≡ after_send draft rows n b
 choose true draft rows n = refl
 choose false draft rows n = refl
@@ -271,7 +273,7 @@ abbrev refused_replies : List (Result Answer Refusal)
 refused_replies = opened ++ Err (InvalidSelector 4 Expected) ∷ ok ∷ Err IllegalState ∷ []
 
 -- what the consumer's subscription answers alone
-pub refused_alone : alone (Own receiver 1) (new_core 1) (entries_of 1 refused_calls refused_replies) ≡ (5, Err (InvalidSelector 4 Expected)) ∷ (6, ok) ∷ (7, Err IllegalState) ∷ []
+pub refused_alone : alone (Own receiver 1) (new_core 1 100000) (entries_of 1 refused_calls refused_replies) ≡ (5, Err (InvalidSelector 4 Expected)) ∷ (6, ok) ∷ (7, Err IllegalState) ∷ []
 unfolding life_after own_life selector_refusal accepts published refusal publish_refusal after_call answer reply step reply_to progress_to life_after_entry committed lone_of lone_did is_answered feed
 refused_alone = rw cut_short refl
 

@@ -1,6 +1,7 @@
 -- Worked runs, computed on the definitions.
 use Rattle.std.specs.Prelude.{◌≡◌, ℕ, List, [], ◌∷◌, ◌++◌, None, Result, Ok, Err, refl}
-use Rattle.jm_base.specs.declared.mode.Mode.TheVariants.{Auto}
+use Rattle.jm_base.specs.declared.mode.Mode.{Mode}
+use Rattle.jm_base.specs.declared.mode.Mode.TheVariants.{Auto, Client, Dups}
 use Rattle.jm_base.specs.declared.refusal.Refusal.{Refusal}
 use Rattle.jm_base.specs.declared.refusal.Refusal.TheVariants.{IllegalState, OutOfRange}
 use Rattle.jm_dest.specs.declared.session.SessionId.{SessionId}
@@ -11,11 +12,12 @@ use Rattle.jm_header.specs.declared.body.Body.TheVariants.{Text}
 use Rattle.jm_header.specs.declared.content.Settings.{Settings}
 use Rattle.jm_header.specs.Headers.{defaults, message_of}
 use Rattle.jm_machine.specs.declared.call.Who.TheVariants.{Connection, Session}
-use Rattle.jm_machine.specs.declared.call.Request.TheVariants.{Open, Start, Stop, CreateSession, CreateConsumer, Receive}
+use Rattle.jm_machine.specs.declared.call.Request.{Request}
+use Rattle.jm_machine.specs.declared.call.Request.TheVariants.{Open, Start, Stop, CloseConnection, CreateSession, CloseSession, CreateConsumer, CloseConsumer, Receive, Acknowledge, Recover, Missed}
 use Rattle.jm_machine.specs.declared.call.ClientCall.{ClientCall}
 use Rattle.jm_machine.specs.declared.call.ClientCall.TheVariants.{Ask, Send}
 use Rattle.jm_machine.specs.declared.answer.Answer.{Answer}
-use Rattle.jm_machine.specs.declared.answer.Answer.TheVariants.{Done, Sent, Delivered, Nothing}
+use Rattle.jm_machine.specs.declared.answer.Answer.TheVariants.{Done, Sent, Delivered, Nothing, Missed as MissedSoFar}
 use Rattle.jm_machine.specs.Life.{life_after, own_life}
 use Rattle.jm_machine.specs.Rows.{protected, is_next, left_of}
 use Rattle.jm_machine.specs.Selectors.{selector_refusal, selects}
@@ -25,9 +27,9 @@ use Rattle.jm_machine.specs.Entries.{entries_of, life_after_entry, committed}
 use Rattle.jm_machine.specs.Lone.{lone_of, lone_did, is_answered, feed}
 use Rattle.jm_machine.specs.Isolation.{answered, alone}
 
--- a run of a new core in opening 1
+-- a run of a new core in opening 1, in which subscriptions may hold 100,000 rows
 abbrev pub new_run : Progress
-new_run = begun (new_core 1)
+new_run = begun (new_core 1 100000)
 
 -- session 1.1, which receives
 abbrev pub receiver : SessionId
@@ -104,7 +106,7 @@ unfolding life_after is_next left_of selector_refusal selects defined accepts pu
 first_message = refl
 
 -- what the consumer's subscription answers alone: calls 5, 8 and 9
-pub first_message_alone : alone (Own receiver 1) (new_core 1) (entries_of 1 first_message_calls first_message_replies)
+pub first_message_alone : alone (Own receiver 1) (new_core 1 100000) (entries_of 1 first_message_calls first_message_replies)
     ≡ (4, ok) ∷ (7, got (text 97) 1 1000 1) ∷ (8, none) ∷ []
 unfolding life_after own_life is_next left_of selector_refusal selects defined accepts published refusal publish_refusal after answer reply step reply_to progress_to life_after_entry committed lone_of lone_did is_answered feed
 first_message_alone = refl
@@ -214,3 +216,50 @@ pub second_list_alone : alone (Own receiver 1) second_run.state (entries_of 1 se
     ≡ (1, got (text 97) 1 1000 1) ∷ (2, got (text 98) 1 1000 1) ∷ (3, none) ∷ []
 unfolding life_after own_life is_next left_of selector_refusal selects defined accepts published refusal publish_refusal after answer reply step reply_to progress_to life_after_entry committed lone_of lone_did is_answered feed
 second_list_alone = refl
+
+-- both connections and sessions, of which session 1.1 has that mode, consumer 1 of the topic, and connection 1 starts
+abbrev pub started_in : Mode → List ClientCall
+started_in mode =
+    Ask (Connection 1) Open ∷ Ask (Connection 2) Open ∷ Ask (Session receiver) (CreateSession mode) ∷ Ask (Session publisher) (CreateSession Auto)
+    ∷ Ask (Session receiver) (CreateConsumer 1 topic None) ∷ Ask (Connection 1) Start ∷ []
+
+-- a session of the receiver's connection asks
+abbrev pub asks : Request → ClientCall
+asks request = Ask (Session receiver) request
+
+-- what is not acknowledged comes again after a recovery, counted; what is acknowledged does not
+pub recover_and_acknowledge : replies_to new_run (started_in Client ++ send 1000 (text 97) ∷ send 1000 (text 98) ∷ receive 1 1000 ∷ receive 1 1000 ∷ asks Recover ∷ receive 1 1000 ∷ receive 1 1000 ∷ asks Acknowledge ∷ asks Recover ∷ receive 1 1000 ∷ [])
+    ≡ six ++ Ok (Sent 1) ∷ Ok (Sent 2) ∷ got (text 97) 1 1000 1 ∷ got (text 98) 2 1000 1 ∷ ok ∷ got (text 97) 1 1000 2 ∷ got (text 98) 2 1000 2 ∷ ok ∷ ok ∷ none ∷ []
+unfolding life_after is_next left_of selector_refusal selects defined accepts published refusal publish_refusal after answer reply step reply_to progress_to
+recover_and_acknowledge = refl
+
+-- lazily acknowledged, a message does not come again
+pub duplicates_settle : replies_to new_run (started_in Dups ++ send 1000 (text 97) ∷ receive 1 1000 ∷ asks Recover ∷ receive 1 1000 ∷ [])
+    ≡ six ++ Ok (Sent 1) ∷ got (text 97) 1 1000 1 ∷ ok ∷ none ∷ []
+unfolding life_after is_next left_of selector_refusal selects defined accepts published refusal publish_refusal after answer reply step reply_to progress_to
+duplicates_settle = refl
+
+-- where a subscription may hold two rows, it misses the third
+pub limit_of_two : replies_to (begun (new_core 1 2)) (started ++ send 1000 (text 97) ∷ send 1000 (text 98) ∷ send 1000 (text 99) ∷ asks (Missed 1) ∷ receive 1 1000 ∷ receive 1 1000 ∷ receive 1 1000 ∷ [])
+    ≡ six ++ Ok (Sent 1) ∷ Ok (Sent 2) ∷ Ok (Sent 3) ∷ Ok (MissedSoFar 1) ∷ got (text 97) 1 1000 1 ∷ got (text 98) 2 1000 1 ∷ none ∷ []
+unfolding life_after is_next left_of selector_refusal selects defined accepts published refusal publish_refusal after answer reply step reply_to progress_to
+limit_of_two = refl
+
+-- a row that is expired and not yet dropped counts towards the limit
+pub limit_of_one : replies_to (begun (new_core 1 1)) (started ++ send 1000 (living 10 97) ∷ send 2000 (text 98) ∷ asks (Missed 1) ∷ receive 1 2000 ∷ send 2000 (text 99) ∷ receive 1 2000 ∷ [])
+    ≡ six ++ Ok (Sent 1) ∷ Ok (Sent 2) ∷ Ok (MissedSoFar 1) ∷ none ∷ Ok (Sent 3) ∷ got (text 99) 3 2000 1 ∷ []
+unfolding life_after is_next left_of selector_refusal selects defined accepts published refusal publish_refusal after answer reply step reply_to progress_to
+limit_of_one = refl
+
+-- a closed consumer's subscription ends with what is out of it
+pub closed_consumer_ends : replies_to new_run (started_in Client ++ send 1000 (text 97) ∷ receive 1 1000 ∷ asks (CloseConsumer 1) ∷ asks Recover ∷ asks (CreateConsumer 2 topic None) ∷ receive 2 1000 ∷ receive 1 1000 ∷ asks (CloseConsumer 1) ∷ [])
+    ≡ six ++ Ok (Sent 1) ∷ got (text 97) 1 1000 1 ∷ ok ∷ ok ∷ ok ∷ none ∷ Err IllegalState ∷ ok ∷ []
+unfolding life_after is_next left_of selector_refusal selects defined accepts published refusal publish_refusal after answer reply step reply_to progress_to
+closed_consumer_ends = refl
+
+-- what is closed may be closed again, and nothing else; numbers are not free again
+pub closed_sessions : replies_to new_run (started ++ asks CloseSession ∷ asks CloseSession ∷ asks (CloseConsumer 7) ∷ receive 1 1000 ∷ asks Recover ∷ asks (CreateSession Auto)
+    ∷ Ask (Connection 1) CloseConnection ∷ Ask (Connection 1) CloseConnection ∷ Ask (Connection 1) Start ∷ Ask (Connection 1) Open ∷ Ask (Session (record { connection = 1; number = 9 })) CloseSession ∷ Ask (Connection 3) CloseConnection ∷ [])
+    ≡ six ++ ok ∷ ok ∷ ok ∷ Err IllegalState ∷ Err IllegalState ∷ Err IllegalState ∷ ok ∷ ok ∷ Err IllegalState ∷ Err IllegalState ∷ ok ∷ Err IllegalState ∷ []
+unfolding life_after is_next left_of selector_refusal selects defined accepts published refusal publish_refusal after answer reply step reply_to progress_to
+closed_sessions = refl

@@ -17,7 +17,7 @@ use Rattle.jm_machine.specs.Lone.{scope_of, lone_of, lone_replies, feed, replies
 
 -- the states that the provider reaches: from a new core, by steps of any kind
 pub data Reached : State → Type 0 where
-  New : (opening : ℕ) → Reached (new_core opening)
+  New : (opening limit : ℕ) → Reached (new_core opening limit)
   Stepped : (state : State) → (who : Who) → (call : Call) → Reached state → Reached (step state who call)
 
 -- the key is that of an unshared topic subscription, and the number names nothing else in the opening

@@ -7,7 +7,7 @@ use Rattle.jm_dest.specs.Names.{session_eq}
 use Rattle.jm_machine.specs.declared.call.Who.{Who}
 use Rattle.jm_machine.specs.declared.call.Who.TheVariants.{Connection, Session}
 use Rattle.jm_machine.specs.declared.call.Request.{Request}
-use Rattle.jm_machine.specs.declared.call.Request.TheVariants.{Open, Start, Stop, CreateSession}
+use Rattle.jm_machine.specs.declared.call.Request.TheVariants.{Open, Start, Stop, CloseConnection, CreateSession, CloseSession}
 use Rattle.jm_machine.specs.declared.state.ConnectionState.{ConnectionState}
 use Rattle.jm_machine.specs.declared.state.SessionState.{SessionState}
 use Rattle.jm_machine.specs.Owns.{is_own, is_own_connection}
@@ -25,10 +25,15 @@ connection_of connections c = find (λ x. x.id == c) connections
 abbrev pub session_of : List SessionState → SessionId → Option SessionState
 session_of sessions s = find (λ x. session_eq x.id s) sessions
 
--- a connection is open from its opening on
+-- a connection is open from its opening to its closing
 abbrev pub is_open_connection : Option ConnectionState → Bool
 is_open_connection None = false
-is_open_connection (Some x) = true
+is_open_connection (Some x) = x.is_open
+
+-- a connection was opened, and is closed
+abbrev pub is_closed_connection : Option ConnectionState → Bool
+is_closed_connection None = false
+is_closed_connection (Some x) = not x.is_open
 
 -- a connection delivers messages while it is started
 abbrev pub is_started_connection : Option ConnectionState → Bool
@@ -42,7 +47,7 @@ client_of life c = None
 -- the mode of a session that is open
 abbrev pub open_mode : Option SessionState → Option Mode
 open_mode None = None
-open_mode (Some x) = Some x.mode
+open_mode (Some x) = if x.is_open then Some x.mode else None
 
 -- the mode of that session, where it is open
 abbrev pub mode_of : Life → SessionId → Option Mode
@@ -64,16 +69,33 @@ started_if c on x = if x.id == c then record x { is_started = on } else x
 abbrev pub with_started : ℕ → Bool → List ConnectionState → List ConnectionState
 with_started c on connections = map (started_if c on) connections
 
+-- a connection, closed where it is that one; one that is closed is not started
+abbrev pub closed_if : ℕ → ConnectionState → ConnectionState
+closed_if c x = if x.id == c then record x { is_started = false; is_open = false } else x
+
+-- a session, closed where it passes
+abbrev pub closed_where : (SessionId → Bool) → SessionState → SessionState
+closed_where p x = if p x.id then record x { is_open = false } else x
+
+-- the sessions, those that pass closed
+abbrev pub close_sessions : (SessionId → Bool) → List SessionState → List SessionState
+close_sessions p sessions = map (closed_where p) sessions
+
 -- the connections and sessions after a call by a connection that was accepted, or after any call by a
 -- session
 unfoldable pub life_after : Life → Who → Request → Life
-life_after life (Connection c) Open = record life { connections = life.connections ++ record { id = c; is_started = false } ∷ [] }
+life_after life (Connection c) Open = record life { connections = life.connections ++ record { id = c; is_started = false; is_open = true } ∷ [] }
 life_after life (Connection c) Start = record life { connections = with_started c true life.connections }
 life_after life (Connection c) Stop = record life { connections = with_started c false life.connections }
+life_after life (Connection c) CloseConnection = record {
+  connections = map (closed_if c) life.connections;
+  sessions = close_sessions (λ s. s.connection == c) life.sessions;
+}
 life_after life (Session s) (CreateSession mode) =
     if is_new_session life s
-    then record life { sessions = life.sessions ++ record { id = s; mode = mode } ∷ [] }
+    then record life { sessions = life.sessions ++ record { id = s; mode = mode; is_open = true } ∷ [] }
     else life
+life_after life (Session s) CloseSession = record life { sessions = close_sessions (λ t. session_eq t s) life.sessions }
 life_after life _ _ = life
 
 -- the part that is about the given sessions and their connections

@@ -1,5 +1,5 @@
 -- One subscription alone: what it starts with, what it is fed, and what it answers.
-use Rattle.std.specs.Prelude.{ℕ, ◌+◌, Bool, true, false, ◌&&◌, ◌==◌, List, [], ◌∷◌, ◌++◌, filter, map, Option, Some, None, is_none, is_ok, Result, if◌then◌else◌}
+use Rattle.std.specs.Prelude.{ℕ, ◌+◌, Bool, true, false, ◌&&◌, not, ◌==◌, List, [], ◌∷◌, ◌++◌, filter, map, length, Option, Some, None, is_none, is_ok, Result, if◌then◌else◌}
 use Rattle.jm_base.specs.declared.refusal.Refusal.{Refusal}
 use Rattle.jm_dest.specs.declared.session.SessionId.{SessionId}
 use Rattle.jm_dest.specs.declared.key.Key.{Key}
@@ -10,7 +10,7 @@ use Rattle.jm_header.specs.declared.content.Content.{Content}
 use Rattle.jm_machine.specs.declared.call.Who.{Who}
 use Rattle.jm_machine.specs.declared.call.Who.TheVariants.{Connection, Session}
 use Rattle.jm_machine.specs.declared.call.Request.{Request}
-use Rattle.jm_machine.specs.declared.call.Request.TheVariants.{CreateSession, CreateConsumer, Receive}
+use Rattle.jm_machine.specs.declared.call.Request.TheVariants.{CloseConnection, CreateSession, CloseSession, CreateConsumer, CloseConsumer, Receive, Acknowledge, Recover, Missed}
 use Rattle.jm_machine.specs.declared.answer.Answer.{Answer}
 use Rattle.jm_machine.specs.declared.entry.Entry.{Entry}
 use Rattle.jm_machine.specs.declared.entry.Entry.TheVariants.{Asked, Sent}
@@ -19,8 +19,8 @@ use Rattle.jm_machine.specs.declared.state.Consumer.{Consumer}
 use Rattle.jm_machine.specs.declared.state.Definition.{Definition}
 use Rattle.jm_machine.specs.Owns.{is_own, is_own_connection}
 use Rattle.jm_machine.specs.Life.{Life, mode_of, is_started, life_after, own_life}
-use Rattle.jm_machine.specs.Rows.{fresh, left_of, deliver}
-use Rattle.jm_machine.specs.Machine.{State, station_of, definition_of, rows_of, Publisher, publisher_of, accepts, consumer_of, new_consumer, defined, Holding, refusal, reply_by}
+use Rattle.jm_machine.specs.Rows.{fresh, left_of, is_out, given_back, deliver}
+use Rattle.jm_machine.specs.Machine.{State, station_of, definition_of, missed_of, rows_of, Publisher, publisher_of, accepts, is_full, one_missed, consumer_of, new_consumer, defined, of_session, of_connection, of_number, closed_consumer, ends, is_client, Holding, refusal, reply_by}
 use Rattle.jm_machine.specs.Entries.{life_after_entry, committed}
 
 -- what belongs to an unshared topic subscription: its key, its own sessions, and its consumers' numbers
@@ -88,19 +88,24 @@ numbers_of (Durable client name) opening entries s c = false
 abbrev pub scope_of : Key → State → List Entry → Scope
 scope_of key opening entries = record { key = key; sessions = own_sessions key; numbers = numbers_of key opening entries }
 
--- what one subscription holds: its own connections and sessions, its consumers, its definition and rows
+-- what one subscription holds: the limit of its rows, its own connections and sessions, its consumers, its
+-- definition, how many publications it missed, and its rows
 pub record Lone : Type 0 where
+  pub limit : ℕ
   pub life : Life
   pub consumers : List Consumer
   pub definition : Option Definition
+  pub missed : ℕ
   pub rows : List Row
 
 -- what a state holds of the subscription
 unfoldable pub lone_of : Scope → State → Lone
 lone_of scope state = record {
+  limit = state.limit;
   life = own_life scope.sessions state.life;
   consumers = filter (λ x. key_eq x.key scope.key) state.consumers;
   definition = definition_of (station_of scope.key state.stations);
+  missed = missed_of (station_of scope.key state.stations);
   rows = rows_of (station_of scope.key state.stations);
 }
 
@@ -111,7 +116,29 @@ pub data Item : Type 0 where
 
 -- an empty subscription in place of any other
 abbrev pub lone_put : Definition → Lone → Lone
-lone_put d lone = record lone { definition = Some d; rows = [] }
+lone_put d lone = record lone { definition = Some d; missed = 0; rows = [] }
+
+-- the subscription ends
+abbrev pub lone_ended : Lone → Lone
+lone_ended lone = record lone { definition = None; missed = 0; rows = [] }
+
+-- rows that are out through consumers that pass are settled
+abbrev pub lone_settled : (SessionId → ℕ → Bool) → Lone → Lone
+lone_settled p lone = record lone { rows = filter (λ r. not (is_out p r)) lone.rows }
+
+-- they wait again
+abbrev pub lone_returned : (SessionId → ℕ → Bool) → Lone → Lone
+lone_returned p lone = record lone { rows = map (given_back p) lone.rows }
+
+-- its consumers that pass close, and it ends with them
+abbrev pub lone_closed : Key → (SessionId → ℕ → Bool) → Lone → Lone
+lone_closed key p lone =
+    let left = record lone { consumers = map (closed_consumer p) lone.consumers } in
+    if ends p lone.consumers key then lone_ended left else left
+
+-- its connections and sessions after a request
+abbrev pub lone_life : Who → Request → Lone → Lone
+lone_life who request lone = record lone { life = life_after lone.life who request }
 
 -- a consumer joins
 abbrev pub lone_joined : SessionId → ℕ → Key → Lone → Lone
@@ -123,10 +150,15 @@ lone_receive f now lone = record lone { rows = deliver now f lone.rows }
 
 -- what it holds after a request that is not refused
 unfoldable pub lone_did : Key → Lone → Who → Request → Lone
-lone_did key lone (Connection c) request = record lone { life = life_after lone.life (Connection c) request }
-lone_did key lone (Session s) (CreateSession mode) = record lone { life = life_after lone.life (Session s) (CreateSession mode) }
+lone_did key lone (Connection c) CloseConnection = lone_closed key (of_connection c) (lone_returned (of_connection c) (lone_life (Connection c) CloseConnection lone))
+lone_did key lone (Connection c) request = lone_life (Connection c) request lone
+lone_did key lone (Session s) (CreateSession mode) = lone_life (Session s) (CreateSession mode) lone
+lone_did key lone (Session s) CloseSession = lone_closed key (of_session s) (lone_returned (of_session s) (lone_life (Session s) CloseSession lone))
 lone_did key lone (Session s) (CreateConsumer c topic selector) = lone_joined s c key (lone_put (defined topic selector) lone)
-lone_did key lone (Session s) (Receive c now) = if is_started lone.life s.connection then lone_receive (left_of (mode_of lone.life s)) now lone else lone
+lone_did key lone (Session s) (Receive c now) = if is_started lone.life s.connection then lone_receive (left_of (mode_of lone.life s) s c) now lone else lone
+lone_did key lone (Session s) (CloseConsumer c) = lone_closed key (of_number s c) lone
+lone_did key lone (Session s) Acknowledge = if is_client (mode_of lone.life s) then lone_settled (of_session s) lone else lone
+lone_did key lone (Session s) Recover = lone_returned (of_session s) lone
 lone_did key lone (Session s) _ = lone
 
 -- a consumer's number belongs to the key
@@ -137,7 +169,9 @@ belongs scope s c = is_own scope.sessions s && scope.numbers s c
 -- consumer names one of the key's; of any other request nothing
 abbrev pub about : Scope → SessionId → Request → Option Bool
 about scope s (CreateConsumer c topic selector) = Some (is_own scope.sessions s && names_key scope.key s (CreateConsumer c topic selector))
+about scope s (CloseConsumer c) = Some (belongs scope s c)
 about scope s (Receive c now) = Some (belongs scope s c)
+about scope s (Missed c) = Some (belongs scope s c)
 about scope s _ = None
 
 -- a truth value that may be absent is true or absent
@@ -157,7 +191,7 @@ is_answered scope (Session s) request = is_true (about scope s request)
 
 -- what it holds of its key, as the checks of a request see it
 abbrev pub lone_holding : Lone → Holding
-lone_holding lone = record { definition = lone.definition; rows = lone.rows; consumers = lone.consumers }
+lone_holding lone = record { definition = lone.definition; missed = lone.missed; rows = lone.rows; consumers = lone.consumers }
 
 -- why it refuses a request; none where it does not
 abbrev pub lone_refusal : Lone → Who → Request → Option Refusal
@@ -173,10 +207,17 @@ abbrev pub takes_up : Scope → Lone → Who → Request → Bool
 takes_up scope lone (Connection c) request = true
 takes_up scope lone (Session s) request = true_or_none (about scope s request) && is_none (lone_refusal lone (Session s) request)
 
+-- a message comes to it; at its limit it misses it
+abbrev pub lone_brought : Key → Content → Lone → Lone
+lone_brought key m lone =
+    if is_full lone.limit key (length lone.rows)
+    then record lone { missed = one_missed lone.missed }
+    else record lone { rows = lone.rows ++ fresh m ∷ [] }
+
 -- what it holds after an item
 abbrev pub lone_after : Scope → Lone → Item → Lone
 lone_after scope lone (Called who request) = if takes_up scope lone who request then lone_did scope.key lone who request else lone
-lone_after scope lone (Came m) = record lone { rows = lone.rows ++ fresh m ∷ [] }
+lone_after scope lone (Came m) = lone_brought scope.key m lone
 
 -- what it holds after a list of items
 abbrev pub lone_end : Scope → Lone → List Item → Lone

@@ -1,13 +1,15 @@
 -- The provider as a machine: one state, and for each call an answer or a refusal.
-use Rattle.std.specs.Prelude.{ℕ, ◌+◌, Bool, true, false, ◌&&◌, not, ◌==◌, nat_le, List, [], ◌∷◌, ◌++◌, filter, map, find, length, Option, Some, None, is_some, Result, Ok, Err, if◌then◌else◌}
-use Rattle.std.specs.List.{list_all}
+use Rattle.std.specs.Prelude.{ℕ, ◌+◌, Bool, true, false, ◌&&◌, ◌||◌, not, ◌==◌, nat_le, nat_lt, List, [], ◌∷◌, ◌++◌, filter, map, find, length, Option, Some, None, is_some, Result, Ok, Err, if◌then◌else◌}
+use Rattle.std.specs.List.{list_all, list_any}
+use Rattle.jm_base.specs.declared.mode.Mode.{Mode}
+use Rattle.jm_base.specs.declared.mode.Mode.TheVariants.{Auto, Client, Dups}
 use Rattle.jm_base.specs.declared.refusal.Refusal.{Refusal}
 use Rattle.jm_base.specs.declared.refusal.Refusal.TheVariants.{IllegalState, Exhausted}
 use Rattle.jm_dest.specs.declared.session.SessionId.{SessionId}
 use Rattle.jm_dest.specs.declared.destination.Destination.{Destination}
 use Rattle.jm_dest.specs.declared.destination.Destination.TheVariants.{Queue, Topic}
 use Rattle.jm_dest.specs.declared.key.Key.{Key}
-use Rattle.jm_dest.specs.declared.key.Key.TheVariants.{Own}
+use Rattle.jm_dest.specs.declared.key.Key.TheVariants.{Own, SharedOwn, Durable, Queue as OfQueue}
 use Rattle.jm_dest.specs.Names.{text_eq, session_eq}
 use Rattle.jm_dest.specs.Numbers.{long_end}
 use Rattle.jm_dest.specs.Keys.{key_eq}
@@ -15,24 +17,28 @@ use Rattle.jm_header.specs.declared.content.Content.{Content}
 use Rattle.jm_machine.specs.declared.call.Who.{Who}
 use Rattle.jm_machine.specs.declared.call.Who.TheVariants.{Connection, Session}
 use Rattle.jm_machine.specs.declared.call.Request.{Request}
-use Rattle.jm_machine.specs.declared.call.Request.TheVariants.{Open, Start, Stop, CreateSession, CreateConsumer, Receive}
+use Rattle.jm_machine.specs.declared.call.Request.TheVariants.{Open, Start, Stop, CloseConnection, CreateSession, CloseSession, CreateConsumer, CloseConsumer, Receive, Acknowledge, Recover, Missed}
 use Rattle.jm_machine.specs.declared.call.Call.{Call}
 use Rattle.jm_machine.specs.declared.call.Call.TheVariants.{Ask, Publish}
+use Rattle.jm_machine.specs.declared.consumers.Consumers.{Consumers}
+use Rattle.jm_machine.specs.declared.consumers.Consumers.TheVariants.{OfConnection, OfSession, One}
 use Rattle.jm_machine.specs.declared.answer.Answer.{Answer}
-use Rattle.jm_machine.specs.declared.answer.Answer.TheVariants.{Done, Delivered, Nothing}
+use Rattle.jm_machine.specs.declared.answer.Answer.TheVariants.{Done, Delivered, Nothing, Missed as MissedSoFar}
 use Rattle.jm_machine.specs.declared.state.Row.{Row}
 use Rattle.jm_machine.specs.declared.state.PlacedRow.{PlacedRow}
 use Rattle.jm_machine.specs.declared.state.Station.{Station}
 use Rattle.jm_machine.specs.declared.state.Definition.{Definition}
 use Rattle.jm_machine.specs.declared.state.Consumer.{Consumer}
-use Rattle.jm_machine.specs.Life.{Life, connection_of, client_of, is_open_connection, mode_of, is_started, is_new_session, life_after}
+use Rattle.jm_machine.specs.Life.{Life, connection_of, session_of, client_of, is_open_connection, is_closed_connection, mode_of, is_started, is_new_session, life_after}
 use Rattle.jm_machine.specs.Selectors.{selector_read, selector_refusal, standing, read_selects}
-use Rattle.jm_machine.specs.Rows.{protected, fresh, live, next, raised, left_of, bare, deliver_placed, InOrder}
+use Rattle.jm_machine.specs.Rows.{protected, fresh, is_out, given_back, live, next, raised, left_of, bare, deliver_placed, InOrder}
 
 -- all that the provider holds
 pub record State : Type 0 where
   -- the number of this opening of the provider
   pub opening : ℕ
+  -- how many rows a subscription that is not durable may hold
+  pub limit : ℕ
   pub life : Life
   -- the consumers that were made, in order
   pub consumers : List Consumer
@@ -41,9 +47,9 @@ pub record State : Type 0 where
   -- the place of the next publication
   pub next_place : ℕ
 
--- the state of a new core
-abbrev pub new_core : ℕ → State
-new_core opening = record { opening = opening; life = record { connections = []; sessions = [] }; consumers = []; stations = []; next_place = 1 }
+-- the state of a new core, in that opening and with that limit
+abbrev pub new_core : ℕ → ℕ → State
+new_core opening limit = record { opening = opening; limit = limit; life = record { connections = []; sessions = [] }; consumers = []; stations = []; next_place = 1 }
 
 -- what is held under the key
 abbrev pub station_of : Key → List Station → Option Station
@@ -54,6 +60,11 @@ abbrev pub definition_of : Option Station → Option Definition
 definition_of None = None
 definition_of (Some x) = Some x.definition
 
+-- how many publications it missed
+abbrev pub missed_of : Option Station → ℕ
+missed_of None = 0
+missed_of (Some x) = x.missed
+
 -- its rows, without their places
 abbrev pub rows_of : Option Station → List Row
 rows_of None = []
@@ -61,7 +72,7 @@ rows_of (Some x) = bare x.rows
 
 -- a station with other rows
 abbrev pub with_rows : (List PlacedRow → List PlacedRow) → Station → Station
-with_rows f x = record { key = x.key; definition = x.definition; rows = f x.rows }
+with_rows f x = record { key = x.key; definition = x.definition; missed = x.missed; rows = f x.rows }
 
 -- a change of what is held under one key
 abbrev pub at_key : Key → (Station → Station) → List Station → List Station
@@ -98,17 +109,40 @@ publisher_of life m = record { connection = m.sender.session.connection; client 
 unfoldable pub accepts : Key → Definition → Publisher → Content → Bool
 accepts key definition publisher m = is_to definition.topic m.destination && read_selects (selector_read definition.selector) m
 
--- a publisher's message comes to a subscription that accepts it, at a place
-abbrev pub offered : Publisher → Content → ℕ → Station → Station
-offered publisher m place x =
-    if accepts x.key x.definition publisher m
-    then with_rows (λ rows. rows ++ record { place = place; row = fresh m } ∷ []) x
-    else x
+-- the rows of a subscription that is not durable have a limit (ours)
+abbrev pub is_limited : Key → Bool
+is_limited (OfQueue name) = false
+is_limited (Own s c) = true
+is_limited (SharedOwn client name) = true
+is_limited (Durable client name) = false
+
+-- a subscription of the key with so many rows, waiting and out, is at the limit
+abbrev pub is_full : ℕ → Key → ℕ → Bool
+is_full limit key rows = is_limited key && nat_le limit rows
+
+-- the greatest number of missed publications
+abbrev pub greatest_missed : ℕ
+greatest_missed = 18446744073709551615
+
+-- one more publication is missed; from the greatest number on it stays (ours)
+abbrev pub one_missed : ℕ → ℕ
+one_missed n = if nat_lt n greatest_missed then n + 1 else n
+
+-- a message comes to a subscription at a place; at its limit the subscription misses it
+abbrev pub brought : ℕ → Content → ℕ → Station → Station
+brought limit m place x =
+    if is_full limit x.key (length x.rows)
+    then record { key = x.key; definition = x.definition; missed = one_missed x.missed; rows = x.rows }
+    else with_rows (λ rows. rows ++ record { place = place; row = fresh m } ∷ []) x
+
+-- a publisher's message comes to a subscription that accepts it
+abbrev pub offered : ℕ → Publisher → Content → ℕ → Station → Station
+offered limit publisher m place x = if accepts x.key x.definition publisher m then brought limit m place x else x
 
 -- a message is published: it comes to each subscription that accepts it, and takes one place
 abbrev pub with_message : State → Content → State
 with_message state m = record state {
-  stations = map (offered (publisher_of state.life m) m state.next_place) state.stations;
+  stations = map (offered state.limit (publisher_of state.life m) m state.next_place) state.stations;
   next_place = state.next_place + 1;
 }
 
@@ -127,10 +161,10 @@ has_number s c x = session_eq x.session s && (x.id == c)
 abbrev pub consumer_of : List Consumer → SessionId → ℕ → Option Consumer
 consumer_of consumers s c = find (has_number s c) consumers
 
--- a consumer is active from its making on
+-- a consumer is active from its making to its closing
 abbrev pub is_active : Option Consumer → Bool
 is_active None = false
-is_active (Some x) = true
+is_active (Some x) = x.is_active
 
 -- the key that a consumer receives from, where it was made
 abbrev pub key_at : Option Consumer → Option Key
@@ -139,7 +173,7 @@ key_at (Some x) = Some x.key
 
 -- a new consumer
 abbrev pub new_consumer : SessionId → ℕ → Key → Consumer
-new_consumer s c key = record { session = s; id = c; key = key }
+new_consumer s c key = record { session = s; id = c; key = key; is_active = true }
 
 -- what a topic's subscription asks for; a selector whose text holds no token is none
 unfoldable pub defined : List ℕ → Option (List ℕ) → Definition
@@ -147,29 +181,100 @@ defined topic selector = record { topic = topic; selector = standing selector (s
 
 -- an empty subscription of the key, in place of any other
 abbrev pub put : Key → Definition → State → State
-put key d state = record state { stations = without key state.stations ++ record { key = key; definition = d; rows = [] } ∷ [] }
+put key d state = record state { stations = without key state.stations ++ record { key = key; definition = d; missed = 0; rows = [] } ∷ [] }
 
 -- a consumer joins
 abbrev pub joined : SessionId → ℕ → Key → State → State
 joined s c key state = record state { consumers = state.consumers ++ new_consumer s c key ∷ [] }
 
+-- Acknowledgement and closing
+
+-- a consumer is one of the session
+abbrev pub of_session : SessionId → SessionId → ℕ → Bool
+of_session s t d = session_eq t s
+
+-- a consumer is one of the connection's sessions
+abbrev pub of_connection : ℕ → SessionId → ℕ → Bool
+of_connection c t d = t.connection == c
+
+-- a consumer is the session's of that number
+abbrev pub of_number : SessionId → ℕ → SessionId → ℕ → Bool
+of_number s c t d = session_eq t s && (d == c)
+
+-- a consumer is among those that are meant
+abbrev pub are_meant : Consumers → SessionId → ℕ → Bool
+are_meant (OfConnection c) = of_connection c
+are_meant (OfSession s) = of_session s
+are_meant (One s c) = of_number s c
+
+-- the key is that of a consumer's own subscription, and the consumer is among those that are meant
+abbrev pub is_own_of : Consumers → Key → Bool
+is_own_of which (OfQueue name) = false
+is_own_of which (Own s c) = are_meant which s c
+is_own_of which (SharedOwn client name) = false
+is_own_of which (Durable client name) = false
+
+-- the rows that are out through consumers that pass are settled: they go
+abbrev pub settled_rows : (SessionId → ℕ → Bool) → List PlacedRow → List PlacedRow
+settled_rows p rows = filter (λ x. not (is_out p x.row)) rows
+
+-- a row that is out through such a consumer waits again, at its place and with its count
+abbrev pub returned_row : (SessionId → ℕ → Bool) → PlacedRow → PlacedRow
+returned_row p x = record { place = x.place; row = given_back p x.row }
+
+-- the rows, of which those wait again
+abbrev pub returned_rows : (SessionId → ℕ → Bool) → List PlacedRow → List PlacedRow
+returned_rows p rows = map (returned_row p) rows
+
+-- they are settled in all subscriptions
+abbrev pub settled : (SessionId → ℕ → Bool) → State → State
+settled p state = record state { stations = map (with_rows (settled_rows p)) state.stations }
+
+-- they wait again in all subscriptions
+abbrev pub returned : (SessionId → ℕ → Bool) → State → State
+returned p state = record state { stations = map (with_rows (returned_rows p)) state.stations }
+
+-- a consumer, closed where it passes
+abbrev pub closed_consumer : (SessionId → ℕ → Bool) → Consumer → Consumer
+closed_consumer p x = if p x.session x.id then record x { is_active = false } else x
+
+-- a consumer of the key is among those that pass
+abbrev pub is_one_of : (SessionId → ℕ → Bool) → List Consumer → Key → Bool
+is_one_of p consumers key = list_any (λ x. key_eq x.key key && p x.session x.id) consumers
+
+-- the subscription of the key ends as consumers that pass close: a consumer's own ends with it
+abbrev pub ends : (SessionId → ℕ → Bool) → List Consumer → Key → Bool
+ends p consumers (OfQueue name) = false
+ends p consumers (Own s c) = is_one_of p consumers (Own s c)
+ends p consumers (SharedOwn client name) = false
+ends p consumers (Durable client name) = false
+
+-- the consumers that pass close
+abbrev pub closed : (SessionId → ℕ → Bool) → State → State
+closed p state = record state {
+  consumers = map (closed_consumer p) state.consumers;
+  stations = filter (λ x. not (ends p state.consumers x.key)) state.stations;
+}
+
 -- What is held of a key
 
--- what is held of a key: the definition and the rows of its subscription, and its consumers
+-- what is held of a key: the definition, the missed publications and the rows of its subscription, and its consumers
 pub record Holding : Type 0 where
   -- none where there is no subscription
   pub definition : Option Definition
+  pub missed : ℕ
   pub rows : List Row
   pub consumers : List Consumer
 
 -- what is held of no key
 abbrev pub nothing_held : Holding
-nothing_held = record { definition = None; rows = []; consumers = [] }
+nothing_held = record { definition = None; missed = 0; rows = []; consumers = [] }
 
 -- what a state holds of a key
 abbrev pub holding_of : Key → State → Holding
 holding_of key state = record {
   definition = definition_of (station_of key state.stations);
+  missed = missed_of (station_of key state.stations);
   rows = rows_of (station_of key state.stations);
   consumers = filter (λ x. key_eq x.key key) state.consumers;
 }
@@ -184,6 +289,7 @@ holding_at (Some key) state = holding_of key state
 abbrev pub key_named : Life → List Consumer → Who → Request → Option Key
 key_named life consumers (Session s) (CreateConsumer c topic selector) = Some (Own s c)
 key_named life consumers (Session s) (Receive c now) = key_at (consumer_of consumers s c)
+key_named life consumers (Session s) (Missed c) = key_at (consumer_of consumers s c)
 key_named life consumers _ _ = None
 
 -- what is held of the key that a request names
@@ -206,15 +312,35 @@ first_cause (Some r) later = Some r
 abbrev pub may_begin : Life → List Consumer → SessionId → ℕ → Bool
 may_begin life consumers s c = is_some (mode_of life s) && not (is_some (consumer_of consumers s c))
 
+-- a session may be closed: it was opened, or its connection is closed; closing it again does nothing
+abbrev pub may_close_session : Life → SessionId → Bool
+may_close_session life s = is_some (session_of life.sessions s) || is_closed_connection (connection_of life.connections s.connection)
+
+-- a consumer may be closed: it was made in the session, which is open, or the session is closed; closing it again
+-- does nothing
+abbrev pub may_close_consumer : Life → List Consumer → SessionId → ℕ → Bool
+may_close_consumer life consumers s c =
+    if is_some (mode_of life s) then is_some (consumer_of consumers s c) else is_some (session_of life.sessions s)
+
+-- a session's consumer may be used: both are open
+abbrev pub may_use : Life → List Consumer → SessionId → ℕ → Bool
+may_use life consumers s c = is_some (mode_of life s) && is_active (consumer_of consumers s c)
+
 -- why a request is refused, by the connections and sessions, the consumers, and what is held of the key
 -- that it names; none where it is not
 unfoldable pub refusal : Life → List Consumer → Holding → Who → Request → Option Refusal
 refusal life consumers holding (Connection c) Open = unless (not (is_some (connection_of life.connections c))) IllegalState
 refusal life consumers holding (Connection c) Start = unless (is_open_connection (connection_of life.connections c)) IllegalState
 refusal life consumers holding (Connection c) Stop = unless (is_open_connection (connection_of life.connections c)) IllegalState
+refusal life consumers holding (Connection c) CloseConnection = unless (is_some (connection_of life.connections c)) IllegalState
 refusal life consumers holding (Session s) (CreateSession mode) = unless (is_new_session life s) IllegalState
+refusal life consumers holding (Session s) CloseSession = unless (may_close_session life s) IllegalState
 refusal life consumers holding (Session s) (CreateConsumer c topic selector) = first_cause (unless (may_begin life consumers s c) IllegalState) (selector_refusal selector)
-refusal life consumers holding (Session s) (Receive c now) = unless (is_some (mode_of life s) && is_active (consumer_of consumers s c)) IllegalState
+refusal life consumers holding (Session s) (CloseConsumer c) = unless (may_close_consumer life consumers s c) IllegalState
+refusal life consumers holding (Session s) (Receive c now) = unless (may_use life consumers s c) IllegalState
+refusal life consumers holding (Session s) Acknowledge = unless (is_some (mode_of life s)) IllegalState
+refusal life consumers holding (Session s) Recover = unless (is_some (mode_of life s)) IllegalState
+refusal life consumers holding (Session s) (Missed c) = unless (may_use life consumers s c) IllegalState
 refusal life consumers holding _ _ = Some IllegalState
 
 -- each message was stamped by this session in this opening
@@ -244,15 +370,31 @@ abbrev pub receive : (Row → List Row) → ℕ → Option Key → State → Sta
 receive f now None state = state
 receive f now (Some key) state = record state { stations = at_key key (with_rows (deliver_placed now f)) state.stations }
 
+-- the connections and sessions after a request
+abbrev pub with_life : Who → Request → State → State
+with_life who request state = record state { life = life_after state.life who request }
+
+-- the mode lets the client acknowledge
+abbrev pub is_client : Option Mode → Bool
+is_client (Some Auto) = false
+is_client (Some Client) = true
+is_client (Some Dups) = false
+is_client None = false
+
 -- the state after a request that is not refused
 unfoldable pub after : State → Who → Request → State
-after state (Connection c) request = record state { life = life_after state.life (Connection c) request }
-after state (Session s) (CreateSession mode) = record state { life = life_after state.life (Session s) (CreateSession mode) }
+after state (Connection c) CloseConnection = closed (of_connection c) (returned (of_connection c) (with_life (Connection c) CloseConnection state))
+after state (Connection c) request = with_life (Connection c) request state
+after state (Session s) (CreateSession mode) = with_life (Session s) (CreateSession mode) state
+after state (Session s) CloseSession = closed (of_session s) (returned (of_session s) (with_life (Session s) CloseSession state))
 after state (Session s) (CreateConsumer c topic selector) = joined s c (Own s c) (put (Own s c) (defined topic selector) state)
 after state (Session s) (Receive c now) =
     if is_started state.life s.connection
-    then receive (left_of (mode_of state.life s)) now (key_at (consumer_of state.consumers s c)) state
+    then receive (left_of (mode_of state.life s) s c) now (key_at (consumer_of state.consumers s c)) state
     else state
+after state (Session s) (CloseConsumer c) = closed (of_number s c) state
+after state (Session s) Acknowledge = if is_client (mode_of state.life s) then settled (of_session s) state else state
+after state (Session s) Recover = returned (of_session s) state
 after state (Session s) _ = state
 
 -- what is handed out of a row: the message as it was published, read-only, with its count
@@ -267,6 +409,7 @@ delivered started now rows = if started then delivery (next now (live now rows))
 -- the answer to a request that is not refused, by the same
 unfoldable pub answer : Life → List Consumer → Holding → Who → Request → Answer
 answer life consumers holding (Session s) (Receive c now) = delivered (is_started life s.connection) now holding.rows
+answer life consumers holding (Session s) (Missed c) = MissedSoFar holding.missed
 answer life consumers holding _ _ = Done
 
 -- an answer, or a refusal

@@ -1,11 +1,14 @@
--- A row is a message that is held, with the count of its deliveries. Rows stand in the order of their
--- places.
+-- A row is a message that is held, with the count of its deliveries: it waits, or is out to a session. Rows
+-- stand in the order of their places.
 use Rattle.std.specs.Prelude.{ℕ, ◌+◌, ◌<◌, Bool, true, false, ◌&&◌, ◌||◌, not, ◌==◌, nat_le, nat_lt, List, [], ◌∷◌, ◌++◌, filter, map, find, Option, Some, None, if◌then◌else◌}
 use Rattle.std.specs.List.{list_all}
 use Rattle.jm_base.specs.declared.mode.Mode.{Mode}
-use Rattle.jm_base.specs.declared.mode.Mode.TheVariants.{Auto}
+use Rattle.jm_base.specs.declared.mode.Mode.TheVariants.{Auto, Client, Dups}
 use Rattle.jm_header.specs.declared.content.Content.{Content}
+use Rattle.jm_dest.specs.declared.session.SessionId.{SessionId}
 use Rattle.jm_machine.specs.declared.state.Row.{Row}
+use Rattle.jm_machine.specs.declared.state.RowState.{RowState}
+use Rattle.jm_machine.specs.declared.state.RowState.TheVariants.{Waiting, Out}
 use Rattle.jm_machine.specs.declared.state.PlacedRow.{PlacedRow}
 
 -- a message is expired at a moment from its expiration on, where it has one (Jakarta Messaging 3.1,
@@ -19,15 +22,33 @@ protected m = record m { is_body_read_only = true; are_properties_read_only = tr
 
 -- the row of a message that comes
 abbrev pub fresh : Content → Row
-fresh m = record { message = m; count = 0 }
+fresh m = record { message = m; count = 0; state = Waiting }
 
--- a row is dropped at a moment at which its message is expired
+-- a state of waiting
+abbrev pub waits : RowState → Bool
+waits Waiting = true
+waits (Out s c) = false
+
+-- the row waits
+abbrev pub is_waiting : Row → Bool
+is_waiting r = waits r.state
+
+-- a state of being out, through a consumer that passes
+abbrev pub goes_out : (SessionId → ℕ → Bool) → RowState → Bool
+goes_out p Waiting = false
+goes_out p (Out s c) = p s c
+
+-- the row is out, through a consumer that passes
+abbrev pub is_out : (SessionId → ℕ → Bool) → Row → Bool
+is_out p r = goes_out p r.state
+
+-- a row that waits is dropped at a moment at which its message is expired
 abbrev pub has_lapsed : ℕ → Row → Bool
-has_lapsed now r = is_expired now r.message
+has_lapsed now r = is_waiting r && is_expired now r.message
 
--- a row may be delivered at a moment at which it has not lapsed
+-- a row that waits may be delivered at a moment at which its message is not expired
 abbrev pub is_ready : ℕ → Row → Bool
-is_ready now r = not (has_lapsed now r)
+is_ready now r = is_waiting r && not (is_expired now r.message)
 
 -- the rows that have not lapsed
 abbrev pub live : ℕ → List Row → List Row
@@ -57,11 +78,21 @@ raised n = if nat_lt n greatest_count then n + 1 else n
 -- the mode settles a message in the step that delivers it
 abbrev pub settles_at_once : Option Mode → Bool
 settles_at_once (Some Auto) = true
+settles_at_once (Some Client) = false
+settles_at_once (Some Dups) = true
 settles_at_once None = false
 
+-- a row that is delivered to the session through its consumer: out, and counted once more
+abbrev pub sent_out : SessionId → ℕ → Row → Row
+sent_out s c r = record { message = r.message; count = raised r.count; state = Out s c }
+
 -- what a delivery in that mode leaves of a row
-unfoldable pub left_of : Option Mode → Row → List Row
-left_of mode r = if settles_at_once mode then [] else record { message = r.message; count = raised r.count } ∷ []
+unfoldable pub left_of : Option Mode → SessionId → ℕ → Row → List Row
+left_of mode s c r = if settles_at_once mode then [] else sent_out s c r ∷ []
+
+-- a row that is out through a consumer that passes waits again, with its count
+abbrev pub given_back : (SessionId → ℕ → Bool) → Row → Row
+given_back p r = if is_out p r then record r { state = Waiting } else r
 
 -- other rows in place of the first that passes
 abbrev pub change_first : (Row → Bool) → (Row → List Row) → List Row → List Row

@@ -1,9 +1,9 @@
 -- Where memory may be wanted: only a call that takes memory may be told so, whatever else is told to it.
-use Rattle.std.specs.Prelude.{ℕ, Bool, true, false, not, ◌&&◌, ◌==◌, List, [], Option, Some, None, find, count_by, sum_by, is_some, is_none, Result, Err}
+use Rattle.std.specs.Prelude.{ℕ, Bool, true, false, not, ◌&&◌, ◌||◌, ◌==◌, List, [], Option, Some, None, find, count_by, sum_by, is_some, is_none, Result, Err}
+use Rattle.jm_base.specs.declared.mode.Mode.{Mode}
 use Rattle.jm_base.specs.declared.refusal.Refusal.{Refusal}
 use Rattle.jm_base.specs.declared.refusal.Refusal.TheVariants.{Memory}
 use Rattle.jm_dest.specs.declared.key.Key.{Key}
-use Rattle.jm_dest.specs.declared.session.SessionId.{SessionId}
 use Rattle.jm_machine.specs.declared.call.Who.{Who}
 use Rattle.jm_machine.specs.declared.call.Who.TheVariants.{Connection, Session}
 use Rattle.jm_machine.specs.declared.call.Request.{Request}
@@ -14,7 +14,7 @@ use Rattle.jm_machine.specs.declared.answer.Answer.{Answer}
 use Rattle.jm_machine.specs.declared.state.PlacedRow.{PlacedRow}
 use Rattle.jm_machine.specs.declared.state.Station.{Station}
 use Rattle.jm_machine.specs.Life.{connection_of, is_new_session, is_started, mode_of}
-use Rattle.jm_machine.specs.Rows.{bare, is_next, live, live_placed}
+use Rattle.jm_machine.specs.Rows.{bare, is_next, live, live_placed, settles_at_once}
 use Rattle.jm_machine.specs.Machine.{State, consumer_of, key_at, may_begin, publish_refusal, station_of}
 
 -- a reply that says that memory was wanted
@@ -30,31 +30,31 @@ next_placed now rows = find (λ x. is_next now (live now (bare rows)) x.row) (li
 abbrev pub holders_of : ℕ → List Station → ℕ
 holders_of place stations = sum_by (λ (x : Station). count_by (λ (r : PlacedRow). r.place == place) x.rows) stations
 
--- the row is not the only one that holds its message
-abbrev pub is_shared : List Station → Option PlacedRow → Bool
-is_shared stations None = false
-is_shared stations (Some x) = not (holders_of x.place stations == 1)
+-- a delivery of the row in that mode hands out a copy: the row stays, or it is not the only one that holds its message
+abbrev pub is_copied : Option Mode → List Station → Option PlacedRow → Bool
+is_copied mode stations None = false
+is_copied mode stations (Some x) = not (settles_at_once mode) || not (holders_of x.place stations == 1)
 
 -- the rows of a subscription that there is, at their places
 abbrev pub placed_rows : Option Station → List PlacedRow
 placed_rows None = []
 placed_rows (Some x) = x.rows
 
--- the next row of the key, where there is one, is not the only one that holds its message
-abbrev pub is_next_shared : ℕ → Option Key → List Station → Bool
-is_next_shared now None stations = false
-is_next_shared now (Some key) stations = is_shared stations (next_placed now (placed_rows (station_of key stations)))
+-- a delivery of the next row of the key, where there is one, hands out a copy
+abbrev pub is_next_copied : Option Mode → ℕ → Option Key → List Station → Bool
+is_next_copied mode now None stations = false
+is_next_copied mode now (Some key) stations = is_copied mode stations (next_placed now (placed_rows (station_of key stations)))
 
 -- a request takes memory where it opens a connection or a session, or makes a consumer, and none of the causes
 -- stands that are seen before: a consumer's selector is parsed, so a want of memory may come in place of its
--- refusal. A receive takes memory where it delivers a message that another row holds too, of which a copy is
--- handed out. To start and to stop takes none
+-- refusal. A receive takes memory where it hands out a copy of a message that is still held after it. To start and
+-- to stop, to close, to acknowledge and to recover takes none
 abbrev pub takes_memory : State → Who → Request → Bool
 takes_memory state (Connection c) Open = not (is_some (connection_of state.life.connections c))
 takes_memory state (Session s) (CreateSession mode) = is_new_session state.life s
 takes_memory state (Session s) (CreateConsumer c topic selector) = may_begin state.life state.consumers s c
 takes_memory state (Session s) (Receive c now) =
-    is_some (mode_of state.life s) && is_started state.life s.connection && is_next_shared now (key_at (consumer_of state.consumers s c)) state.stations
+    is_some (mode_of state.life s) && is_started state.life s.connection && is_next_copied (mode_of state.life s) now (key_at (consumer_of state.consumers s c)) state.stations
 takes_memory state _ _ = false
 
 -- memory may be wanted by a call: a request that takes it, or a publication that is not refused

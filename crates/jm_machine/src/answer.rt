@@ -25,6 +25,8 @@ pub enum Answer {
     Delivered(Delivery),
     /// There is no message to be delivered.
     Nothing,
+    /// The subscription missed so many publications; at 2^64-1 it stays.
+    Missed(u64),
 }
 
 /// What a call is told: an answer, or a refusal, after which the state is as it was.
@@ -67,6 +69,7 @@ impl Answer {
             Answer::Sent(number) => Ok(Answer::Sent(*number)),
             Answer::Delivered(delivery) => Ok(Answer::Delivered(delivery.copy()?)),
             Answer::Nothing => Ok(Answer::Nothing),
+            Answer::Missed(number) => Ok(Answer::Missed(*number)),
         }
     }
 }

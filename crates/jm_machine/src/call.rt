@@ -22,10 +22,15 @@ pub enum Request {
     Start,
     /// Stops the delivery of messages to the connection's consumers.
     Stop,
+    /// Closes the connection, and its sessions as `CloseSession` does (Jakarta Messaging 3.1, section 6.1.8).
+    CloseConnection,
     /// Opens the session in that acknowledgement mode.
     CreateSession {
         mode: Mode,
     },
+    /// Closes the session with its consumers; what is out to it waits again (Jakarta Messaging 3.1, section
+    /// 6.2.15).
+    CloseSession,
     /// Makes a consumer of the topic, with an unshared non-durable subscription of its own, to the
     /// messages that the selector's text selects, or to all where there is none.
     CreateConsumer {
@@ -33,10 +38,23 @@ pub enum Request {
         topic: Name,
         selector: Option<Str>,
     },
+    /// Closes the consumer, and ends its subscription, with all that is held for it.
+    CloseConsumer {
+        consumer: ConsumerId,
+    },
     /// Asks for the consumer's next message at that moment.
     Receive {
         consumer: ConsumerId,
         now: Moment,
+    },
+    /// Settles all that is out to the session, in mode `Client`; in any other it does nothing (Jakarta
+    /// Messaging 3.1, section 6.2.10).
+    Acknowledge,
+    /// Lets all that is out to the session wait again, in its order (Jakarta Messaging 3.1, section 6.2.10).
+    Recover,
+    /// Asks how many publications the consumer's subscription missed, since it was at its limit (ours).
+    Missed {
+        consumer: ConsumerId,
     },
 }
 
@@ -88,6 +106,16 @@ impl Request {
             Request::Open => Ok(Request::Open),
             Request::Start => Ok(Request::Start),
             Request::Stop => Ok(Request::Stop),
+            Request::CloseConnection => Ok(Request::CloseConnection),
+            Request::CloseSession => Ok(Request::CloseSession),
+            Request::CloseConsumer { consumer } => Ok(Request::CloseConsumer {
+                consumer: *consumer,
+            }),
+            Request::Acknowledge => Ok(Request::Acknowledge),
+            Request::Recover => Ok(Request::Recover),
+            Request::Missed { consumer } => Ok(Request::Missed {
+                consumer: *consumer,
+            }),
             Request::CreateSession { mode } => Ok(Request::CreateSession { mode: *mode }),
             Request::CreateConsumer {
                 consumer,

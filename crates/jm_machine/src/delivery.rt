@@ -5,7 +5,7 @@ ghost use Rattle.jm_machine.specs.Machine as machine;
 ghost use Rattle.jm_machine.specs.Rows as spec;
 
 use crate::answer::{Answer, Delivery};
-use crate::state::Row;
+use crate::state::{Row, RowState};
 use jm_dest::Moment;
 
 /// A count of deliveries, one more; from 2,147,483,647 on it stays.
@@ -20,11 +20,18 @@ fn raised(count: u32) -> u32
 }
 
 impl Row {
-    /// Whether the message is expired at that moment.
+    /// Whether the row waits, and its message is expired at that moment.
     pub fn has_lapsed(&self, now: Moment) -> bool
         ensures { result ≡ spec.has_lapsed now self.now }
     {
-        self.message.expired(now)
+        self.is_waiting() && self.message.expired(now)
+    }
+
+    /// Whether the row waits for a delivery.
+    pub fn is_waiting(&self) -> bool
+        ensures { result ≡ spec.is_waiting self.now }
+    {
+        self.state == RowState::Waiting
     }
 
     /// The message's priority where it may be delivered and that is above the given one, else the given
@@ -33,7 +40,7 @@ impl Row {
         ensures { result ≡ (if spec.is_ready now self.now && nat_lt top self.now.message.priority then self.now.message.priority else top) }
     {
         let priority = self.message.priority();
-        if !self.has_lapsed(now) && top < priority {
+        if self.is_waiting() && !self.has_lapsed(now) && top < priority {
             priority
         } else {
             top

@@ -47,8 +47,8 @@ pub fn mode_of(sessions: &[SessionState], id: &SessionId) -> Option<Mode>
     ensures { result ≡ life.open_mode (life.session_of sessions.now id.now) }
 {
     match session_of(sessions, id) {
-        Some(session) => Some(session.mode),
-        None => None,
+        Some(session) if session.is_open => Some(session.mode),
+        _ => None,
     }
 }
 
@@ -83,7 +83,10 @@ fn with_started(connection: ConnectionState, id: ConnectionId, on: bool) -> Conn
     ensures { result ≡ life.started_if id on connection }
 {
     if connection.id == id {
-        ConnectionState { id, is_started: on }
+        ConnectionState {
+            is_started: on,
+            ..connection
+        }
     } else {
         connection
     }

@@ -5,6 +5,7 @@
 
 mod answer;
 mod call;
+mod consumers;
 mod delivery;
 mod entry;
 pub mod find;
@@ -13,6 +14,9 @@ mod state;
 
 pub use answer::{Answer, Delivery, Reply, copy_reply, same_reply};
 pub use call::{Call, ClientCall, Request, Step, Who};
+pub use consumers::Consumers;
 pub use entry::Entry;
 pub use selector::copy_selector;
-pub use state::{ConnectionState, Consumer, Definition, PlacedRow, Row, SessionState, Station};
+pub use state::{
+    ConnectionState, Consumer, Definition, PlacedRow, Row, RowState, SessionState, Station,
+};

@@ -12,6 +12,8 @@ use std::alloc::{AllocError, Global};
 pub struct ConnectionState {
     pub id: ConnectionId,
     pub is_started: bool,
+    /// A connection that was closed stays known, and is not opened again.
+    pub is_open: bool,
 }
 
 /// A session that was opened.
@@ -19,6 +21,8 @@ pub struct ConnectionState {
 pub struct SessionState {
     pub id: SessionId,
     pub mode: Mode,
+    /// A session that was closed stays known, and is not opened again.
+    pub is_open: bool,
 }
 
 /// A consumer that was made.
@@ -28,6 +32,8 @@ pub struct Consumer {
     pub id: ConsumerId,
     /// What it receives from.
     pub key: Key,
+    /// A consumer that was closed stays known, and is not made again.
+    pub is_active: bool,
 }
 
 /// What a subscription asks for.
@@ -38,11 +44,21 @@ pub struct Definition {
     pub selector: Option<Str>,
 }
 
+/// Where a row is (ours).
+#[derive(Clone, Copy, Debug, PartialEq, Eq)]
+pub enum RowState {
+    /// It waits for a delivery.
+    Waiting,
+    /// It was delivered to the session through that consumer, and is not settled.
+    Out(SessionId, ConsumerId),
+}
+
 /// A message that is held for a subscription, with the count of its deliveries.
 #[derive(Debug, PartialEq, Drop)]
 pub struct Row {
     pub message: Message,
     pub count: u32,
+    pub state: RowState,
 }
 
 /// A row at the place of its publication, from 1.
@@ -57,6 +73,8 @@ pub struct PlacedRow {
 pub struct Station {
     pub key: Key,
     pub definition: Definition,
+    /// How many publications did not come to it, since it was at its limit; at 2^64-1 it stays.
+    pub missed: u64,
     pub rows: List<PlacedRow>,
 }
 
@@ -69,6 +87,7 @@ impl Consumer {
             session: self.session,
             id: self.id,
             key: self.key.copy()?,
+            is_active: self.is_active,
         })
     }
 }
@@ -111,6 +130,7 @@ impl Row {
         Ok(Row {
             message: self.message.copy()?,
             count: self.count,
+            state: self.state,
         })
     }
 }
@@ -146,6 +166,7 @@ impl Station {
         Ok(Station {
             key: self.key.copy()?,
             definition: self.definition.copy()?,
+            missed: self.missed,
             rows: List::new(rows),
         })
     }

@@ -1,8 +1,10 @@
 -- What the lanes show through each call.
-use Rattle.std.proofs.Common.{◌≡◌, Bool, false, List, [], length, map, ap, ◌∙◌, refl}
+use Rattle.std.proofs.Common.{◌≡◌, ◌<◌, ◌+◌, ◌-◌, ◌^◌, ℕ, min, Bool, false, List, [], length, map, ap, ◌∙◌, refl, arith}
 use Rattle.std.specs.List.{filter}
 use Rattle.std.proofs.lemmas.List.{map-append}
 use Rattle.std.proofs.lemmas.List.Elements.{filter-append}
+use Rattle.std.proofs.lemmas.Bool.Decides.{nat_tests}
+use Rattle.jm_machine.specs.Machine.{one_missed}
 use Rattle.jm_pending.specs.Lists.{sorted}
 use Rattle.jm_pending.specs.declared.row.Row.{Row}
 use Rattle.jm_pending.specs.Rows.{back, IsRising}
@@ -30,3 +32,7 @@ back_shown passes xs ys e =
 -- where no row passes, none is left
 pub none_left : (xs ys : List Lane) → EachBecomes (filter (λ r. false)) xs ys → all_rows ys ≡ []
 none_left xs ys e = all_rows_each (filter (λ r. false)) refl (filter-append (λ r. false)) xs ys e ∙ filter_none (all_rows xs)
+
+-- one more is missed, up to the greatest number
+pub missed_more : (n : ℕ) → n < 2 ^ 64 → min (n + 1) (2 ^ 64 - 1) ≡ one_missed n
+missed_more n l = grind (arith, nat_tests, l)

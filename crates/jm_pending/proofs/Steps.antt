@@ -5,12 +5,14 @@ use Rattle.std.proofs.lemmas.List.{take-append-le, drop-append-le, length-map, t
 use Rattle.std.proofs.lemmas.Bool.Decides.{nat_tests}
 use Rattle.std.proofs.lemmas.List.Elements.{All-nil, All-head, All-tail, All-filter, All-map, All-weaker, All-set, All-push, All-drop}
 use Rattle.jm_pending.specs.declared.row.Row.{Row}
-use Rattle.jm_pending.specs.declared.row.State.{State}
+use Rattle.jm_machine.specs.declared.state.RowState.{RowState}
+use Rattle.jm_machine.specs.declared.state.RowState.TheVariants.{Waiting, Out}
+use Rattle.jm_machine.specs.Rows.{waits, goes_out}
+use Rattle.jm_machine.specs.Machine.{are_meant, of_number}
 use Rattle.jm_pending.specs.declared.row.Outs.{Outs}
-use Rattle.jm_pending.specs.declared.row.Outs.TheVariants.{To, Through}
+use Rattle.jm_pending.specs.declared.row.Outs.TheVariants.{Of, Through}
 use Rattle.jm_dest.specs.declared.session.SessionId.{SessionId}
-use Rattle.jm_pending.specs.declared.row.State.TheVariants.{Waiting, Out}
-use Rattle.jm_pending.specs.Rows.{sent, sent_at, is_waiting, is_among, keeps, stays, back, waits, goes_to, goes_through}
+use Rattle.jm_pending.specs.Rows.{sent, sent_at, is_waiting, is_among, keeps, stays, back}
 use Rattle.jm_pending.specs.Lanes.{IsLane, IsBound}
 use Rattle.jm_pending.proofs.Rising.{rising-filter, rising-map, rising-push, set_sent}
 
@@ -62,13 +64,9 @@ back_priority p r = elim (p r) as (λ b. (cond b (record r { state = Waiting }) 
 pub back_expiration : (p : Row → Bool) (r : Row) → (back p r).expiration ≡ r.expiration
 back_expiration p r = elim (p r) as (λ b. (cond b (record r { state = Waiting }) r).expiration ≡ r.expiration) [ true ↦ refl | false ↦ refl ]
 
-not_to : (s : SessionId) (st : State) → waits st ≡ true → goes_to s st ≡ false
-not_to s Waiting h = refl
-not_to s (Out t c) h = absurd (cc)
-
-not_through : (s : SessionId) (c : ℕ) (st : State) → waits st ≡ true → goes_through s c st ≡ false
-not_through s c Waiting h = refl
-not_through s c (Out t d) h = absurd (cc)
+not_out : (p : SessionId → ℕ → Bool) (st : RowState) → waits st ≡ true → goes_out p st ≡ false
+not_out p Waiting h = refl
+not_out p (Out t d) h = absurd (cc)
 
 both_false : (a b : Bool) → b ≡ false → (a && b) ≡ false
 both_false true b e = e
@@ -76,8 +74,8 @@ both_false false b e = refl
 
 -- a row that waits is not among those that are out
 pub not_among : (outs : Outs) (r : Row) → is_waiting r ≡ true → is_among outs r ≡ false
-not_among (To s) r w = not_to s r.state w
-not_among (Through s c p) r w = both_false (r.place == p) (goes_through s c r.state) (not_through s c r.state w)
+not_among (Of which) r w = not_out (are_meant which) r.state w
+not_among (Through s c p) r w = both_false (r.place == p) (goes_out (of_number s c) r.state) (not_out (of_number s c) r.state w)
 
 -- rows that wait are kept
 pub waiting_kept : (outs : Outs) (rs : List Row) → All (λ r. is_waiting r ≡ true) rs → All (λ r. keeps outs r ≡ true) rs

@@ -37,7 +37,7 @@ content_of t r = message_or_none (message_of t r.place)
 
 -- a row with its message, at its place
 abbrev pub placed : Messages → Row → PlacedRow
-placed t r = record { place = r.place; row = record { message = content_of t r; count = r.count } }
+placed t r = record { place = r.place; row = record { message = content_of t r; count = r.count; state = r.state } }
 
 -- rows with their messages, which is what callers see
 abbrev pub all_placed : Messages → List Row → List PlacedRow

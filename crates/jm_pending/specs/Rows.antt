@@ -1,14 +1,14 @@
 -- Rows that a subscription holds, each for a message, and which of them is delivered next.
-use Rattle.std.specs.Prelude.{ℕ, ◌+◌, ◌<◌, ◌==◌, nat_lt, nat_le, Bool, true, false, not, ◌&&◌, ◌||◌, if◌then◌else◌, List, [], ◌∷◌, Option, Some, None, All, find}
+use Rattle.std.specs.Prelude.{ℕ, ◌+◌, ◌<◌, ◌==◌, nat_lt, nat_le, Bool, false, not, ◌&&◌, ◌||◌, if◌then◌else◌, List, [], ◌∷◌, Option, Some, None, All, find}
 use Rattle.std.specs.List.{list_all}
 use Rattle.jm_dest.specs.declared.session.SessionId.{SessionId}
-use Rattle.jm_dest.specs.Names.{session_eq}
 use Rattle.jm_header.specs.declared.content.Content.{Content}
+use Rattle.jm_machine.specs.declared.state.RowState.TheVariants.{Waiting, Out}
+use Rattle.jm_machine.specs.Rows.{waits, goes_out}
+use Rattle.jm_machine.specs.Machine.{are_meant, of_number}
 use Rattle.jm_pending.specs.declared.row.Row.{Row}
-use Rattle.jm_pending.specs.declared.row.State.{State}
-use Rattle.jm_pending.specs.declared.row.State.TheVariants.{Waiting, Out}
 use Rattle.jm_pending.specs.declared.row.Outs.{Outs}
-use Rattle.jm_pending.specs.declared.row.Outs.TheVariants.{To, Through}
+use Rattle.jm_pending.specs.declared.row.Outs.TheVariants.{Of, Through}
 
 -- the row of a message that was delivered so often, at its place: it waits
 abbrev pub waiting : ℕ → Content → ℕ → Row
@@ -18,36 +18,21 @@ waiting place m count = record { place = place; count = count; state = Waiting; 
 abbrev pub fresh : ℕ → Content → Row
 fresh place m = waiting place m 0
 
--- a state of waiting
-abbrev pub waits : State → Bool
-waits Waiting = true
-waits (Out s c) = false
-
 -- the row waits
 abbrev pub is_waiting : Row → Bool
 is_waiting r = waits r.state
 
--- a state of being out to the session
-abbrev pub goes_to : SessionId → State → Bool
-goes_to session Waiting = false
-goes_to session (Out s c) = session_eq s session
+-- the row is out, through a consumer that passes
+abbrev pub is_out : (SessionId → ℕ → Bool) → Row → Bool
+is_out p r = goes_out p r.state
 
--- the row is out to the session
-abbrev pub is_out_to : SessionId → Row → Bool
-is_out_to session r = goes_to session r.state
-
--- a state of being out through the session's consumer of that number
-abbrev pub goes_through : SessionId → ℕ → State → Bool
-goes_through session consumer Waiting = false
-goes_through session consumer (Out s c) = session_eq s session && (c == consumer)
-
--- the row at the place is out through that consumer
+-- the row at the place is out through the session's consumer of that number
 abbrev pub is_out_through : SessionId → ℕ → ℕ → Row → Bool
-is_out_through session consumer place r = (r.place == place) && goes_through session consumer r.state
+is_out_through session consumer place r = (r.place == place) && is_out (of_number session consumer) r
 
 -- the row is one of those
 abbrev pub is_among : Outs → Row → Bool
-is_among (To session) r = is_out_to session r
+is_among (Of which) r = is_out (are_meant which) r
 is_among (Through session consumer place) r = is_out_through session consumer place r
 
 -- the row is none of those

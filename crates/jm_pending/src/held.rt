@@ -2,6 +2,7 @@
 
 ghost use Rattle.std.specs.Prelude.{◌≡◌, ℕ, ◌+◌, ◌-◌, ◌^◌, ◌<◌, ◌≤◌, [], ◌∷◌, ◌++◌, length, slice_get, All, find, filter, map, min, not, true, false, None, Some, IfSome, IfOk, OnOk, MatchOption};
 ghost use Rattle.jm_dest.specs.Numbers.{long_end};
+ghost use Rattle.jm_machine.specs.Machine.{are_meant, one_missed};
 ghost use Rattle.jm_pending.specs.declared.row.Row.{Row};
 ghost use Rattle.jm_pending.specs.Rows as spec;
 ghost use Rattle.jm_pending.specs.Holders.{Covers, Follows, holders_of, last_message};
@@ -12,6 +13,7 @@ use crate::row::{Outs, Row};
 use crate::table::Table;
 use jm_dest::{ConsumerId, Moment, SessionId};
 use jm_header::Message;
+use jm_machine::Consumers;
 use std::alloc::{AllocError, Global};
 use std::marker::Model;
 
@@ -158,6 +160,7 @@ impl Held {
 
     /// Adds a row behind all others, which holds its message in the table. At the limit it is missed
     /// instead. Takes no memory, since room was reserved.
+    #[tactic(auto, using(crate::proofs::Shown::missed_more))]
     pub fn add(&mut self, table: &mut Table, row: Row)
         requires room { 0 < self.old.room }
         requires place { row.place < long_end }
@@ -167,7 +170,7 @@ impl Held {
         requires there { 0 < holders_of table.old row.place }
         requires fits { holders_of table.old row.place < 2 ^ 64 - 1 }
         ensures missed { spec.is_at_limit self.old.limit (length self.old.rows) ≡ true →
-            self.new ≡ record self.old { missed = min (self.old.missed + 1) (2 ^ 64 - 1) } }
+            self.new ≡ record self.old { missed = one_missed self.old.missed } }
         ensures added { spec.is_at_limit self.old.limit (length self.old.rows) ≡ false →
             self.new ≡ record self.old { rows = self.old.rows ++ row ∷ []; room = self.old.room - 1 } }
         ensures table { Follows table.old table.new self.old.rows self.new.rows }
@@ -239,13 +242,13 @@ impl Held {
         })
     }
 
-    /// The rows that are out to the session go. Takes no memory.
-    pub fn settle(&mut self, table: &mut Table, session: SessionId)
+    /// The rows that are out through one of those consumers go. Takes no memory.
+    pub fn settle(&mut self, table: &mut Table, which: &Consumers)
         requires { Covers table.old self.old.rows }
-        ensures rows { self.new ≡ record self.old { rows = filter (λ r. not (spec.is_out_to session r)) self.old.rows } }
+        ensures rows { self.new ≡ record self.old { rows = filter (λ r. not (spec.is_out (are_meant which.now) r)) self.old.rows } }
         ensures table { Follows table.old table.new self.old.rows self.new.rows }
     {
-        lanes::settle(&mut self.lanes, table, &Outs::To(session));
+        lanes::settle(&mut self.lanes, table, &Outs::Of(*which));
     }
 
     /// The row at that place goes, where it is out through that consumer of the session. Takes no
@@ -272,12 +275,12 @@ impl Held {
         );
     }
 
-    /// The rows that are out to the session wait again, at their places and with their counts. Takes no
-    /// memory.
-    pub fn give_back(&mut self, session: SessionId)
-        ensures { self.new ≡ record self.old { rows = map (spec.back (spec.is_out_to session)) self.old.rows } }
+    /// The rows that are out through one of those consumers wait again, at their places and with their counts. Takes
+    /// no memory.
+    pub fn give_back(&mut self, which: &Consumers)
+        ensures { self.new ≡ record self.old { rows = map (spec.back (spec.is_out (are_meant which.now))) self.old.rows } }
     {
-        lanes::give_back(&mut self.lanes, &Outs::To(session));
+        lanes::give_back(&mut self.lanes, &Outs::Of(*which));
     }
 
     /// The row at that place waits again, where it is out through that consumer of the session. Takes

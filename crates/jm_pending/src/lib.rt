@@ -11,5 +11,5 @@ mod table;
 mod walks;
 
 pub use held::{Held, Taken};
-pub use row::{Row, State};
+pub use row::Row;
 pub use table::Table;

@@ -1,25 +1,14 @@
 //! Rows, and what is asked of one alone.
 
 ghost use Rattle.std.specs.Prelude.{◌≡◌, ◌<◌, ◌≤◌};
-ghost use Rattle.jm_dest.specs.Names.{session_eq};
+ghost use Rattle.jm_machine.specs.Machine.{are_meant};
 ghost use Rattle.jm_pending.specs.Rows as spec;
 ghost use Rattle.jm_pending.specs.Lanes as by_lane;
 ghost use Rattle.jm_pending.specs.Lanes.{IsBound};
 
 use jm_dest::{ConsumerId, Moment, SessionId};
 use jm_header::Message;
-
-/// Where a row is (ours).
-#[derive(Clone, Copy, Debug, PartialEq, Eq)]
-pub enum State {
-    /// It waits for a delivery.
-    Waiting,
-    /// It was delivered, and is not yet settled.
-    Out {
-        session: SessionId,
-        consumer: ConsumerId,
-    },
-}
+use jm_machine::{Consumers, RowState};
 
 /// A row that a subscription holds for a message of the table (ours).
 #[derive(Clone, Copy, Debug, PartialEq, Eq)]
@@ -28,24 +17,18 @@ pub struct Row {
     pub place: u64,
     /// How often the row was delivered, at most 2,147,483,647.
     pub count: u32,
-    pub state: State,
+    pub state: RowState,
     /// The message's JMSPriority, from 0 to 9.
     pub priority: u8,
     /// The message's JMSExpiration, where 0 means that it does not expire.
     pub expiration: Moment,
 }
 
-/// Rows that are out: all to a session, or the one at a place through a session's consumer.
+/// Rows that are out: all through consumers that are meant, or the one at a place through a session's consumer.
 #[derive(Clone, Copy)]
 pub(crate) enum Outs {
-    To(SessionId),
+    Of(Consumers),
     Through(SessionId, ConsumerId, u64),
-}
-
-fn same_session(a: SessionId, b: SessionId) -> bool
-    ensures { result ≡ session_eq a b }
-{
-    a.connection == b.connection && a.number == b.number
 }
 
 /// A count of deliveries, one more; from 2,147,483,647 on it stays.
@@ -76,7 +59,7 @@ impl Row {
         Row {
             place,
             count,
-            state: State::Waiting,
+            state: RowState::Waiting,
             priority: message.priority(),
             expiration: message.expiration(),
         }
@@ -87,26 +70,18 @@ impl Row {
         ensures { result ≡ spec.is_waiting self.now }
     {
         match self.state {
-            State::Waiting => true,
-            State::Out { .. } => false,
+            RowState::Waiting => true,
+            RowState::Out(_, _) => false,
         }
     }
 
-    fn goes_to(&self, to: SessionId) -> bool
-        ensures { result ≡ spec.is_out_to to self.now }
+    /// Whether the row is out through one of those consumers.
+    fn is_out(&self, which: &Consumers) -> bool
+        ensures { result ≡ spec.is_out (are_meant which.now) self.now }
     {
         match self.state {
-            State::Waiting => false,
-            State::Out { session, .. } => same_session(session, to),
-        }
-    }
-
-    fn goes_through(&self, to: SessionId, through: ConsumerId) -> bool
-        ensures { result ≡ spec.goes_through to through self.now.state }
-    {
-        match self.state {
-            State::Waiting => false,
-            State::Out { session, consumer } => same_session(session, to) && consumer == through,
+            RowState::Waiting => false,
+            RowState::Out(session, consumer) => which.include(&session, consumer),
         }
     }
 
@@ -115,9 +90,9 @@ impl Row {
         ensures { result ≡ spec.is_among outs.now self.now }
     {
         match *outs {
-            Outs::To(session) => self.goes_to(session),
+            Outs::Of(which) => self.is_out(&which),
             Outs::Through(session, consumer, place) => {
-                self.place == place && self.goes_through(session, consumer)
+                self.place == place && self.is_out(&Consumers::One(session, consumer))
             }
         }
     }
@@ -189,7 +164,7 @@ impl Row {
         ensures { result ≡ spec.sent session consumer self }
     {
         Row {
-            state: State::Out { session, consumer },
+            state: RowState::Out(session, consumer),
             ..self.counted()
         }
     }
@@ -200,7 +175,7 @@ impl Row {
     {
         if self.is_among(outs) {
             Row {
-                state: State::Waiting,
+                state: RowState::Waiting,
                 ..self
             }
         } else {

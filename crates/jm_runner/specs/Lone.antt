@@ -9,7 +9,7 @@ use Rattle.jm_machine.specs.declared.answer.Answer.{Answer}
 use Rattle.jm_machine.specs.declared.call.ClientCall.{ClientCall}
 use Rattle.jm_scenario.specs.Key.{key_of_text}
 use Rattle.jm_scenario.specs.Lines.{line}
-use Rattle.jm_runner.specs.Play.{GivesCalls, IsRun, RefusesScenario, status_of}
+use Rattle.jm_runner.specs.Play.{GivesCalls, IsRun, RefusesScenario, held_limit, status_of}
 use Rattle.jm_runner.specs.declared.fault.KeyFault.{KeyFault}
 use Rattle.jm_runner.specs.declared.fault.KeyFault.TheVariants as cause
 use Rattle.jm_runner.specs.declared.fault.Fault.{Fault}
@@ -42,11 +42,11 @@ lines_at numbers (placed ∷ replies) = line_at numbers placed ++ lines_at numbe
 
 -- the lines of what the key's subscription answers alone, over the record of the run in opening 1
 abbrev pub lines_alone : Key → List ClientCall → List (Result Answer Refusal) → List ℕ
-lines_alone key calls replies = lines_at (numbers_from 1 1 calls replies) (alone key (new_core 1) (entries_of 1 calls replies))
+lines_alone key calls replies = lines_at (numbers_from 1 1 calls replies) (alone key (new_core 1 held_limit) (entries_of 1 calls replies))
 
 -- the text spells the key of an unshared subscription
 abbrev pub IsKey : List ℕ → Key → Type 0
-IsKey text key = (key_of_text text ≡ Some key) × (is_unshared key (new_core 1) ≡ true)
+IsKey text key = (key_of_text text ≡ Some key) × (is_unshared key (new_core 1 held_limit) ≡ true)
 
 -- what is printed is the lines of the key's subscription alone, over a run of the calls that a source gives, and the exit status is that of the run
 abbrev pub TellsLone : {R : Type 0} → (R → Option (List ℕ)) → List ℕ → Source R → Source R → List ℕ → ℕ → Type 0
@@ -63,14 +63,14 @@ RefusesText text _ = ⊥
 
 -- why a key gives no lines: it is none of an unshared subscription, or memory is refused
 abbrev pub RefusesKey : Key → Fault → Type 0
-RefusesKey key (fault.Key cause.NotUnshared) = is_unshared key (new_core 1) ≡ false
+RefusesKey key (fault.Key cause.NotUnshared) = is_unshared key (new_core 1 held_limit) ≡ false
 RefusesKey key fault.Memory = Unit {0}
 RefusesKey key _ = ⊥
 
 -- the text spells no key, or the key that it spells is none of an unshared subscription
 abbrev pub HasKeyFault : List ℕ → KeyFault → Type 0
 HasKeyFault text cause.Syntax = key_of_text text ≡ None
-HasKeyFault text cause.NotUnshared = (key : Key) × (key_of_text text ≡ Some key) × (is_unshared key (new_core 1) ≡ false)
+HasKeyFault text cause.NotUnshared = (key : Key) × (key_of_text text ≡ Some key) × (is_unshared key (new_core 1 held_limit) ≡ false)
 
 -- why nothing is told of a subscription: why the source gives no calls, or why memory is refused; and where it gives some, the fault of the key
 abbrev pub RefusesLone : {R : Type 0} → (R → Option (List ℕ)) → List ℕ → Source R → Source R → Fault → Type 0

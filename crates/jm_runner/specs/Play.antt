@@ -41,9 +41,13 @@ RefusesScenario remaining old new (fault.Scenario refusal) = (bytes : List ℕ) 
 RefusesScenario remaining old new fault.Memory = has_failed new ≡ has_failed old
 RefusesScenario remaining old new _ = ⊥
 
--- the replies are those that a run owes to the calls, made in turn on a new provider in opening 1
+-- how many rows a subscription may hold that is not durable (ours)
+abbrev pub held_limit : ℕ
+held_limit = 100000
+
+-- the replies are those that a run owes to the calls, made in turn on a new provider in opening 1, with that limit
 abbrev pub IsRun : List ClientCall → List (Result Answer Refusal) → Type 0
-IsRun calls replies = (end : Progress) × RunOwed (begun (new_core 1)) calls replies end
+IsRun calls replies = (end : Progress) × RunOwed (begun (new_core 1 held_limit)) calls replies end
 
 -- the provider found no memory for a call, or its store failed
 abbrev pub is_shortage : Result Answer Refusal → Bool

@@ -20,12 +20,15 @@ use std::io::{Read, Write};
 /// The number of the only opening of a provider that keeps nothing.
 pub(crate) const OPENING: u32 = 1;
 
+/// How many rows a subscription may hold that is not durable (ours).
+pub(crate) const HELD_LIMIT: u32 = 100_000;
+
 /// The replies to the calls, made in turn on a new provider. `AllocError` where a request for memory
 /// was refused.
 pub(crate) fn run(alloc: Global, calls: Vec<ClientCall>) -> Result<Vec<Reply>, AllocError>
     ensures { IfOk result (λ replies. IsRun calls.items replies.items) }
 {
-    match Core::new(alloc, OPENING) {
+    match Core::new(alloc, OPENING, HELD_LIMIT) {
         Ok(mut core) => core.run(calls),
         Err(_) => Err(AllocError),
     }

@@ -6,13 +6,13 @@ ghost use Rattle.jm_scenario.specs.Key.{key_of_text};
 ghost use Rattle.jm_runner.specs.Ending.{Ends, ToldBy};
 ghost use Rattle.jm_runner.specs.Lone as spec;
 ghost use Rattle.jm_runner.specs.Lone.{RefusesLone, TellsLone};
-ghost use Rattle.jm_runner.specs.Play.{GivesCalls, IsRun, RefusesScenario};
+ghost use Rattle.jm_runner.specs.Play.{GivesCalls, IsRun, RefusesScenario, held_limit};
 ghost use Rattle.jm_runner.specs.Source.{reads, reads_max};
 
 use crate::ending::{Ending, Printout, ended};
 use crate::fault::{Fault, KeyFault};
 use crate::reading::calls_of;
-use crate::scenario::{OPENING, run, status_of};
+use crate::scenario::{HELD_LIMIT, OPENING, run, status_of};
 use crate::sink::Sink;
 use crate::source::Source;
 use jm_core::Core;
@@ -137,9 +137,9 @@ fn lines_from(
     calls: &[ClientCall],
     replies: &[Reply],
 ) -> Result<String, Fault>
-    requires { state_of opening.now ≡ new_core 1 }
+    requires { state_of opening.now ≡ new_core 1 held_limit }
     ensures ok { IfOk result (λ lines. (string_bytes lines ≡ spec.lines_alone key.now calls.now replies.now)
-        × (is_unshared key.now (new_core 1) ≡ true)) }
+        × (is_unshared key.now (new_core 1 held_limit) ≡ true)) }
     ensures err { IfErr result (spec.RefusesKey key.now) }
 {
     let numbers = numbers(opening.opening(), alloc, calls, replies)?;
@@ -159,10 +159,10 @@ fn lines_alone(
     replies: &[Reply],
 ) -> Result<String, Fault>
     ensures ok { IfOk result (λ lines. (string_bytes lines ≡ spec.lines_alone key.now calls.now replies.now)
-        × (is_unshared key.now (new_core 1) ≡ true)) }
+        × (is_unshared key.now (new_core 1 held_limit) ≡ true)) }
     ensures err { IfErr result (spec.RefusesKey key.now) }
 {
-    let Ok(opening) = Core::new(alloc, OPENING) else {
+    let Ok(opening) = Core::new(alloc, OPENING, HELD_LIMIT) else {
         return Err(Fault::Memory);
     };
     lines_from(alloc, &opening, key, calls, replies)

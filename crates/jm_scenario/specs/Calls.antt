@@ -1,4 +1,4 @@
--- The calls that a scenario spells (ours).
+-- The calls that a scenario spells, and its limit of held rows (ours).
 use Rattle.std.specs.Prelude.{ℕ, List, [], ◌∷◌, Option, Some, None, option_map, option_and_then, codes}
 use Rattle.serde_json.specs.Data.{Data, Items, no_items, item}
 use Rattle.serde_json.specs.Find.{get, as_str, as_array}
@@ -12,13 +12,23 @@ use Rattle.jm_machine.specs.declared.call.ClientCall.TheVariants as call
 use Rattle.jm_scenario.specs.Drafts.{draft}
 use Rattle.jm_scenario.specs.Fields.{operation_named, is_known}
 use Rattle.jm_scenario.specs.Reading.{where_true}
-use Rattle.jm_scenario.specs.Values.{number, session, mode, name, moment, required, optional}
+use Rattle.jm_scenario.specs.Values.{number, limit, session, mode, name, moment, required, optional}
 use Rattle.jm_scenario.specs.declared.field.Owner.{Owner}
-use Rattle.jm_scenario.specs.declared.field.Owner.TheVariants.{Scenario, Open, Start, Stop, Session, Consumer, Send, Receive}
+use Rattle.jm_scenario.specs.declared.field.Owner.TheVariants.{Scenario as Outer, Open, Start, Stop, CloseConnection, Session, CloseSession, Acknowledge, Recover, Consumer, CloseConsumer, Missed, Send, Receive}
+use Rattle.jm_scenario.specs.declared.scenario.Scenario.{Scenario}
 
 -- a call by the connection of the record
 abbrev pub connection_call : Request → Data → Option ClientCall
 connection_call request value = option_map (λ c. call.Ask (OfConnection c) request) (required number (codes "c") value)
+
+-- a call by the session of the record
+abbrev pub session_request : Request → Data → Option ClientCall
+session_request request value = option_map (λ s. call.Ask (OfSession s) request) (required session (codes "s") value)
+
+-- a call by the session of the record, about its consumer
+abbrev pub consumer_request : (ℕ → Request) → Data → Option ClientCall
+consumer_request request value =
+    option_and_then (λ s. option_map (λ k. call.Ask (OfSession s) (request k)) (required number (codes "k") value)) (required session (codes "s") value)
 
 -- a new session of that mode
 abbrev pub session_call : Data → Option ClientCall
@@ -46,12 +56,18 @@ send_call value =
 
 -- the call of that operation, whatever other fields stand
 abbrev pub call_as : Owner → Data → Option ClientCall
-call_as Scenario value = None
+call_as Outer value = None
 call_as Open value = connection_call request.Open value
 call_as Start value = connection_call request.Start value
 call_as Stop value = connection_call request.Stop value
+call_as CloseConnection value = connection_call request.CloseConnection value
 call_as Session value = session_call value
+call_as CloseSession value = session_request request.CloseSession value
+call_as Acknowledge value = session_request request.Acknowledge value
+call_as Recover value = session_request request.Recover value
 call_as Consumer value = consumer_call value
+call_as CloseConsumer value = consumer_request request.CloseConsumer value
+call_as Missed value = consumer_request request.Missed value
 call_as Send value = send_call value
 call_as Receive value = receive_call value
 
@@ -68,11 +84,13 @@ abbrev pub calls_of_items : Items → Option (List ClientCall)
 calls_of_items no_items = Some []
 calls_of_items (item value items) = option_and_then (λ first. option_map (λ rest. first ∷ rest) (calls_of_items items)) (call_of value)
 
--- the calls that a value spells: of its array `calls`, which stands alone
-abbrev pub calls : Data → Option (List ClientCall)
-calls value = option_and_then (λ items. where_true (is_known Scenario value) (calls_of_items items))
-    (option_and_then as_array (get (codes "calls") value))
+-- the scenario that a value spells: the calls of its array `calls`, with the limit of the field `held` where it
+-- stands, and no other field
+abbrev pub scenario : Data → Option Scenario
+scenario value = option_and_then (λ items. option_and_then (λ held. where_true (is_known Outer value)
+    (option_map (λ calls. record { held = held; calls = calls }) (calls_of_items items)))
+    (optional limit (codes "held") value)) (option_and_then as_array (get (codes "calls") value))
 
--- the calls that a JSON text spells
-abbrev pub calls_of_text : List ℕ → Option (List ClientCall)
-calls_of_text text = option_and_then calls (read text)
+-- the scenario that a JSON text spells
+abbrev pub scenario_of_text : List ℕ → Option Scenario
+scenario_of_text text = option_and_then scenario (read text)

@@ -9,11 +9,12 @@ use Rattle.jm_scenario.specs.declared.field.Field.TheVariants as field
 use Rattle.jm_scenario.specs.declared.field.FieldName.{FieldName}
 use Rattle.jm_scenario.specs.declared.field.FieldName.TheVariants.{Known, Unknown}
 use Rattle.jm_scenario.specs.declared.field.Owner.{Owner}
-use Rattle.jm_scenario.specs.declared.field.Owner.TheVariants.{Scenario, Open, Start, Stop, Session, Consumer, Send, Receive}
+use Rattle.jm_scenario.specs.declared.field.Owner.TheVariants.{Scenario, Open, Start, Stop, CloseConnection, Session, CloseSession, Acknowledge, Recover, Consumer, CloseConsumer, Missed, Send, Receive}
 
 -- the name of a field
 abbrev pub field_name : Field → List ℕ
 field_name field.Calls = codes "calls"
+field_name field.Held = codes "held"
 field_name field.Operation = codes "op"
 field_name field.Connection = codes "c"
 field_name field.Session = codes "s"
@@ -43,10 +44,16 @@ operation_named text =
     if bytes_eq text (codes "open") then Some Open else
     (if bytes_eq text (codes "start") then Some Start else
     (if bytes_eq text (codes "stop") then Some Stop else
+    (if bytes_eq text (codes "close-connection") then Some CloseConnection else
     (if bytes_eq text (codes "session") then Some Session else
+    (if bytes_eq text (codes "close-session") then Some CloseSession else
+    (if bytes_eq text (codes "acknowledge") then Some Acknowledge else
+    (if bytes_eq text (codes "recover") then Some Recover else
     (if bytes_eq text (codes "consumer") then Some Consumer else
+    (if bytes_eq text (codes "close-consumer") then Some CloseConsumer else
+    (if bytes_eq text (codes "missed") then Some Missed else
     (if bytes_eq text (codes "send") then Some Send else
-    (if bytes_eq text (codes "receive") then Some Receive else None))))))
+    (if bytes_eq text (codes "receive") then Some Receive else None))))))))))))
 
 -- the name of a field of a draft
 abbrev pub is_draft_field : List ℕ → Bool
@@ -56,13 +63,19 @@ is_draft_field name =
 
 -- a scenario or a call has a field of that name
 abbrev pub has : Owner → List ℕ → Bool
-has Scenario name = bytes_eq name (codes "calls")
+has Scenario name = bytes_eq name (codes "calls") || bytes_eq name (codes "held")
 has Open name = bytes_eq name (codes "op") || bytes_eq name (codes "c")
 has Start name = bytes_eq name (codes "op") || bytes_eq name (codes "c")
 has Stop name = bytes_eq name (codes "op") || bytes_eq name (codes "c")
+has CloseConnection name = bytes_eq name (codes "op") || bytes_eq name (codes "c")
 has Session name = bytes_eq name (codes "op") || bytes_eq name (codes "s") || bytes_eq name (codes "mode")
+has CloseSession name = bytes_eq name (codes "op") || bytes_eq name (codes "s")
+has Acknowledge name = bytes_eq name (codes "op") || bytes_eq name (codes "s")
+has Recover name = bytes_eq name (codes "op") || bytes_eq name (codes "s")
 has Consumer name = bytes_eq name (codes "op") || bytes_eq name (codes "s") || bytes_eq name (codes "k") || bytes_eq name (codes "topic")
     || bytes_eq name (codes "selector")
+has CloseConsumer name = bytes_eq name (codes "op") || bytes_eq name (codes "s") || bytes_eq name (codes "k")
+has Missed name = bytes_eq name (codes "op") || bytes_eq name (codes "s") || bytes_eq name (codes "k")
 has Send name = bytes_eq name (codes "op") || bytes_eq name (codes "s") || bytes_eq name (codes "topic") || bytes_eq name (codes "now")
     || is_draft_field name
 has Receive name = bytes_eq name (codes "op") || bytes_eq name (codes "s") || bytes_eq name (codes "k") || bytes_eq name (codes "now")

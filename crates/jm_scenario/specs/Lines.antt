@@ -8,7 +8,7 @@ use Rattle.jm_header.specs.MessageIds.{message_id}
 use Rattle.jm_header.specs.declared.body.Body.{Body}
 use Rattle.jm_header.specs.declared.body.Body.TheVariants.{None as NoBody, Text, Bytes}
 use Rattle.jm_machine.specs.declared.answer.Answer.{Answer}
-use Rattle.jm_machine.specs.declared.answer.Answer.TheVariants.{Done, Sent, Delivered, Nothing}
+use Rattle.jm_machine.specs.declared.answer.Answer.TheVariants.{Done, Sent, Delivered, Nothing, Missed}
 use Rattle.jm_machine.specs.declared.answer.Delivery.{Delivery}
 
 -- a body: `none`, or its text as a JSON string, or its bytes in lower-case hexadecimal
@@ -37,6 +37,7 @@ reply_text (Ok Done) = codes "ok"
 reply_text (Ok (Sent number)) = codes "sent " ++ decimal number
 reply_text (Ok (Delivered delivery)) = delivery_text delivery
 reply_text (Ok Nothing) = codes "none"
+reply_text (Ok (Missed number)) = codes "missed " ++ decimal number
 reply_text (Err refusal) = codes "refused " ++ refusal_name refusal
 
 -- the line of a reply: the number of its call, a space, the reply and a line feed

@@ -1,10 +1,10 @@
 -- What the value of a field spells (ours).
-use Rattle.std.specs.Prelude.{ℕ, ◌^◌, ◌&&◌, nat_le, nat_lt, pos, negsuc, ℤ, List, Option, Some, None, option_map, option_and_then, codes}
+use Rattle.std.specs.Prelude.{ℕ, ◌^◌, ◌&&◌, nat_le, nat_lt, pos, negsuc, ℤ, List, Option, Some, None, option_map, option_and_then, if◌then◌else◌, codes}
 use Rattle.std.specs.Str.{bytes_eq}
 use Rattle.serde_json.specs.Data.{Data, Items, no_items, item}
 use Rattle.serde_json.specs.Find.{get, as_number, as_u64, as_i64, as_str, as_array}
 use Rattle.jm_base.specs.declared.mode.Mode.{Mode}
-use Rattle.jm_base.specs.declared.mode.Mode.TheVariants.{Auto}
+use Rattle.jm_base.specs.declared.mode.Mode.TheVariants.{Auto, Client, Dups}
 use Rattle.jm_dest.specs.Names.{is_name}
 use Rattle.jm_dest.specs.declared.session.SessionId.{SessionId}
 use Rattle.jm_scenario.specs.Reading.{where_true}
@@ -16,6 +16,10 @@ within n = where_true (nat_le 1 n && nat_lt n (2 ^ 32)) (Some n)
 -- such a number
 abbrev pub number : Data → Option ℕ
 number value = option_and_then within (option_and_then as_u64 (as_number value))
+
+-- a limit of held rows: 1 to 1,000,000
+abbrev pub limit : Data → Option ℕ
+limit value = option_and_then (λ n. where_true (nat_le 1 n && nat_le n 1000000) (Some n)) (option_and_then as_u64 (as_number value))
 
 -- a session, of the numbers of its connection and of itself
 abbrev pub session_of_numbers : Option ℕ → Option ℕ → Option SessionId
@@ -33,7 +37,10 @@ session value = option_and_then session_of_items (as_array value)
 
 -- an acknowledgement mode, by its name
 abbrev pub mode_named : List ℕ → Option Mode
-mode_named name = where_true (bytes_eq name (codes "auto")) (Some Auto)
+mode_named name =
+    if bytes_eq name (codes "auto") then Some Auto else
+    (if bytes_eq name (codes "client") then Some Client else
+    (if bytes_eq name (codes "dups") then Some Dups else None))
 
 -- an acknowledgement mode
 abbrev pub mode : Data → Option Mode

@@ -31,6 +31,14 @@ fn by_connection(object: &Value, request: Request) -> Result<ClientCall, Misfit>
     Ok(ClientCall::Ask { who, request })
 }
 
+/// A call by the session of the object.
+fn by_session(object: &Value, request: Request) -> Result<ClientCall, Misfit>
+    ensures { ReadsExactly result (spec.session_request request (view object.now)) }
+{
+    let who = Who::Session(session(object)?);
+    Ok(ClientCall::Ask { who, request })
+}
+
 fn create_session(object: &Value) -> Result<ClientCall, Misfit>
     ensures { ReadsExactly result (spec.session_call (view object.now)) }
 {
@@ -52,6 +60,24 @@ fn create_consumer(alloc: Global, object: &Value) -> Result<ClientCall, Misfit>
         topic,
         selector,
     };
+    Ok(ClientCall::Ask { who, request })
+}
+
+fn close_consumer(object: &Value) -> Result<ClientCall, Misfit>
+    ensures { ReadsExactly result (spec.consumer_request Request.CloseConsumer (view object.now)) }
+{
+    let who = Who::Session(session(object)?);
+    let consumer = consumer(object)?;
+    let request = Request::CloseConsumer { consumer };
+    Ok(ClientCall::Ask { who, request })
+}
+
+fn missed(object: &Value) -> Result<ClientCall, Misfit>
+    ensures { ReadsExactly result (spec.consumer_request Request.Missed (view object.now)) }
+{
+    let who = Who::Session(session(object)?);
+    let consumer = consumer(object)?;
+    let request = Request::Missed { consumer };
     Ok(ClientCall::Ask { who, request })
 }
 
@@ -90,8 +116,14 @@ fn call_as(alloc: Global, object: &Value, operation: Owner) -> Result<ClientCall
         Owner::Open => by_connection(object, Request::Open),
         Owner::Start => by_connection(object, Request::Start),
         Owner::Stop => by_connection(object, Request::Stop),
+        Owner::CloseConnection => by_connection(object, Request::CloseConnection),
         Owner::Session => create_session(object),
+        Owner::CloseSession => by_session(object, Request::CloseSession),
+        Owner::Acknowledge => by_session(object, Request::Acknowledge),
+        Owner::Recover => by_session(object, Request::Recover),
         Owner::Consumer => create_consumer(alloc, object),
+        Owner::CloseConsumer => close_consumer(object),
+        Owner::Missed => missed(object),
         Owner::Send => send(alloc, object),
         Owner::Receive => receive(object),
     }

@@ -13,9 +13,11 @@ use std::fmt;
 pub enum Field {
     /// The calls of the scenario, in order.
     Calls,
+    /// How many rows a subscription that is not durable may hold.
+    Held,
     /// Which call it is.
     Operation,
-    /// The number of the connection that is opened, started or stopped.
+    /// The number of the connection that is opened, started, stopped or closed.
     Connection,
     /// The session of the call: the number of its connection, and its own.
     Session,
@@ -64,8 +66,14 @@ pub(crate) enum Owner {
     Open,
     Start,
     Stop,
+    CloseConnection,
     Session,
+    CloseSession,
+    Acknowledge,
+    Recover,
     Consumer,
+    CloseConsumer,
+    Missed,
     Send,
     Receive,
 }
@@ -77,6 +85,7 @@ impl Field {
     {
         match self {
             Field::Calls => "calls",
+            Field::Held => "held",
             Field::Operation => "op",
             Field::Connection => "c",
             Field::Session => "s",
@@ -130,8 +139,14 @@ impl Owner {
             "open" => Some(Owner::Open),
             "start" => Some(Owner::Start),
             "stop" => Some(Owner::Stop),
+            "close-connection" => Some(Owner::CloseConnection),
             "session" => Some(Owner::Session),
+            "close-session" => Some(Owner::CloseSession),
+            "acknowledge" => Some(Owner::Acknowledge),
+            "recover" => Some(Owner::Recover),
             "consumer" => Some(Owner::Consumer),
+            "close-consumer" => Some(Owner::CloseConsumer),
+            "missed" => Some(Owner::Missed),
             "send" => Some(Owner::Send),
             "receive" => Some(Owner::Receive),
             _ => None,
@@ -143,10 +158,16 @@ impl Owner {
         ensures { result ≡ spec.has self name.now }
     {
         match self {
-            Owner::Scenario => matches!(name, "calls"),
-            Owner::Open | Owner::Start | Owner::Stop => matches!(name, "op" | "c"),
+            Owner::Scenario => matches!(name, "calls" | "held"),
+            Owner::Open | Owner::Start | Owner::Stop | Owner::CloseConnection => {
+                matches!(name, "op" | "c")
+            }
             Owner::Session => matches!(name, "op" | "s" | "mode"),
+            Owner::CloseSession | Owner::Acknowledge | Owner::Recover => {
+                matches!(name, "op" | "s")
+            }
             Owner::Consumer => matches!(name, "op" | "s" | "k" | "topic" | "selector"),
+            Owner::CloseConsumer | Owner::Missed => matches!(name, "op" | "s" | "k"),
             Owner::Send => matches!(name, "op" | "s" | "topic" | "now") || is_draft_field(name),
             Owner::Receive => matches!(name, "op" | "s" | "k" | "now"),
         }

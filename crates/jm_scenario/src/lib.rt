@@ -13,4 +13,4 @@ mod value;
 pub use field::{Field, FieldName};
 pub use key::read_key;
 pub use lines::{write_replies, write_reply};
-pub use scenario::{ScenarioFault, read_scenario};
+pub use scenario::{Scenario, ScenarioFault, read_scenario};

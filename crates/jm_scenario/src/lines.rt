@@ -60,6 +60,7 @@ fn reply_text(alloc: Global, reply: &Reply) -> Result<String, AllocError>
         Ok(Answer::Done) => String::from_str(alloc, "ok"),
         Ok(Answer::Sent(number)) => format!(in alloc; "sent {number}"),
         Ok(Answer::Nothing) => String::from_str(alloc, "none"),
+        Ok(Answer::Missed(number)) => format!(in alloc; "missed {number}"),
         Ok(Answer::Delivered(delivery)) => delivery_text(alloc, delivery),
         Err(refusal) => format!(in alloc; "refused {refusal}"),
     }

@@ -5,11 +5,22 @@ ghost use Rattle.jm_scenario.specs.Calls as spec;
 use crate::call::call;
 use crate::field::{Field, FieldName, Owner, not_known, unknown};
 use crate::misfit::Misfit;
+use crate::value::held;
+use jm_base::List;
 use jm_machine::ClientCall;
 use serde_json::{Category, Value};
 use std::alloc::{AllocError, AllocFailed, Global};
 use std::fmt;
 use thiserror::Error;
+
+/// What a scenario asks for (ours).
+#[derive(PartialEq, Drop)]
+pub struct Scenario {
+    /// How many rows a subscription that is not durable may hold, where the scenario says it: 1 to 1,000,000.
+    pub held: Option<u32>,
+    /// The calls, in order.
+    pub calls: List<ClientCall>,
+}
 
 /// Why bytes are no scenario (ours). Steps are the numbers of calls, from 1; step 0 is the outer
 /// object.
@@ -99,28 +110,34 @@ fn calls(alloc: Global, records: &[Value]) -> Result<Vec<ClientCall>, ScenarioFa
     Ok(calls)
 }
 
-/// The calls that the value spells, in order.
-fn scenario(alloc: Global, value: &Value) -> Result<Vec<ClientCall>, ScenarioFault>
-    ensures { MatchResult result (λ calls. spec.calls (view value.now) ≡ Some calls.items) (λ fault. fault ≢ ScenarioFault.Memory → spec.calls (view value.now) ≡ None) }
+/// The scenario that the value spells.
+fn scenario_of(alloc: Global, value: &Value) -> Result<Scenario, ScenarioFault>
+    ensures { MatchResult result (λ scenario. spec.scenario (view value.now) ≡ Some scenario)
+        (λ fault. fault ≢ ScenarioFault.Memory → spec.scenario (view value.now) ≡ None) }
 {
     let Some(records) = value.get("calls").and_then(Value::as_array) else {
         return Err(fault_at(0, Misfit::Shape(Field::Calls)));
     };
+    let held = match held(value) {
+        Ok(held) => held,
+        Err(misfit) => return Err(fault_at(0, misfit)),
+    };
     if let Some(name) = unknown(value, Owner::Scenario) {
         return Err(fault_at(0, not_known(alloc, name)));
     }
-    calls(alloc, records)
+    let calls = List::new(calls(alloc, records)?);
+    Ok(Scenario { held, calls })
 }
 
-/// The calls of a scenario, in order. `Syntax` where the bytes are no JSON; else the first fault of
+/// The scenario that the bytes spell. `Syntax` where the bytes are no JSON; else the first fault of
 /// the outer object, else of the first call that has one, in the order of its fields; or `Memory`
 /// where a request for memory was refused.
-pub fn read_scenario(alloc: Global, bytes: &[u8]) -> Result<Vec<ClientCall>, ScenarioFault>
-    ensures ok { IfOk result (λ calls. IsUtf8 bytes.now × (spec.calls_of_text bytes.now ≡ Some calls.items)) }
-    ensures err { IfErr result (λ fault. fault ≢ ScenarioFault.Memory → IsUtf8 bytes.now → spec.calls_of_text bytes.now ≡ None) }
+pub fn read_scenario(alloc: Global, bytes: &[u8]) -> Result<Scenario, ScenarioFault>
+    ensures ok { IfOk result (λ scenario. IsUtf8 bytes.now × (spec.scenario_of_text bytes.now ≡ Some scenario)) }
+    ensures err { IfErr result (λ fault. fault ≢ ScenarioFault.Memory → IsUtf8 bytes.now → spec.scenario_of_text bytes.now ≡ None) }
 {
     match Value::from_slice(alloc, bytes) {
-        Ok(value) => scenario(alloc, &value),
+        Ok(value) => scenario_of(alloc, &value),
         Err(error) => match error.classify() {
             Category::Memory => Err(ScenarioFault::Memory),
             _ => Err(ScenarioFault::Syntax),

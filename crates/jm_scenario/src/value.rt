@@ -131,6 +131,8 @@ pub(crate) fn mode(object: &Value) -> Result<Mode, Misfit>
     let value = required(object, Field::Mode)?;
     match text(value, Field::Mode)? {
         "auto" => Ok(Mode::Auto),
+        "client" => Ok(Mode::Client),
+        "dups" => Ok(Mode::Dups),
         _ => Err(Misfit::Shape(Field::Mode)),
     }
 }
@@ -201,6 +203,26 @@ pub(crate) fn selector(alloc: Global, object: &Value) -> Result<Option<Str>, Mis
 {
     match optional_text(object, Field::Selector)? {
         Some(text) => Ok(Some(Str::new(String::from_str(alloc, text)?))),
+        None => Ok(None),
+    }
+}
+
+/// A limit of held rows: 1 to 1,000,000.
+fn limit(value: &Value) -> Result<u32, Misfit>
+    ensures { ReadsExactly result (spec.limit (view value.now)) }
+{
+    match value.as_u64() {
+        Some(number) if 1 <= number && number <= 1_000_000 => Ok(number as u32),
+        _ => Err(misfit(value, Field::Held)),
+    }
+}
+
+/// The limit of the field `held`, where it stands.
+pub(crate) fn held(object: &Value) -> Result<Option<u32>, Misfit>
+    ensures { ReadsExactly result (spec.optional spec.limit (codes "held") (view object.now)) }
+{
+    match optional(object, Field::Held) {
+        Some(value) => Ok(Some(limit(value)?)),
         None => Ok(None),
     }
 }

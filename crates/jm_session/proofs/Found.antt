@@ -1,11 +1,11 @@
 -- What is found by number, and what an insertion adds.
-use Rattle.std.proofs.Common.{◌≡◌, ◌<◌, ℕ, zero, suc, length, Bool, true, false, cond, List, [], ◌∷◌, ◌++◌, Option, None, Some, refl, sym, ap, ◌∙◌, subst, arith, Result, Ok, Err, OnOk, OnErr}
+use Rattle.std.proofs.Common.{◌≡◌, ◌<◌, ℕ, length, Bool, true, false, cond, List, [], ◌∷◌, ◌++◌, Option, None, Some, refl, sym, ap, ◌∙◌, subst, arith, Result, Ok, Err, OnOk, OnErr}
 use Rattle.std.specs.Prelude.{◌==◌, ◌&&◌, find, position, nat_lt, is_some, not}
-use Rattle.std.specs.List.{IsDistinct, AllByRecursion, position_or_len}
+use Rattle.std.specs.List.{position_or_len}
 use Rattle.std.proofs.lemmas.Bool.Decides.{nat_tests}
-use Rattle.std.specs.Map.{lookup, keys_of, values_of}
+use Rattle.std.specs.Map.{lookup, values_of}
 use Rattle.std.proofs.lemmas.Bool.{eqb-true, eq-eqb}
-use Rattle.indexmap.specs.IndexMap.{IndexMap, insert_entry, values, set_value_at}
+use Rattle.indexmap.specs.IndexMap.{IndexMap, insert_entry, values}
 use Rattle.indexmap.proofs.CallerLemmas.{insert_entry-new}
 use Rattle.jm_dest.specs.declared.session.SessionId.{SessionId}
 use Rattle.jm_dest.specs.Names.{session_eq}
@@ -13,7 +13,7 @@ use Rattle.jm_machine.specs.declared.state.ConnectionState.{ConnectionState}
 use Rattle.jm_machine.specs.declared.state.SessionState.{SessionState}
 use Rattle.jm_machine.specs.declared.call.Who.TheVariants.{Connection}
 use Rattle.jm_machine.specs.declared.call.Request.TheVariants.{Open}
-use Rattle.jm_machine.specs.Life.{Life, connection_of, life_after, session_of, with_started}
+use Rattle.jm_machine.specs.Life.{Life, connection_of, life_after, session_of}
 use Rattle.jm_session.specs.declared.number.ConsumerNumber.{ConsumerNumber}
 use Rattle.jm_session.specs.Numbers.{IsNumbered}
 
@@ -70,64 +70,15 @@ module _ {K V : Type 0} where
   numbered-added number (x ∷ entries) k v e h = (h.0, numbered-added number entries k v e h.1)
 
 -- what an index that was looked for says
-found_at : {A : Type 0} (p : A → Bool) (xs : List A) (i : ℕ) → position p xs ≡ Some i → (position_or_len p xs ≡ i) × (i < length xs)
+pub found_at : {A : Type 0} (p : A → Bool) (xs : List A) (i : ℕ) → position p xs ≡ Some i → (position_or_len p xs ≡ i) × (i < length xs)
 found_at {A} p xs i h = go (position_or_len p xs) (length xs) (nat_lt (position_or_len p xs) (length xs)) refl h
   where
     go : (n m : ℕ) (b : Bool) → nat_lt n m ≡ b → cond b (Some n) None ≡ Some i → (n ≡ i) × (i < m)
     go n m true e h = let same : n ≡ i = cc in (same, grind (arith, nat_tests))
     go n m false e h = cc
 
--- a number that nothing else has
-others_stay : (c : ℕ) (on : Bool) (k : ℕ) (entries : List (ℕ × ConnectionState)) → c ≡ k → IsNumbered (λ x. x.id) entries → AllByRecursion (λ y. (k == y) ≡ false) (keys_of entries) →
-    with_started c on (values_of entries) ≡ values_of entries
-others_stay c on k [] e h d = refl
-others_stay c on k (x ∷ entries) e h d =
-    let apart : (x.1.id == c) ≡ false = num_sym x.1.id c ∙ (λ i. e i == sym h.0 i) ∙ d.0 in
-    λ i. cond (apart i) (record { id = x.1.id; is_started = on }) x.1 ∷ others_stay c on k entries e h.1 d.1 i
-
--- a connection that is set where it stands is started or stopped, and no other
-set_at : (c : ℕ) (on : Bool) (entries : List (ℕ × ConnectionState)) (at : ℕ) → IsNumbered (λ x. x.id) entries → IsDistinct (λ a b. a == b) (keys_of entries) → position_or_len (λ k. c == k) (keys_of entries) ≡ at → at < length (keys_of entries) →
-    (values_of (set_value_at entries at (record { id = c; is_started = on })) ≡ with_started c on (values_of entries))
-    × IsNumbered (λ x. x.id) (set_value_at entries at (record { id = c; is_started = on }))
-unfolding IsDistinct
-set_at c on [] at h d is within = absurd (omega arith)
-set_at c on (e ∷ entries) zero h d is within = by (c == e.0) refl
-  where
-    by : (b : Bool) → (c == e.0) ≡ b →
-        (values_of (set_value_at (e ∷ entries) zero (record { id = c; is_started = on })) ≡ with_started c on (values_of (e ∷ entries)))
-        × IsNumbered (λ x. x.id) (set_value_at (e ∷ entries) zero (record { id = c; is_started = on }))
-    by true this =
-        let same : c ≡ e.0 = eqb-true c e.0 this in
-        let own : (e.1.id == c) ≡ true = eq-eqb e.1.id c (sym (same ∙ h.0)) in (
-          (λ i. record { id = (same ∙ h.0) i; is_started = on } ∷ sym (others_stay c on e.0 entries same h.1 d.0) i)
-              ∙ sym (ap (λ b. cond b (record { id = e.1.id; is_started = on }) e.1 ∷ with_started c on (values_of entries)) own),
-          (sym same, h.1),
-        )
-    by false this = absurd (omega (arith, rw this at is))
-set_at c on (e ∷ entries) (suc at) h d is within = by (c == e.0) refl (set_at c on entries at h.1 d.1)
-  where
-    by : (b : Bool) → (c == e.0) ≡ b →
-        (position_or_len (λ k. c == k) (keys_of entries) ≡ at → at < length (keys_of entries) → (values_of (set_value_at entries at (record { id = c; is_started = on })) ≡ with_started c on (values_of entries)) × IsNumbered (λ x. x.id) (set_value_at entries at (record { id = c; is_started = on }))) →
-        (values_of (set_value_at (e ∷ entries) (suc at) (record { id = c; is_started = on })) ≡ with_started c on (values_of (e ∷ entries)))
-        × IsNumbered (λ x. x.id) (set_value_at (e ∷ entries) (suc at) (record { id = c; is_started = on }))
-    by true this later = absurd (omega (arith, rw this at is))
-    by false this later =
-        let other : (e.1.id == c) ≡ false = num_sym e.1.id c ∙ (λ i. c == sym h.0 i) ∙ this in
-        let there : position_or_len (λ k. c == k) (keys_of entries) ≡ at = omega (arith, rw this at is) in
-        let rest = later there (omega arith) in (
-          ap (λ t. e.1 ∷ t) rest.0 ∙ sym (ap (λ b. cond b (record { id = e.1.id; is_started = on }) e.1 ∷ with_started c on (values_of entries)) other),
-          (h.0, rest.1),
-        )
-
--- the same, where the number was looked for
-pub set_found : (c : ℕ) (on : Bool) (entries : List (ℕ × ConnectionState)) (at : ℕ) → IsNumbered (λ x. x.id) entries → IsDistinct (λ a b. a == b) (keys_of entries) → position (λ k. c == k) (keys_of entries) ≡ Some at →
-    (values_of (set_value_at entries at (record { id = c; is_started = on })) ≡ with_started c on (values_of entries))
-    × IsNumbered (λ x. x.id) (set_value_at entries at (record { id = c; is_started = on }))
-set_found c on entries at h d is =
-    let place = found_at (λ k. c == k) (keys_of entries) at is in
-    set_at c on entries at h d place.0 place.1
-
-nothing : {A : Type 0} (o : Option A) → is_some o ≡ false → o ≡ None
+-- what is not there is nothing
+pub nothing : {A : Type 0} (o : Option A) → is_some o ≡ false → o ≡ None
 nothing None h = refl
 nothing (Some x) h = cc
 
@@ -138,19 +89,6 @@ module _ {K V S : Type 0} (eq : K → K → Bool) (symmetric : (a b : K) → eq 
   added old new k v e h absent is =
       let all : new.entries ≡ old.entries ++ (k, v) ∷ [] = is ∙ insert_entry-new eq old k v (found eq symmetric number old.entries k h ∙ nothing (find (λ x. eq (number x) k) (values old)) absent) in
       (ap values_of all ∙ values-added old.entries k v, subst (IsNumbered number) (sym all) (numbered-added number old.entries k v e h))
-
--- a connection that is set where it stands is started or stopped, and no other
-pub connection_set : (c : ℕ) (on : Bool) (entries : List (ℕ × ConnectionState)) (at : ℕ) → IsNumbered (λ x. x.id) entries → IsDistinct (λ a b. a == b) (keys_of entries) → position (λ k. c == k) (keys_of entries) ≡ Some at →
-    values_of (set_value_at entries at (record { id = c; is_started = on })) ≡ with_started c on (values_of entries)
-connection_set c on entries at h d is = (set_found c on entries at h d is).0
-
--- and each still stands under its number
-pub connection_stays_numbered : (c : ℕ) (on : Bool) (entries : List (ℕ × ConnectionState)) (at : ℕ) → IsNumbered (λ x. x.id) entries → IsDistinct (λ a b. a == b) (keys_of entries) → position (λ k. c == k) (keys_of entries) ≡ Some at →
-    IsNumbered (λ x. x.id) (set_value_at entries at (record { id = c; is_started = on }))
-connection_stays_numbered c on entries at h d is = (set_found c on entries at h d is).1
-
--- what setting a connection says
-pub ruleset setting = (connection_found, connection_set, connection_stays_numbered)
 
 -- a connection of a new number stands last
 connection_last : {S : Type 0} (old : IndexMap ℕ ConnectionState S) (k : ℕ) (v : ConnectionState) → IsNumbered (λ x. x.id) old.entries → is_some (connection_of (values old) k) ≡ false →
@@ -169,11 +107,11 @@ connection_added_numbered old k v same h absent = subst (IsNumbered (λ x. x.id)
 
 -- the life after a connection was opened
 pub life_opened : {S : Type 0} (old new : IndexMap ℕ ConnectionState S) (sessions : List SessionState) (k : ℕ) → IsNumbered (λ x. x.id) old.entries → is_some (connection_of (values old) k) ≡ false →
-    new.entries ≡ insert_entry (λ a b. a == b) old.entries k (record { id = k; is_started = false }) →
+    new.entries ≡ insert_entry (λ a b. a == b) old.entries k (record { id = k; is_started = false; is_open = true }) →
     record { connections = values new; sessions = sessions } ≡ life_after (record { connections = values old; sessions = sessions }) (Connection k) Open
 unfolding life_after
 life_opened old new sessions k h absent is =
-    ap (λ xs. record { connections = xs; sessions = sessions }) (ap values_of is ∙ connection_added old k (record { id = k; is_started = false }) h absent)
+    ap (λ xs. record { connections = xs; sessions = sessions }) (ap values_of is ∙ connection_added old k (record { id = k; is_started = false; is_open = true }) h absent)
 
 -- a life of these connections and sessions
 abbrev pub life_of : List ConnectionState → List SessionState → Life

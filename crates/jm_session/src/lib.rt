@@ -3,6 +3,7 @@
 //! there are.
 #![tactic(auto)]
 
+mod closing;
 mod number;
 mod one;
 mod sends;

@@ -1,20 +1,21 @@
 //! What was opened and made, by number.
 
-ghost use Rattle.std.specs.Prelude.{◌≡◌, ◌+◌, ◌<◌, ◌≤◌, ◌&&◌, ◌++◌, [], ◌∷◌, true, not, is_ok, is_some, option_to_list, IfOk, IfErr, OnOk, OnErr, Some, None, if◌then◌else◌};
+ghost use Rattle.std.specs.Prelude.{◌≡◌, ◌+◌, ◌<◌, ◌≤◌, ◌++◌, [], ◌∷◌, map, true, not, is_ok, is_some, option_to_list, IfOk, IfErr, OnOk, OnErr, Some, None, if◌then◌else◌};
 ghost use Rattle.std.specs.Option.{option_copied};
 ghost use Rattle.jm_base.specs.declared.refusal.Refusal.TheVariants.{IllegalState};
 ghost use Rattle.jm_machine.specs.declared.call.Who.TheVariants.{Connection, Session};
-ghost use Rattle.jm_machine.specs.declared.call.Request.TheVariants.{Open, Start, Stop, CreateSession};
+ghost use Rattle.jm_machine.specs.declared.call.Request.TheVariants.{Open, Start, Stop, CloseConnection, CreateSession, CloseSession};
 ghost use Rattle.jm_machine.specs.Life as life;
 ghost use Rattle.jm_machine.specs.Machine as machine;
 ghost use Rattle.jm_session.specs.Known.{cause, life_set, may_receive};
 
+use crate::closing::{close_consumer, close_consumers, close_session, close_sessions};
 use crate::number::ConsumerNumber;
 use crate::one::{one_connection, one_consumer, one_session};
 use indexmap::IndexMap;
 use jm_base::{Mode, Refusal};
 use jm_dest::{ConnectionId, ConsumerId, Key, SessionId};
-use jm_machine::{ConnectionState, Consumer, SessionState};
+use jm_machine::{ConnectionState, Consumer, Consumers, SessionState};
 use std::alloc::{AllocError, Global};
 use std::marker::Model;
 
@@ -131,6 +132,26 @@ impl Sessions {
         self.connection_of(id).is_some()
     }
 
+    /// Whether the connection of that number is open.
+    pub fn is_open_connection(&self, id: ConnectionId) -> bool
+        ensures { result ≡ life.is_open_connection (life.connection_of self.now.life.connections id) }
+    {
+        match self.connection_of(id) {
+            Some(connection) => connection.is_open,
+            None => false,
+        }
+    }
+
+    /// Whether the connection of that number was opened, and is closed.
+    pub fn is_closed_connection(&self, id: ConnectionId) -> bool
+        ensures { result ≡ life.is_closed_connection (life.connection_of self.now.life.connections id) }
+    {
+        match self.connection_of(id) {
+            Some(connection) => !connection.is_open,
+            None => false,
+        }
+    }
+
     /// Whether the connection of that number is started.
     pub fn is_started(&self, id: ConnectionId) -> bool
         ensures { result ≡ life.is_started self.now.life id }
@@ -154,8 +175,8 @@ impl Sessions {
         ensures { result ≡ life.mode_of self.now.life id.now }
     {
         match self.session_of(id) {
-            Some(session) => Some(session.mode),
-            None => None,
+            Some(session) if session.is_open => Some(session.mode),
+            _ => None,
         }
     }
 
@@ -170,7 +191,7 @@ impl Sessions {
     pub fn is_new_session(&self, id: &SessionId) -> bool
         ensures { result ≡ life.is_new_session self.now.life id.now }
     {
-        self.is_used(id.connection) && self.session_of(id).is_none()
+        self.is_open_connection(id.connection) && self.session_of(id).is_none()
     }
 
     /// The session's consumer of that number, where it was made.
@@ -181,6 +202,16 @@ impl Sessions {
             session: *session,
             consumer: id,
         })
+    }
+
+    /// Whether the session's consumer of that number is active.
+    pub fn is_active(&self, session: &SessionId, id: ConsumerId) -> bool
+        ensures { result ≡ machine.is_active (machine.consumer_of self.now.consumers session.now id) }
+    {
+        match self.consumer_of(session, id) {
+            Some(consumer) => consumer.is_active,
+            None => false,
+        }
     }
 
     /// Whether the session's consumer of that number may be made: the session is open, and the number
@@ -196,7 +227,26 @@ impl Sessions {
     pub fn may_receive(&self, session: &SessionId, id: ConsumerId) -> bool
         ensures { result ≡ may_receive self.now.life self.now.consumers session.now id }
     {
-        self.is_open(session) && self.consumer_of(session, id).is_some()
+        self.is_open(session) && self.is_active(session, id)
+    }
+
+    /// Whether the session may be closed: it was opened, or its connection is closed.
+    pub fn may_close_session(&self, id: &SessionId) -> bool
+        ensures { result ≡ machine.may_close_session self.now.life id.now }
+    {
+        self.session_of(id).is_some() || self.is_closed_connection(id.connection)
+    }
+
+    /// Whether the session's consumer of that number may be closed: it was made in the session, which is
+    /// open, or the session is closed.
+    pub fn may_close_consumer(&self, session: &SessionId, id: ConsumerId) -> bool
+        ensures { result ≡ machine.may_close_consumer self.now.life self.now.consumers session.now id }
+    {
+        if self.is_open(session) {
+            self.consumer_of(session, id).is_some()
+        } else {
+            self.session_of(session).is_some()
+        }
     }
 
     /// Makes room, so that the next `n` calls take no memory. `AllocError` where a request for memory
@@ -229,6 +279,7 @@ impl Sessions {
         let connection = ConnectionState {
             id,
             is_started: false,
+            is_open: true,
         };
         let Ok(_) = self.connections.insert(id, connection) else {
             return Err(Refusal::Memory);
@@ -239,7 +290,7 @@ impl Sessions {
     /// Starts the connection. `IllegalState` where it is not open. Takes no memory.
     #[tactic(auto, unfolding(jm_machine::specs::Life::life_after))]
     pub fn start(&mut self, id: ConnectionId) -> Result<(), Refusal>
-        ensures ok { is_ok result ≡ is_some (life.connection_of self.old.life.connections id) }
+        ensures ok { is_ok result ≡ life.is_open_connection (life.connection_of self.old.life.connections id) }
         ensures refused { IfErr result (λ refusal. refusal ≡ IllegalState) }
         ensures life { self.new.life ≡ (if is_ok result then life.life_after self.old.life (Connection id) Start else self.old.life) }
         ensures consumers { self.new.consumers ≡ self.old.consumers }
@@ -251,7 +302,7 @@ impl Sessions {
     /// Stops the connection. `IllegalState` where it is not open. Takes no memory.
     #[tactic(auto, unfolding(jm_machine::specs::Life::life_after))]
     pub fn stop(&mut self, id: ConnectionId) -> Result<(), Refusal>
-        ensures ok { is_ok result ≡ is_some (life.connection_of self.old.life.connections id) }
+        ensures ok { is_ok result ≡ life.is_open_connection (life.connection_of self.old.life.connections id) }
         ensures refused { IfErr result (λ refusal. refusal ≡ IllegalState) }
         ensures life { self.new.life ≡ (if is_ok result then life.life_after self.old.life (Connection id) Stop else self.old.life) }
         ensures consumers { self.new.consumers ≡ self.old.consumers }
@@ -261,9 +312,8 @@ impl Sessions {
     }
 
     /// Starts or stops the connection, where it is open.
-    #[tactic(auto, using(crate::proofs::Found::setting))]
     fn set_started(&mut self, id: ConnectionId, on: bool) -> Result<(), Refusal>
-        ensures ok { is_ok result ≡ is_some (life.connection_of self.old.life.connections id) }
+        ensures ok { is_ok result ≡ life.is_open_connection (life.connection_of self.old.life.connections id) }
         ensures refused { IfErr result (λ refusal. refusal ≡ IllegalState) }
         ensures life { self.new.life ≡ (if is_ok result then life_set self.old.life id on else self.old.life) }
         ensures consumers { self.new.consumers ≡ self.old.consumers }
@@ -272,7 +322,32 @@ impl Sessions {
         let Some(at) = self.connections.get_index_of(&id) else {
             return Err(Refusal::IllegalState);
         };
-        self.connections[at] = ConnectionState { id, is_started: on };
+        if !self.connections[at].is_open {
+            return Err(Refusal::IllegalState);
+        }
+        self.connections[at].is_started = on;
+        Ok(())
+    }
+
+    /// Closes the connection, its sessions and their consumers, which stay known. `IllegalState` where it
+    /// was never opened; closing a closed one does nothing. Takes no memory. It walks over the sessions and
+    /// the consumers.
+    pub fn close_connection(&mut self, id: ConnectionId) -> Result<(), Refusal>
+        ensures ok { is_ok result ≡ is_some (life.connection_of self.old.life.connections id) }
+        ensures refused { IfErr result (λ refusal. refusal ≡ IllegalState) }
+        ensures life { self.new.life ≡ (if is_ok result then life.life_after self.old.life (Connection id) CloseConnection else self.old.life) }
+        ensures consumers { self.new.consumers ≡
+            (if is_ok result then map (machine.closed_consumer (machine.of_connection id)) self.old.consumers else self.old.consumers) }
+        ensures spare { self.old.spare ≤ self.new.spare }
+    {
+        let Some(at) = self.connections.get_index_of(&id) else {
+            return Err(Refusal::IllegalState);
+        };
+        let connection = &mut self.connections[at];
+        connection.is_started = false;
+        connection.is_open = false;
+        close_sessions(&mut self.sessions, id);
+        close_consumers(&mut self.consumers, &Consumers::OfConnection(id));
         Ok(())
     }
 
@@ -291,10 +366,34 @@ impl Sessions {
         if !self.is_new_session(id) {
             return Err(Refusal::IllegalState);
         }
-        match self.sessions.insert(*id, SessionState { id: *id, mode }) {
+        let session = SessionState {
+            id: *id,
+            mode,
+            is_open: true,
+        };
+        match self.sessions.insert(*id, session) {
             Ok(_) => Ok(()),
             Err(_) => Err(Refusal::Memory),
         }
+    }
+
+    /// Closes the session and its consumers, which stay known. `IllegalState` where it was never opened,
+    /// unless its connection is closed; closing a closed one does nothing. Takes no memory. It walks over
+    /// the consumers.
+    pub fn close_session(&mut self, id: &SessionId) -> Result<(), Refusal>
+        ensures ok { is_ok result ≡ machine.may_close_session self.old.life id.now }
+        ensures refused { IfErr result (λ refusal. refusal ≡ IllegalState) }
+        ensures life { self.new.life ≡ (if is_ok result then life.life_after self.old.life (Session id.now) CloseSession else self.old.life) }
+        ensures consumers { self.new.consumers ≡
+            (if is_ok result then map (machine.closed_consumer (machine.of_session id.now)) self.old.consumers else self.old.consumers) }
+        ensures spare { self.old.spare ≤ self.new.spare }
+    {
+        if !self.may_close_session(id) {
+            return Err(Refusal::IllegalState);
+        }
+        close_session(&mut self.sessions, id);
+        close_consumers(&mut self.consumers, &Consumers::OfSession(*id));
+        Ok(())
     }
 
     /// Makes the session's consumer of that number, which receives from the key. `IllegalState` where it
@@ -320,10 +419,33 @@ impl Sessions {
             session: *session,
             id,
             key,
+            is_active: true,
         };
         match self.consumers.insert(number, consumer) {
             Ok(_) => Ok(()),
             Err(_) => Err(Refusal::Memory),
         }
+    }
+
+    /// Closes the session's consumer of that number, which stays known. `IllegalState` where it was never
+    /// made in the session, which is open, or the session was never opened; closing a closed one does
+    /// nothing. Takes no memory.
+    pub fn close_consumer(&mut self, session: &SessionId, id: ConsumerId) -> Result<(), Refusal>
+        ensures ok { is_ok result ≡ machine.may_close_consumer self.old.life self.old.consumers session.now id }
+        ensures refused { IfErr result (λ refusal. refusal ≡ IllegalState) }
+        ensures life { self.new.life ≡ self.old.life }
+        ensures consumers { self.new.consumers ≡
+            (if is_ok result then map (machine.closed_consumer (machine.of_number session.now id)) self.old.consumers else self.old.consumers) }
+        ensures spare { self.old.spare ≤ self.new.spare }
+    {
+        if !self.may_close_consumer(session, id) {
+            return Err(Refusal::IllegalState);
+        }
+        let number = ConsumerNumber {
+            session: *session,
+            consumer: id,
+        };
+        close_consumer(&mut self.consumers, number);
+        Ok(())
     }
 }

@@ -84,7 +84,7 @@ rows_copied (h ∷ lists) = ap (λ xs. h.rows ∷ xs) (rows_copied lists)
 pub copied_kept : (t : Messages) (place : ℕ) (lists : List Held) → IsKept t lists place → IsKept t (map without_room lists) place
 copied_kept t place lists w = record {
   counted = rw (rows_copied lists) w.counted;
-  each = All-map (IsBacklog t place) without_room lists (All-weaker (IsBacklog t place) (λ (h : Held). IsBacklog t place (without_room h)) (λ h b. record { below = b.below; waiting = b.waiting; own = b.own }) lists w.each);
+  each = All-map (IsBacklog t place) without_room lists (All-weaker (IsBacklog t place) (λ (h : Held). IsBacklog t place (without_room h)) (λ h b. record { below = b.below; own = b.own }) lists w.each);
   places = w.places;
 }
 

@@ -1,79 +1,84 @@
 -- A delivery from rows over their table is the machine's delivery from the rows as callers see them.
-use Rattle.std.proofs.Common.{◌≡◌, ◌≢◌, ℕ, ◌<◌, ◌==◌, List, [], ◌∷◌, Bool, true, false, not, ◌&&◌, ◌||◌, nat_le, cond, Option, Some, None, refl, ap, sym, ◌∙◌, arith, option_map}
+use Rattle.std.proofs.Common.{◌≡◌, ◌≢◌, ℕ, ◌<◌, ◌==◌, List, [], ◌∷◌, ◌++◌, map, Bool, true, false, not, ◌&&◌, ◌||◌, nat_le, cond, Option, Some, None, refl, ap, sym, ◌∙◌, arith, option_map}
 use Rattle.std.specs.List.{filter, find, list_all, All}
 use Rattle.std.specs.Option.{IfSome, MatchOption}
 use Rattle.std.proofs.lemmas.Bool.{eq-eqb, ne_eqb}
-use Rattle.std.proofs.lemmas.List.Elements.{All-nil, All-cons, All-head, All-tail, All-filter, All-weaker}
-use Rattle.jm_base.specs.declared.mode.Mode.TheVariants.{Auto}
+use Rattle.std.proofs.lemmas.List.{map-append}
+use Rattle.std.proofs.lemmas.List.Elements.{All-head, All-tail, All-filter, All-weaker}
+use Rattle.jm_dest.specs.declared.session.SessionId.{SessionId}
 use Rattle.jm_machine.specs.declared.state.Row.{Row as MachineRow}
 use Rattle.jm_machine.specs.declared.state.PlacedRow.{PlacedRow}
 use Rattle.jm_machine.specs.Rows as machine
-use Rattle.jm_machine.specs.Rows.{is_next as machine_is_next, has_lapsed, live, bare, left_of, live_placed, change_placed, deliver_placed}
+use Rattle.jm_machine.specs.Rows.{is_next as machine_is_next, has_lapsed, live, bare, live_placed, change_placed, deliver_placed}
 use Rattle.jm_pending.specs.declared.row.Row.{Row}
-use Rattle.jm_pending.specs.Rows.{Held, IsRising, is_waiting, is_expired, is_ready, is_next, is_elsewhere, next, stays, counted}
+use Rattle.jm_pending.specs.Rows.{Held, IsRising, is_waiting, is_expired, is_ready, is_next, is_elsewhere, next, stays, counted, sent, sent_at}
 use Rattle.jm_pending.specs.Holders.{Messages, last_message}
 use Rattle.jm_pending.specs.declared.held.Taken.{Taken}
 use Rattle.jm_pending.specs.Placed.{placed, all_placed, IsRowOf}
 use Rattle.jm_pending.proofs.Places.{find_has}
-use Rattle.jm_pending.proofs.Rising.{rising-filter, filter_elsewhere}
-use Rattle.jm_stations.specs.Kept.{is_left, settled, taken}
-
--- a row that waits, and is of its message
-pub record IsPlain (t : Messages) (r : Row) : Type 0 where
-  pub waiting : is_waiting r ≡ true
-  pub own : IsRowOf t r
-
-pub plain_rows : (t : Messages) (rs : List Row) → All (λ (r : Row). is_waiting r ≡ true) rs → All (IsRowOf t) rs → All (IsPlain t) rs
-plain_rows t [] w o = All-nil (IsPlain t)
-plain_rows t (r ∷ rs) w o =
-    All-cons (IsPlain t) r rs (record { waiting = All-head (λ (r : Row). is_waiting r ≡ true) r rs w; own = All-head (IsRowOf t) r rs o }) (plain_rows t rs (All-tail (λ (r : Row). is_waiting r ≡ true) r rs w) (All-tail (IsRowOf t) r rs o))
+use Rattle.jm_pending.proofs.Rising.{rising-filter, filter_elsewhere, map_elsewhere, sent_here, sent_elsewhere}
+use Rattle.jm_stations.specs.Backlogs.{gone, out_row}
+use Rattle.jm_stations.specs.Kept.{is_left, settled, sent_if, sent_off, taken}
 
 -- the row of a placed row
 abbrev pub row_at : Messages → Row → MachineRow
 row_at t r = (placed t r).row
 
-lapsed_same : (t : Messages) (now : ℕ) (r : Row) → IsPlain t r → has_lapsed now (row_at t r) ≡ is_expired now r
-lapsed_same t now r h = ap (λ e. not (e == 0) && nat_le e now) (sym h.own.expiration)
+-- a row is expired with its message
+expired_same : (t : Messages) (now : ℕ) (r : Row) → IsRowOf t r → is_expired now r ≡ machine.is_expired now (row_at t r).message
+expired_same t now r h = ap (λ e. not (e == 0) && nat_le e now) h.expiration
 
-stays_same : (t : Messages) (now : ℕ) (r : Row) → IsPlain t r → stays now r ≡ not (has_lapsed now (row_at t r))
-stays_same t now r h = let lapsed = sym (lapsed_same t now r h) in let waits = h.waiting in λ i. not (waits i) || not (lapsed i)
+stays_same : (t : Messages) (now : ℕ) (r : Row) → IsRowOf t r → stays now r ≡ not (has_lapsed now (row_at t r))
+stays_same t now r h = go (is_waiting r) (is_expired now r) (machine.is_expired now (row_at t r).message) (expired_same t now r h)
+  where
+    go : (w e f : Bool) → e ≡ f → (not w || not e) ≡ not (w && f)
+    go true e f s = ap not s
+    go false e f s = refl
 
-ready_same : (t : Messages) (now : ℕ) (r : Row) → IsPlain t r → is_ready now r ≡ not (has_lapsed now (row_at t r))
-ready_same t now r h = let lapsed = sym (lapsed_same t now r h) in let waits = h.waiting in λ i. waits i && not (lapsed i)
+ready_same : (t : Messages) (now : ℕ) (r : Row) → IsRowOf t r → is_ready now r ≡ machine.is_ready now (row_at t r)
+ready_same t now r h = ap (λ e. is_waiting r && not e) (expired_same t now r h)
 
 -- the rows that stay are those that have not lapsed
-pub live_same : (t : Messages) (now : ℕ) (rs : List Row) → All (IsPlain t) rs → all_placed t (filter (stays now) rs) ≡ live_placed now (all_placed t rs)
+pub live_same : (t : Messages) (now : ℕ) (rs : List Row) → All (IsRowOf t) rs → all_placed t (filter (stays now) rs) ≡ live_placed now (all_placed t rs)
 live_same t now [] h = refl
-live_same t now (r ∷ rs) h = go (stays now r) (stays_same t now r (All-head (IsPlain t) r rs h)) (live_same t now rs (All-tail (IsPlain t) r rs h))
+live_same t now (r ∷ rs) h = go (stays now r) (stays_same t now r (All-head (IsRowOf t) r rs h)) (live_same t now rs (All-tail (IsRowOf t) r rs h))
   where
     go : (b : Bool) → b ≡ not (has_lapsed now (row_at t r)) → all_placed t (filter (stays now) rs) ≡ live_placed now (all_placed t rs) → all_placed t (cond b (r ∷ filter (stays now) rs) (filter (stays now) rs)) ≡ cond (not (has_lapsed now (row_at t r))) (placed t r ∷ live_placed now (all_placed t rs)) (live_placed now (all_placed t rs))
     go true e rest = rw (← e) (ap (λ xs. placed t r ∷ xs) rest)
     go false e rest = rw (← e) rest
 
--- those that are not ready do not matter
-all_ready : (ready below : MachineRow → Bool) (xs : List MachineRow) → list_all (λ x. not (ready x) || below x) (filter ready xs) ≡ list_all (λ x. not (ready x) || below x) xs
-all_ready ready below [] = refl
-all_ready ready below (x ∷ xs) = go (ready x) refl (all_ready ready below xs)
+-- rows that have lapsed may not be delivered, and do not matter
+lapsed_ready : (now : ℕ) (x : MachineRow) → not (has_lapsed now x) ≡ false → machine.is_ready now x ≡ false
+lapsed_ready now x = go (machine.is_waiting x) (machine.is_expired now x.message)
   where
-    go : (b : Bool) → ready x ≡ b → list_all (λ x. not (ready x) || below x) (filter ready xs) ≡ list_all (λ x. not (ready x) || below x) xs → list_all (λ x. not (ready x) || below x) (cond b (x ∷ filter ready xs) (filter ready xs)) ≡ ((not (ready x) || below x) && list_all (λ x. not (ready x) || below x) xs)
-    go true e rest = ap (λ c. (not (ready x) || below x) && c) rest
-    go false e rest = rw e rest
+    go : (w e : Bool) → not (w && e) ≡ false → (w && not e) ≡ false
+    go true true h = refl
+    go true false h = absurd (cc)
+    go false e h = refl
 
-none_same : (t : Messages) (now n : ℕ) (rs : List Row) → All (IsPlain t) rs → list_all (λ x. not (is_ready now x) || nat_le x.priority n) rs ≡ machine.none_above now (bare (all_placed t rs)) n
+all_live : (now : ℕ) (below : MachineRow → Bool) (xs : List MachineRow) → list_all (λ x. not (machine.is_ready now x) || below x) (live now xs) ≡ list_all (λ x. not (machine.is_ready now x) || below x) xs
+all_live now below [] = refl
+all_live now below (x ∷ xs) = go (not (has_lapsed now x)) refl (all_live now below xs)
+  where
+    go : (b : Bool) → not (has_lapsed now x) ≡ b → list_all (λ x. not (machine.is_ready now x) || below x) (live now xs) ≡ list_all (λ x. not (machine.is_ready now x) || below x) xs → list_all (λ x. not (machine.is_ready now x) || below x) (cond b (x ∷ live now xs) (live now xs)) ≡ ((not (machine.is_ready now x) || below x) && list_all (λ x. not (machine.is_ready now x) || below x) xs)
+    go true e rest = ap (λ c. (not (machine.is_ready now x) || below x) && c) rest
+    go false e rest = rest ∙ ap (λ b. (not b || below x) && list_all (λ x. not (machine.is_ready now x) || below x) xs) (sym (lapsed_ready now x e))
+
+none_same : (t : Messages) (now n : ℕ) (rs : List Row) → All (IsRowOf t) rs → list_all (λ x. not (is_ready now x) || nat_le x.priority n) rs ≡ machine.none_above now (bare (all_placed t rs)) n
 none_same t now n [] h = refl
 none_same t now n (r ∷ rs) h =
-    let p = All-head (IsPlain t) r rs h in
+    let p = All-head (IsRowOf t) r rs h in
     let ready = ready_same t now r p in
-    let priority = p.own.priority in
-    let rest = none_same t now n rs (All-tail (IsPlain t) r rs h) in
+    let priority = p.priority in
+    let rest = none_same t now n rs (All-tail (IsRowOf t) r rs h) in
     λ i. (not (ready i) || nat_le (priority i) n) && rest i
 
 -- the next of the rows, as the machine has it
-pub is_next_same : (t : Messages) (now : ℕ) (rs : List Row) (r : Row) → All (IsPlain t) rs → IsPlain t r → is_next now rs r ≡ machine.is_next now (live now (bare (all_placed t rs))) (row_at t r)
+pub is_next_same : (t : Messages) (now : ℕ) (rs : List Row) (r : Row) → All (IsRowOf t) rs → IsRowOf t r → is_next now rs r ≡ machine.is_next now (live now (bare (all_placed t rs))) (row_at t r)
 unfolding machine_is_next
 is_next_same t now rs r h p =
     let below : machine.none_above now (live now (bare (all_placed t rs))) (row_at t r).message.priority ≡ list_all (λ x. not (is_ready now x) || nat_le x.priority r.priority) rs =
-    all_ready (machine.is_ready now) (λ (x : MachineRow). nat_le x.message.priority (row_at t r).message.priority) (bare (all_placed t rs)) ∙ sym (none_same t now (row_at t r).message.priority rs h) ∙ ap (λ n. list_all (λ x. not (is_ready now x) || nat_le x.priority n) rs) (sym p.own.priority) in
+    all_live now (λ (x : MachineRow). nat_le x.message.priority (row_at t r).message.priority) (bare (all_placed t rs)) ∙ sym (none_same t now (row_at t r).message.priority rs h) ∙ ap (λ n. list_all (λ x. not (is_ready now x) || nat_le x.priority n) rs) (sym p.priority) in
     let ready = ready_same t now r p in
     let others = sym below in
     λ i. ready i && others i
@@ -96,50 +101,93 @@ find_kept q p imp (r ∷ rs) = go (p r) (q r) refl refl (find_kept q p imp rs)
     go false true e f rest = absurd (let k = imp r f in cc)
     go false false e f rest = rest
 
--- rows without the first that passes
-abbrev pub but_first : (Row → Bool) → List Row → List Row
-but_first q [] = []
-but_first q (r ∷ rs) = cond (q r) rs (r ∷ but_first q rs)
+-- other rows in place of the first that passes
+abbrev pub put_first : (Row → Bool) → (Row → List Row) → List Row → List Row
+put_first q f [] = []
+put_first q f (r ∷ rs) = cond (q r) (f r ++ rs) (r ∷ put_first q f rs)
+
+-- no row in its place
+abbrev pub no_row : Row → List Row
+no_row r = []
+
+-- the row in its place, sent
+abbrev pub sent_row : SessionId → ℕ → Row → List Row
+sent_row s c r = sent s c r ∷ []
 
 pub left_all : (rs : List Row) → filter (is_left None) rs ≡ rs
 left_all [] = refl
 left_all (r ∷ rs) = ap (λ xs. r ∷ xs) (left_all rs)
 
-left_first : (q : Row → Bool) (rs : List Row) → IsRising rs → filter (is_left (find q rs)) rs ≡ but_first q rs
+others_apart : (r : Row) (rs : List Row) → All (λ (y : Row). r.place < y.place) rs → All (λ (y : Row). y.place ≢ r.place) rs
+others_apart r = All-weaker (λ (y : Row). r.place < y.place) (λ (y : Row). y.place ≢ r.place) (λ y l. omega (arith, l))
+
+left_first : (q : Row → Bool) (rs : List Row) → IsRising rs → filter (is_left (find q rs)) rs ≡ put_first q no_row rs
 left_first q [] h = refl
 left_first q (r ∷ rs) h = go (q r) (find q rs) (left_first q rs h.1) (find_has (λ (y : Row). r.place < y.place) q rs h.0)
   where
-    go : (b : Bool) (o : Option Row) → filter (is_left o) rs ≡ but_first q rs → IfSome o (λ (y : Row). r.place < y.place) → filter (is_left (cond b (Some r) o)) (r ∷ rs) ≡ cond b rs (r ∷ but_first q rs)
-    go true o rest above = rw (eq-eqb r.place r.place refl) (filter_elsewhere r.place rs (All-weaker (λ (y : Row). r.place < y.place) (λ (y : Row). y.place ≢ r.place) (λ y l. omega (arith, l)) rs h.0))
+    go : (b : Bool) (o : Option Row) → filter (is_left o) rs ≡ put_first q no_row rs → IfSome o (λ (y : Row). r.place < y.place) → filter (is_left (cond b (Some r) o)) (r ∷ rs) ≡ cond b rs (r ∷ put_first q no_row rs)
+    go true o rest above = rw (eq-eqb r.place r.place refl) (filter_elsewhere r.place rs (others_apart r rs h.0))
     go false None rest above = ap (λ xs. r ∷ xs) rest
     go false (Some y) rest above =
         let ne : r.place ≢ y.place = omega (arith, above) in
         rw (ne_eqb r.place y.place ne) (ap (λ xs. r ∷ xs) rest)
 
 -- the same of the rows as callers see them
-but_first_placed : (t : Messages) (q : Row → Bool) (test : MachineRow → Bool) (rs : List Row) → All (λ r. q r ≡ test (row_at t r)) rs → all_placed t (but_first q rs) ≡ change_placed test (left_of (Some Auto)) (all_placed t rs)
-unfolding left_of
-but_first_placed t q test [] h = refl
-but_first_placed t q test (r ∷ rs) h =
-    go (q r) (test (row_at t r)) (All-head (λ r. q r ≡ test (row_at t r)) r rs h) (but_first_placed t q test rs (All-tail (λ r. q r ≡ test (row_at t r)) r rs h))
+first_placed : (t : Messages) (q : Row → Bool) (test : MachineRow → Bool) (f : Row → List Row) (g : MachineRow → List MachineRow) → ((r : Row) → all_placed t (f r) ≡ map (λ x. record { place = r.place; row = x }) (g (row_at t r))) → (rs : List Row) → All (λ r. q r ≡ test (row_at t r)) rs → all_placed t (put_first q f rs) ≡ change_placed test g (all_placed t rs)
+first_placed t q test f g same [] h = refl
+first_placed t q test f g same (r ∷ rs) h =
+    go (q r) (test (row_at t r)) (All-head (λ r. q r ≡ test (row_at t r)) r rs h) (first_placed t q test f g same rs (All-tail (λ r. q r ≡ test (row_at t r)) r rs h))
   where
-    go : (b c : Bool) → b ≡ c → all_placed t (but_first q rs) ≡ change_placed test (left_of (Some Auto)) (all_placed t rs) → all_placed t (cond b rs (r ∷ but_first q rs)) ≡ cond c (all_placed t rs) (placed t r ∷ change_placed test (left_of (Some Auto)) (all_placed t rs))
-    go true true e rest = refl
+    go : (b c : Bool) → b ≡ c → all_placed t (put_first q f rs) ≡ change_placed test g (all_placed t rs) → all_placed t (cond b (f r ++ rs) (r ∷ put_first q f rs)) ≡ cond c (map (λ x. record { place = r.place; row = x }) (g (row_at t r)) ++ all_placed t rs) (placed t r ∷ change_placed test g (all_placed t rs))
+    go true true e rest = map-append (placed t) (f r) rs ∙ ap (λ (xs : List PlacedRow). xs ++ all_placed t rs) (same r)
     go true false e rest = absurd (cc)
     go false true e rest = absurd (cc)
     go false false e rest = ap (λ xs. placed t r ∷ xs) rest
 
-next_each : (t : Messages) (now : ℕ) (rs xs : List Row) → All (IsPlain t) rs → All (IsPlain t) xs → All (λ r. is_next now rs r ≡ machine.is_next now (live now (bare (all_placed t rs))) (row_at t r)) xs
-next_each t now rs xs h k = All-weaker (IsPlain t) (λ r. is_next now rs r ≡ machine.is_next now (live now (bare (all_placed t rs))) (row_at t r)) (λ r p. is_next_same t now rs r h p) xs k
+next_each : (t : Messages) (now : ℕ) (rs xs : List Row) → All (IsRowOf t) rs → All (IsRowOf t) xs → All (λ r. is_next now rs r ≡ machine.is_next now (live now (bare (all_placed t rs))) (row_at t r)) xs
+next_each t now rs xs h k = All-weaker (IsRowOf t) (λ r. is_next now rs r ≡ machine.is_next now (live now (bare (all_placed t rs))) (row_at t r)) (λ r p. is_next_same t now rs r h p) xs k
 
--- what a delivery leaves
-pub settled_same : (t : Messages) (now : ℕ) (h : Held) → All (IsPlain t) h.rows → IsRising h.rows → all_placed t (settled now h).rows ≡ deliver_placed now (left_of (Some Auto)) (all_placed t h.rows)
-settled_same t now h plain rising =
+-- what a delivery leaves, of whatever rows it puts in place of the next one
+delivered_same : (t : Messages) (now : ℕ) (rs : List Row) (f : Row → List Row) (g : MachineRow → List MachineRow) → ((r : Row) → all_placed t (f r) ≡ map (λ x. record { place = r.place; row = x }) (g (row_at t r))) → All (IsRowOf t) rs → all_placed t (put_first (is_next now rs) f (filter (stays now) rs)) ≡ deliver_placed now g (all_placed t rs)
+delivered_same t now rs f g same own =
+    let ls = filter (stays now) rs in
+    let test = machine.is_next now (live now (bare (all_placed t rs))) in
+    first_placed t (is_next now rs) test f g same ls (next_each t now rs ls own (All-filter (stays now) (IsRowOf t) rs own)) ∙ ap (change_placed test g) (live_same t now rs own)
+
+-- the next row is among those that stay
+found_left : (now : ℕ) (rs : List Row) → find (is_next now rs) (filter (stays now) rs) ≡ next now rs
+found_left now rs = find_kept (is_next now rs) (stays now) (next_stays now rs) rs
+
+-- where it is settled
+pub settled_same : (t : Messages) (now : ℕ) (h : Held) → All (IsRowOf t) h.rows → IsRising h.rows → all_placed t (settled now h).rows ≡ deliver_placed now gone (all_placed t h.rows)
+settled_same t now h own rising =
     let rs = h.rows in
     let ls = filter (stays now) rs in
-    let found : find (is_next now rs) ls ≡ next now rs = find_kept (is_next now rs) (stays now) (next_stays now rs) rs in
-    let left : filter (is_left (next now rs)) ls ≡ but_first (is_next now rs) ls = ap (λ o. filter (is_left o) ls) (sym found) ∙ left_first (is_next now rs) ls (rising-filter (stays now) rs rising) in
-    ap (all_placed t) left ∙ but_first_placed t (is_next now rs) (machine.is_next now (live now (bare (all_placed t rs)))) ls (next_each t now rs ls plain (All-filter (stays now) (IsPlain t) rs plain)) ∙ ap (change_placed (machine.is_next now (live now (bare (all_placed t rs)))) (left_of (Some Auto))) (live_same t now rs plain)
+    let left : filter (is_left (next now rs)) ls ≡ put_first (is_next now rs) no_row ls = ap (λ o. filter (is_left o) ls) (sym (found_left now rs)) ∙ left_first (is_next now rs) ls (rising-filter (stays now) rs rising) in
+    ap (all_placed t) left ∙ delivered_same t now rs no_row gone (λ r. refl) own
+
+-- where it goes out
+sent_first : (q : Row → Bool) (s : SessionId) (c : ℕ) (rs : List Row) → IsRising rs → map (sent_if (find q rs) s c) rs ≡ put_first q (sent_row s c) rs
+sent_first q s c [] h = refl
+sent_first q s c (r ∷ rs) h = go (q r) (find q rs) (sent_first q s c rs h.1) (find_has (λ (y : Row). r.place < y.place) q rs h.0)
+  where
+    go : (b : Bool) (o : Option Row) → map (sent_if o s c) rs ≡ put_first q (sent_row s c) rs → IfSome o (λ (y : Row). r.place < y.place) → map (sent_if (cond b (Some r) o) s c) (r ∷ rs) ≡ cond b (sent_row s c r ++ rs) (r ∷ put_first q (sent_row s c) rs)
+    go true o rest above =
+        let here = sent_here s c r r.place refl in
+        let others = map_elsewhere s c r.place rs (others_apart r rs h.0) in
+        λ i. here i ∷ others i
+    go false None rest above = ap (λ xs. r ∷ xs) rest
+    go false (Some y) rest above =
+        let ne : r.place ≢ y.place = omega (arith, above) in
+        let here = sent_elsewhere s c r y.place ne in
+        λ i. here i ∷ rest i
+
+pub sent_same : (t : Messages) (s : SessionId) (c now : ℕ) (h : Held) → All (IsRowOf t) h.rows → IsRising h.rows → all_placed t (sent_off s c now h).rows ≡ deliver_placed now (out_row s c) (all_placed t h.rows)
+sent_same t s c now h own rising =
+    let rs = h.rows in
+    let ls = filter (stays now) rs in
+    let left : map (sent_if (next now rs) s c) ls ≡ put_first (is_next now rs) (sent_row s c) ls = ap (λ o. map (sent_if o s c) ls) (sym (found_left now rs)) ∙ sent_first (is_next now rs) s c ls (rising-filter (stays now) rs rising) in
+    ap (all_placed t) left ∙ delivered_same t now rs (sent_row s c) (out_row s c) (λ r. refl) own
 
 find_placed : (t : Messages) (q : Row → Bool) (test : MachineRow → Bool) (rs : List Row) → All (λ r. q r ≡ test (row_at t r)) rs → find (λ (x : PlacedRow). test x.row) (all_placed t rs) ≡ option_map (placed t) (find q rs)
 find_placed t q test [] h = refl
@@ -151,11 +199,11 @@ find_placed t q test (r ∷ rs) h =
     go false e rest = rw (← e) rest
 
 -- the next row, as callers see it
-pub next_same : (t : Messages) (now : ℕ) (rs : List Row) → All (IsPlain t) rs → find (λ (x : PlacedRow). machine.is_next now (live now (bare (all_placed t rs))) x.row) (live_placed now (all_placed t rs)) ≡ option_map (placed t) (next now rs)
+pub next_same : (t : Messages) (now : ℕ) (rs : List Row) → All (IsRowOf t) rs → find (λ (x : PlacedRow). machine.is_next now (live now (bare (all_placed t rs))) x.row) (live_placed now (all_placed t rs)) ≡ option_map (placed t) (next now rs)
 next_same t now rs plain =
     let ls = filter (stays now) rs in
     ap (find (λ (x : PlacedRow). machine.is_next now (live now (bare (all_placed t rs))) x.row)) (sym (live_same t now rs plain))
-    ∙ find_placed t (is_next now rs) (machine.is_next now (live now (bare (all_placed t rs)))) ls (next_each t now rs ls plain (All-filter (stays now) (IsPlain t) rs plain))
+    ∙ find_placed t (is_next now rs) (machine.is_next now (live now (bare (all_placed t rs)))) ls (next_each t now rs ls plain (All-filter (stays now) (IsRowOf t) rs plain))
     ∙ ap (option_map (placed t)) (find_kept (is_next now rs) (stays now) (next_stays now rs) rs)
 
 -- the same without the place
@@ -173,7 +221,7 @@ find_bare test (x ∷ ps) = elim (test x.row) as (λ b. cond b (Some x.row) (fin
   | false ↦ find_bare test ps
 ]
 
-pub next_row_same : (t : Messages) (now : ℕ) (rs : List Row) → All (IsPlain t) rs → machine.next now (live now (bare (all_placed t rs))) ≡ option_map (λ (x : PlacedRow). x.row) (option_map (placed t) (next now rs))
+pub next_row_same : (t : Messages) (now : ℕ) (rs : List Row) → All (IsRowOf t) rs → machine.next now (live now (bare (all_placed t rs))) ≡ option_map (λ (x : PlacedRow). x.row) (option_map (placed t) (next now rs))
 next_row_same t now rs plain =
     ap (find (machine.is_next now (live now (bare (all_placed t rs))))) (sym (bare_live now (all_placed t rs)))
     ∙ find_bare (machine.is_next now (live now (bare (all_placed t rs)))) (live_placed now (all_placed t rs))
@@ -190,4 +238,17 @@ taken_settled t now h h' res m = go (next now h.rows) m
   where
     go : (o : Option Row) → MatchOption o ((res ≡ None) × (h' ≡ record h { rows = filter (stays now) h.rows })) (λ r. (res ≡ Some (record { row = counted r; message = last_message t r.place })) × (h' ≡ record h { rows = filter (is_elsewhere r.place) (filter (stays now) h.rows) })) → (res ≡ taken t o) × (h' ≡ record h { rows = filter (is_left o) (filter (stays now) h.rows) })
     go None m = (m.0, m.1 ∙ ap (held_with h) (sym (left_all (filter (stays now) h.rows))))
+    go (Some r) m = (m.0, m.1)
+
+left_same : (s : SessionId) (c : ℕ) (rs : List Row) → map (sent_if None s c) rs ≡ rs
+left_same s c [] = refl
+left_same s c (r ∷ rs) = ap (λ xs. r ∷ xs) (left_same s c rs)
+
+-- the same of a row that goes out
+pub taken_sent : (s : SessionId) (c now : ℕ) (h h' : Held) (res : Option Row) → MatchOption (next now h.rows) ((res ≡ None) × (h' ≡ record h { rows = filter (stays now) h.rows })) (λ r. (res ≡ Some (sent s c r)) × (h' ≡ record h { rows = map (sent_at r.place s c) (filter (stays now) h.rows) }))
+    → (res ≡ option_map (sent s c) (next now h.rows)) × (h' ≡ sent_off s c now h)
+taken_sent s c now h h' res m = go (next now h.rows) m
+  where
+    go : (o : Option Row) → MatchOption o ((res ≡ None) × (h' ≡ record h { rows = filter (stays now) h.rows })) (λ r. (res ≡ Some (sent s c r)) × (h' ≡ record h { rows = map (sent_at r.place s c) (filter (stays now) h.rows) })) → (res ≡ option_map (sent s c) o) × (h' ≡ record h { rows = map (sent_if o s c) (filter (stays now) h.rows) })
+    go None m = (m.0, m.1 ∙ ap (held_with h) (sym (left_same s c (filter (stays now) h.rows))))
     go (Some r) m = (m.0, m.1)

@@ -10,3 +10,5 @@ pub mod Keys
 mod Indexes
 mod Copied
 mod Removed
+mod Each
+mod Closing

@@ -1,11 +1,12 @@
 -- A row that comes to several lists, one after another.
-use Rattle.std.proofs.Common.{min, ◌^◌, ◌-◌, ◌≡◌, ℕ, ◌+◌, ◌<◌, ◌==◌, List, [], ◌∷◌, ◌++◌, length, get_or, set, take, Bool, true, false, ◌||◌, cond, refl, ap, sym, ◌∙◌, arith, suc, zero, inl, inr}
+use Rattle.std.proofs.Common.{◌-◌, ◌≡◌, ℕ, ◌+◌, ◌<◌, ◌==◌, List, [], ◌∷◌, ◌++◌, length, get_or, set, take, Bool, true, false, ◌||◌, cond, refl, ap, sym, ◌∙◌, arith, suc, zero, inl, inr}
 use Rattle.std.specs.List.{IsDistinct, AllByRecursion}
 use Rattle.std.specs.Prelude.{nat_eq}
 use Rattle.std.proofs.lemmas.Bool.{eq-eqb, ne_eqb}
 use Rattle.std.proofs.lemmas.Bool.Decides.{eqb_tells}
 use Rattle.std.proofs.lemmas.List.{length-set, get_or-set_same, get_or-set_other}
 use Rattle.std.proofs.lemmas.List.Folds.{list_any-append}
+use Rattle.jm_machine.specs.Machine.{one_missed}
 use Rattle.jm_pending.specs.declared.row.Row.{Row}
 use Rattle.jm_pending.specs.Rows.{Held, is_at_limit}
 use Rattle.jm_stations.specs.Backlogs.{is_named}
@@ -70,9 +71,9 @@ first_named (i ∷ is) zero d h l = refl
 first_named (i ∷ is) (suc n) d h l = rw (none_named i is n d h.0 (omega arith), first_named is n d h.1 (omega arith)) refl
 
 -- what a list says of a row that is added, in one equation
-pub added_is : (row : Row) (h h' : Held) → (is_at_limit h.limit (length h.rows) ≡ true → h' ≡ record h { missed = min (h.missed + 1) (2 ^ 64 - 1) }) → (is_at_limit h.limit (length h.rows) ≡ false → h' ≡ record h { rows = h.rows ++ row ∷ []; room = h.room - 1 }) → h' ≡ with_row row h
+pub added_is : (row : Row) (h h' : Held) → (is_at_limit h.limit (length h.rows) ≡ true → h' ≡ record h { missed = one_missed h.missed }) → (is_at_limit h.limit (length h.rows) ≡ false → h' ≡ record h { rows = h.rows ++ row ∷ []; room = h.room - 1 }) → h' ≡ with_row row h
 added_is row h h' missed added = go (is_at_limit h.limit (length h.rows)) missed added
   where
-    go : (b : Bool) → (b ≡ true → h' ≡ record h { missed = min (h.missed + 1) (2 ^ 64 - 1) }) → (b ≡ false → h' ≡ record h { rows = h.rows ++ row ∷ []; room = h.room - 1 }) → h' ≡ cond b (record h { missed = min (h.missed + 1) (2 ^ 64 - 1) }) (record h { rows = h.rows ++ row ∷ []; room = h.room - 1 })
+    go : (b : Bool) → (b ≡ true → h' ≡ record h { missed = one_missed h.missed }) → (b ≡ false → h' ≡ record h { rows = h.rows ++ row ∷ []; room = h.room - 1 }) → h' ≡ cond b (record h { missed = one_missed h.missed }) (record h { rows = h.rows ++ row ∷ []; room = h.room - 1 })
     go true missed added = missed refl
     go false missed added = added refl

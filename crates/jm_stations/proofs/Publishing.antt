@@ -1,5 +1,5 @@
 -- A publication, from putting its message into the table to releasing it.
-use Rattle.std.proofs.Common.{◌≡◌, ◌≢◌, ℕ, ◌+◌, ◌<◌, ◌≤◌, ◌^◌, ◌==◌, List, [], ◌∷◌, ◌++◌, length, get_or, set, cond, Option, Some, None, refl, ap, sym, subst, ◌∙◌, arith, inl, inr}
+use Rattle.std.proofs.Common.{◌≡◌, ◌≢◌, ℕ, true, ◌+◌, ◌<◌, ◌≤◌, ◌^◌, ◌==◌, List, [], ◌∷◌, ◌++◌, length, get_or, set, cond, Option, Some, None, refl, ap, sym, subst, ◌∙◌, arith, inl, inr}
 use Rattle.std.specs.List.{All}
 use Rattle.std.proofs.lemmas.Bool.{ne_eqb, eq-eqb}
 use Rattle.std.proofs.lemmas.Bool.Decides.{eqb_tells}
@@ -7,6 +7,9 @@ use Rattle.std.proofs.lemmas.List.{get_or-map, length-map, map-append, same_list
 use Rattle.std.proofs.lemmas.List.Elements.{All-nil, All-head, All-tail, All-push, All-weaker}
 use Rattle.std.proofs.lemmas.List.Sums.{sum_by-cons}
 use Rattle.jm_machine.specs.declared.state.Row.{Row as MachineRow}
+use Rattle.jm_machine.specs.declared.state.RowState.{RowState}
+use Rattle.jm_machine.specs.declared.state.RowState.TheVariants.{Waiting, Out}
+use Rattle.jm_machine.specs.Rows.{waits, is_waiting}
 use Rattle.jm_pending.specs.declared.row.Row.{Row}
 use Rattle.jm_pending.specs.Rows.{Held, waiting}
 use Rattle.jm_pending.specs.Holders.{Messages, GainsHolder, LosesHolder, KeepsMessages, holders_of, message_of, rows_at}
@@ -17,7 +20,7 @@ use Rattle.jm_stations.specs.Backlogs.{Backlog, HasCome, joined, changed_at, emp
 use Rattle.jm_stations.specs.Kept.{all_rows, shown, all_shown, AreBelow, IsBacklog, IsKept, IsOffered, FollowsAll}
 use Rattle.jm_stations.proofs.Holders.{beside_all, keeps_released, covers_one}
 use Rattle.jm_stations.proofs.Offers.{named_one}
-use Rattle.jm_stations.proofs.Shown.{all_covered, all_backlogs_kept, shown_kept, offered_backlogs, offered_shown, changed_is_set}
+use Rattle.jm_stations.proofs.Shown.{all_covered, all_backlogs_kept, shown_kept, offered_backlogs, offered_shown, changed_is_set, again}
 
 -- no row is at a place that all are below of
 none_below : (p : ℕ) (rows : List Row) → AreBelow p rows → rows_at p rows ≡ 0
@@ -60,7 +63,7 @@ published_kept t second third fourth place x indexes lists after k bound gains i
 
 -- and what callers see of it
 pub published_shown : (t second fourth : Messages) (place : ℕ) (x : MachineRow) (indexes : List ℕ) (lists after : List Held) → IsKept t lists place → IsKept fourth after (place + 1) → KeepsMessages second fourth → message_of second place ≡ Some x.message → ((p : ℕ) → p ≢ place → message_of second p ≡ message_of t p) → IsOffered indexes (waiting place x.message x.count) lists after
-    → HasCome indexes place x (all_shown t lists) (all_shown fourth after)
+    → HasCome indexes place (again x) (all_shown t lists) (all_shown fourth after)
 published_shown t second fourth place x indexes lists after k k3 keeps is others offered =
     let none : Held = record { rows = []; limit = None; missed = 0; room = 0 } in
     record {
@@ -88,10 +91,18 @@ come_to_one index place row old new l h =
       | inr n ↦ rw (ne_eqb index k (λ q. n.1 (sym q)), get_or-set_other old index k (joined place row (get_or old index (empty None))) e n.1) refl
     ]
 
+-- a row that waits is its message with its count
+pub row_again : (x : MachineRow) → is_waiting x ≡ true → x ≡ again x
+row_again x h = go x.state h
+  where
+    go : (s : RowState) → waits s ≡ true → record { message = x.message; count = x.count; state = s } ≡ again x
+    go Waiting h = refl
+    go (Out s c) h = absurd (cc)
+
 -- the next publication may be at a later place
 pub skipped_backlog : (t : Messages) (place later : ℕ) (h : Held) → place ≤ later → IsBacklog t place h → IsBacklog t later h
 skipped_backlog t place later h le b =
-    record { below = All-weaker (λ (r : Row). r.place < place) (λ (r : Row). r.place < later) (λ r l. omega (arith, le, l)) h.rows b.below; waiting = b.waiting; own = b.own }
+    record { below = All-weaker (λ (r : Row). r.place < place) (λ (r : Row). r.place < later) (λ r l. omega (arith, le, l)) h.rows b.below; own = b.own }
 
 pub skipped_kept : (t : Messages) (place later : ℕ) (lists : List Held) → place ≤ later → later ≤ 2 ^ 63 → IsKept t lists place → IsKept t lists later
 skipped_kept t place later lists le bound k = record { counted = k.counted; each = λ i d l. skipped_backlog t place later (get_or lists i d) le (k.each i d l); places = bound }
@@ -102,7 +113,7 @@ created_kept t place lists limit k =
     let h : Held = record { rows = []; limit = limit; missed = 0; room = 0 } in
     record {
       counted = rw (map-append (λ (h : Held). h.rows) lists (h ∷ [])) (counted_more t (all_rows lists) k.counted);
-      each = All-push (IsBacklog t place) lists h k.each (record { below = All-nil _; waiting = All-nil _; own = record { each = All-nil _ } });
+      each = All-push (IsBacklog t place) lists h k.each (record { below = All-nil _; own = record { each = All-nil _ } });
       places = k.places;
     }
 

@@ -5,6 +5,7 @@ use Rattle.std.specs.Option.{IfSome}
 use Rattle.std.specs.Map.{lookup}
 use Rattle.std.proofs.lemmas.List.{length-map, get_or_default}
 use Rattle.std.proofs.lemmas.List.Sums.{sum_by-cons}
+use Rattle.jm_dest.specs.declared.session.SessionId.{SessionId}
 use Rattle.jm_header.specs.declared.content.Content.{Content}
 use Rattle.jm_machine.specs.declared.state.PlacedRow.{PlacedRow}
 use Rattle.jm_machine.specs.Machine.{delivery}
@@ -12,31 +13,31 @@ use Rattle.jm_machine.specs.Rows as machine
 use Rattle.jm_pending.specs.declared.row.Row.{Row}
 use Rattle.jm_pending.specs.declared.table.Stored.{Stored}
 use Rattle.jm_pending.specs.declared.held.Taken.{Taken}
-use Rattle.jm_pending.specs.Rows.{Held, IsRising, next, is_next, counted}
+use Rattle.jm_pending.specs.Rows.{Held, IsRising, next, is_next, counted, sent}
 use Rattle.jm_pending.specs.Holders.{Messages, Follows, Covers, holders_of, holders_in, message_of, message_in, last_message, rows_at}
 use Rattle.jm_pending.specs.Placed.{placed, all_placed, content_of, message_or_none}
 use Rattle.jm_pending.specs.Counts.{all_at, IsCounted}
 use Rattle.jm_pending.proofs.Holding.{row_first, holder_there}
 use Rattle.jm_pending.proofs.Places.{find_has}
-use Rattle.jm_stations.specs.Backlogs.{Backlog, changed_at, received, placed_at, holders_at, shared_message, copy_wanted, handed_out, handed_over}
-use Rattle.jm_stations.specs.Kept.{all_rows, shown, all_shown, settled, taken, IsKept}
+use Rattle.jm_stations.specs.Backlogs.{Backlog, changed_at, placed_at, holders_at, kept_message, copy_wanted, handed_out, handed_over, handed_copy}
+use Rattle.jm_stations.specs.Kept.{all_rows, shown, all_shown, taken, IsKept}
 use Rattle.jm_stations.proofs.Holders.{counted_one, covers_one}
 use Rattle.jm_stations.proofs.Delivery.{next_same, next_row_same}
-use Rattle.jm_stations.proofs.Shown.{plain, all_covered, all_backlogs_kept, all_shown_kept, changed_shown, changed_backlogs, changed_is_set}
+use Rattle.jm_stations.proofs.Shown.{all_covered, all_backlogs_kept, all_shown_kept, changed_shown, changed_backlogs, changed_is_set, Keeps, Shows}
 
--- what is held after a delivery
-pub received_kept : (t t' : Messages) (place now k : ℕ) (d : Held) (lists : List Held) → k < length lists → IsKept t lists place → Follows t t' (get_or lists k d).rows (settled now (get_or lists k d)).rows → IsKept t' (changed_at k (settled now) lists) place
-received_kept t t' place now k d lists l w f =
-    let after = changed_at k (settled now) lists in
-    let counted : IsCounted t' (all_rows after) = rw (← changed_is_set k (settled now) d lists l) (counted_one t t' lists k d (settled now (get_or lists k d)) l w.counted f) in
-    record { counted = counted; each = all_backlogs_kept t t' place after f.messages (all_covered t' after counted) (changed_backlogs t place now k lists w.each); places = w.places }
+-- what is held after a change of one list
+pub changed_kept : (t t' : Messages) (place k : ℕ) (f : Held → Held) → Keeps t place f → (d : Held) (lists : List Held) → k < length lists → IsKept t lists place → Follows t t' (get_or lists k d).rows (f (get_or lists k d)).rows → IsKept t' (changed_at k f lists) place
+changed_kept t t' place k f step d lists l w follows =
+    let after = changed_at k f lists in
+    let counted : IsCounted t' (all_rows after) = rw (← changed_is_set k f d lists l) (counted_one t t' lists k d (f (get_or lists k d)) l w.counted follows) in
+    record { counted = counted; each = all_backlogs_kept t t' place after follows.messages (all_covered t' after counted) (changed_backlogs t place k f step lists w.each); places = w.places }
 
 -- and what callers see of it
-pub received_shown : (t t' : Messages) (place now k : ℕ) (d : Held) (lists : List Held) → k < length lists → IsKept t lists place → IsRising (get_or lists k d).rows → Follows t t' (get_or lists k d).rows (settled now (get_or lists k d)).rows → all_shown t' (changed_at k (settled now) lists) ≡ changed_at k (received now) (all_shown t lists)
-received_shown t t' place now k d lists l w rising f =
-    let after = changed_at k (settled now) lists in
-    let counted : IsCounted t' (all_rows after) = (received_kept t t' place now k d lists l w f).counted in
-    all_shown_kept t t' after f.messages (all_covered t' after counted) ∙ changed_shown t place now k d lists l rising w.each
+pub changed_seen : (t t' : Messages) (place k : ℕ) (f : Held → Held) (g : Backlog → Backlog) → Keeps t place f → Shows t place f g → (d : Held) (lists : List Held) → k < length lists → IsKept t lists place → IsRising (get_or lists k d).rows → Follows t t' (get_or lists k d).rows (f (get_or lists k d)).rows → all_shown t' (changed_at k f lists) ≡ changed_at k g (all_shown t lists)
+changed_seen t t' place k f g step same d lists l w rising follows =
+    let after = changed_at k f lists in
+    let counted : IsCounted t' (all_rows after) = (changed_kept t t' place k f step d lists l w follows).counted in
+    all_shown_kept t t' after follows.messages (all_covered t' after counted) ∙ changed_shown t place k f g same d lists l rising w.each
 
 -- rows at a place are as many as callers see
 placed_count : (t : Messages) (p : ℕ) (rows : List Row) → placed_at p (all_placed t rows) ≡ rows_at p rows
@@ -75,20 +76,32 @@ handed_row t r copy n there is e =
     go false o m f = rw f refl
 
 -- what is answered, from what is taken
-pub told_all : (t : Messages) (place now k : ℕ) (d : Held) (lists : List Held) (out : Option Taken) (copy : Option Content) → k < length lists → IsKept t lists place → out ≡ taken t (next now (get_or lists k d).rows) → copy ≡ copy_wanted now (all_shown t lists) (all_placed t (get_or lists k d).rows)
+pub told_all : (t : Messages) (place now k : ℕ) (d : Held) (lists : List Held) (out : Option Taken) (copy : Option Content) → k < length lists → IsKept t lists place → out ≡ taken t (next now (get_or lists k d).rows) → copy ≡ copy_wanted true now (all_shown t lists) (all_placed t (get_or lists k d).rows)
     → handed_over out copy ≡ delivery (machine.next now (machine.live now (machine.bare (all_placed t (get_or lists k d).rows))))
 told_all t place now k d lists out copy l w e copied =
     let rows = (get_or lists k d).rows in
-    let all = plain t place (get_or lists k d) (w.each k d l) in
-    ap (λ o. handed_over o copy) e ∙ go (next now rows) refl (copied ∙ ap (shared_message (all_shown t lists)) (next_same t now rows all)) ∙ ap delivery (sym (next_row_same t now rows all))
+    let all = (w.each k d l).own.each in
+    ap (λ o. handed_over o copy) e ∙ go (next now rows) refl (copied ∙ ap (kept_message true (all_shown t lists)) (next_same t now rows all)) ∙ ap delivery (sym (next_row_same t now rows all))
   where
-    go : (o : Option Row) → next now (get_or lists k d).rows ≡ o → copy ≡ shared_message (all_shown t lists) (option_map (placed t) o) → handed_over (taken t o) copy ≡ delivery (option_map (λ (x : PlacedRow). x.row) (option_map (placed t) o))
+    go : (o : Option Row) → next now (get_or lists k d).rows ≡ o → copy ≡ kept_message true (all_shown t lists) (option_map (placed t) o) → handed_over (taken t o) copy ≡ delivery (option_map (λ (x : PlacedRow). x.row) (option_map (placed t) o))
     go None q c = refl
     go (Some r) q c =
         let covers = covers_one t lists k d l w.counted in
         let there = next_held t now (get_or lists k d).rows r covers q in
         let number : holders_at r.place (all_shown t lists) ≡ holders_of t r.place = shown_count t r.place lists ∙ sym (w.counted.each r.place) in
         handed_row t r copy (holders_at r.place (all_shown t lists)) there number c
+
+-- the same of a row that goes out, of which the copy is handed out
+pub told_sent : (t : Messages) (place : ℕ) (s : SessionId) (c now k : ℕ) (d : Held) (lists : List Held) (out : Option Row) (copy : Option Content) → k < length lists → IsKept t lists place → out ≡ option_map (sent s c) (next now (get_or lists k d).rows) → copy ≡ copy_wanted false now (all_shown t lists) (all_placed t (get_or lists k d).rows)
+    → handed_copy out copy ≡ delivery (machine.next now (machine.live now (machine.bare (all_placed t (get_or lists k d).rows))))
+told_sent t place s c now k d lists out copy l w e copied =
+    let rows = (get_or lists k d).rows in
+    let all = (w.each k d l).own.each in
+    ap (λ o. handed_copy o copy) e ∙ go (next now rows) (copied ∙ ap (kept_message false (all_shown t lists)) (next_same t now rows all)) ∙ ap delivery (sym (next_row_same t now rows all))
+  where
+    go : (o : Option Row) → copy ≡ kept_message false (all_shown t lists) (option_map (placed t) o) → handed_copy (option_map (sent s c) o) copy ≡ delivery (option_map (λ (x : PlacedRow). x.row) (option_map (placed t) o))
+    go None q = refl
+    go (Some r) q = rw q refl
 
 -- a list without rows
 abbrev pub no_rows : Held

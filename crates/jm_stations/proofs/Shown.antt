@@ -1,35 +1,33 @@
 -- What callers see of all lists through each change.
-use Rattle.std.proofs.Common.{◌≡◌, ◌≢◌, ℕ, ◌+◌, ◌<◌, List, [], ◌∷◌, length, get_or, set, Bool, true, false, cond, Option, Some, refl, ap, ◌∙◌, arith, suc, zero}
+use Rattle.std.proofs.Common.{◌≡◌, ◌≢◌, ℕ, ◌+◌, ◌<◌, ◌==◌, sym, None, map, List, [], ◌∷◌, length, get_or, set, Bool, true, false, cond, Option, Some, refl, ap, ◌∙◌, arith, suc, zero}
 use Rattle.std.specs.List.{filter, All}
 use Rattle.std.proofs.lemmas.List.{map-append, length-map}
-use Rattle.std.proofs.lemmas.List.Elements.{All-nil, All-cons, All-head, All-tail, All-filter, All-weaker, All-push}
+use Rattle.std.proofs.lemmas.List.Elements.{All-nil, All-cons, All-head, All-tail, All-filter, All-weaker, All-map, All-push}
+use Rattle.jm_dest.specs.declared.session.SessionId.{SessionId}
 use Rattle.jm_header.specs.declared.content.Content.{Content}
 use Rattle.jm_machine.specs.declared.state.Row.{Row as MachineRow}
 use Rattle.jm_machine.specs.declared.state.PlacedRow.{PlacedRow}
 use Rattle.jm_pending.specs.declared.row.Row.{Row}
-use Rattle.jm_pending.specs.Rows.{Held, IsRising, is_waiting, is_at_limit, waiting, stays, next}
+use Rattle.jm_pending.specs.Rows.{Held, IsRising, is_at_limit, waiting, stays, next, sent}
 use Rattle.jm_pending.specs.Holders.{Messages, KeepsMessages, Covers, message_of}
 use Rattle.jm_pending.specs.Placed.{placed, all_placed, message_or_none, IsRowOf}
 use Rattle.jm_pending.specs.Counts.{IsCounted}
 use Rattle.jm_pending.proofs.Counting.{placed_same, rows_same}
-use Rattle.jm_stations.specs.Backlogs.{Backlog, is_named, joined, changed_at, received}
-use Rattle.jm_stations.specs.Kept.{all_rows, shown, all_shown, with_row, settled, is_left, AreBelow, IsBacklog, IsOffered}
+use Rattle.jm_stations.specs.Backlogs.{Backlog, is_named, waiting_row, joined, changed_at, received, delivered}
+use Rattle.jm_stations.specs.Kept.{all_rows, shown, all_shown, with_row, settled, is_left, sent_if, sent_off, AreBelow, IsBacklog, IsOffered}
 use Rattle.jm_stations.proofs.Holders.{covers_one}
-use Rattle.jm_stations.proofs.Delivery.{IsPlain, plain_rows, settled_same}
+use Rattle.jm_stations.proofs.Delivery.{settled_same, sent_same}
 
 -- a list of rows with these rows, as callers see it
 abbrev pub backlog_of : Held → List PlacedRow → Backlog
 backlog_of h rows = record { rows = rows; limit = h.limit; missed = h.missed; room = h.room }
-
-pub plain : (t : Messages) (place : ℕ) (h : Held) → IsBacklog t place h → All (IsPlain t) h.rows
-plain t place h b = plain_rows t h.rows b.waiting b.own.each
 
 -- what a list shows stays while its messages do
 pub shown_kept : (old new : Messages) (h : Held) → KeepsMessages old new → Covers new h.rows → shown new h ≡ shown old h
 shown_kept old new h k c = ap (backlog_of h) (placed_same old new h.rows k c)
 
 pub backlog_kept : (old new : Messages) (place : ℕ) (h : Held) → KeepsMessages old new → Covers new h.rows → IsBacklog old place h → IsBacklog new place h
-backlog_kept old new place h k c b = record { below = b.below; waiting = b.waiting; own = rows_same old new h.rows k c b.own }
+backlog_kept old new place h k c b = record { below = b.below; own = rows_same old new h.rows k c b.own }
 
 -- the same of all lists
 pub all_shown_kept : (old new : Messages) (lists : List Held) → KeepsMessages old new → All (λ (h : Held). Covers new h.rows) lists → all_shown new lists ≡ all_shown old lists
@@ -43,30 +41,74 @@ all_backlogs_kept old new place lists k c b = λ i d l. backlog_kept old new pla
 pub all_covered : (t : Messages) (lists : List Held) → IsCounted t (all_rows lists) → All (λ (h : Held). Covers t h.rows) lists
 all_covered t lists c = λ k d l. covers_one t lists k d l c
 
--- a delivery from one list
+-- rows that stay are of their messages
+pub filtered_backlog : (t : Messages) (place : ℕ) (p : Row → Bool) (h : Held) → IsBacklog t place h → IsBacklog t place (record h { rows = filter p h.rows })
+filtered_backlog t place p h b = record {
+  below = All-filter p (λ (r : Row). r.place < place) h.rows b.below;
+  own = record { each = All-filter p (IsRowOf t) h.rows b.own.each };
+}
+
+-- a row of the same message
+pub record IsLike (r r' : Row) : Type 0 where
+  pub place : r'.place ≡ r.place
+  pub priority : r'.priority ≡ r.priority
+  pub expiration : r'.expiration ≡ r.expiration
+
+like_own : (t : Messages) (r r' : Row) → IsLike r r' → IsRowOf t r → IsRowOf t r'
+like_own t r r' l o = record {
+  priority = l.priority ∙ o.priority ∙ ap (λ n. (message_or_none (message_of t n)).priority) (sym l.place);
+  expiration = l.expiration ∙ o.expiration ∙ ap (λ n. (message_or_none (message_of t n)).expiration) (sym l.place);
+}
+
+-- and so are rows that change in their counts and states alone
+pub mapped_backlog : (t : Messages) (place : ℕ) (f : Row → Row) → ((r : Row) → IsLike r (f r)) → (h : Held) → IsBacklog t place h → IsBacklog t place (record h { rows = map f h.rows })
+mapped_backlog t place f like h b = record {
+  below = All-map (λ (r : Row). r.place < place) f h.rows (All-weaker (λ (r : Row). r.place < place) (λ (r : Row). (f r).place < place) (λ r l. omega (arith, l, (like r).place)) h.rows b.below);
+  own = record { each = All-map (IsRowOf t) f h.rows (All-weaker (IsRowOf t) (λ (r : Row). IsRowOf t (f r)) (λ r o. like_own t r (f r) (like r) o) h.rows b.own.each) };
+}
+
+-- a delivery from one list that settles at once
 pub settled_shown : (t : Messages) (place now : ℕ) (h : Held) → IsBacklog t place h → IsRising h.rows → shown t (settled now h) ≡ received now (shown t h)
-settled_shown t place now h b rising = ap (backlog_of h) (settled_same t now h (plain t place h b) rising)
+settled_shown t place now h b rising = ap (backlog_of h) (settled_same t now h b.own.each rising)
 
 pub settled_backlog : (t : Messages) (place now : ℕ) (h : Held) → IsBacklog t place h → IsBacklog t place (settled now h)
 settled_backlog t place now h b =
-    let first = is_left (next now h.rows) in
-    let rest = filter (stays now) h.rows in
-    record {
-      below = All-filter first (λ (r : Row). r.place < place) rest (All-filter (stays now) (λ (r : Row). r.place < place) h.rows b.below);
-      waiting = All-filter first (λ (r : Row). is_waiting r ≡ true) rest (All-filter (stays now) (λ (r : Row). is_waiting r ≡ true) h.rows b.waiting);
-      own = record { each = All-filter first (IsRowOf t) rest (All-filter (stays now) (IsRowOf t) h.rows b.own.each) };
-    }
+    filtered_backlog t place (is_left (next now h.rows)) (record h { rows = filter (stays now) h.rows }) (filtered_backlog t place (stays now) h b)
+
+-- one after which the row is out
+pub sent_shown : (t : Messages) (place : ℕ) (s : SessionId) (c now : ℕ) (h : Held) → IsBacklog t place h → IsRising h.rows → shown t (sent_off s c now h) ≡ delivered s c now (shown t h)
+sent_shown t place s c now h b rising = ap (backlog_of h) (sent_same t s c now h b.own.each rising)
+
+sent_like : (o : Option Row) (s : SessionId) (c : ℕ) (r : Row) → IsLike r (sent_if o s c r)
+sent_like None s c r = record { place = refl; priority = refl; expiration = refl }
+sent_like (Some x) s c r = go (r.place == x.place)
+  where
+    go : (b : Bool) → IsLike r (cond b (sent s c r) r)
+    go true = record { place = refl; priority = refl; expiration = refl }
+    go false = record { place = refl; priority = refl; expiration = refl }
+
+pub sent_backlog : (t : Messages) (place : ℕ) (s : SessionId) (c now : ℕ) (h : Held) → IsBacklog t place h → IsBacklog t place (sent_off s c now h)
+sent_backlog t place s c now h b =
+    mapped_backlog t place (sent_if (next now h.rows) s c) (sent_like (next now h.rows) s c) (record h { rows = filter (stays now) h.rows }) (filtered_backlog t place (stays now) h b)
+
+-- what a list keeps through a change
+abbrev pub Keeps : Messages → ℕ → (Held → Held) → Type 0
+Keeps t place f = (h : Held) → IsBacklog t place h → IsBacklog t place (f h)
+
+-- and what callers see of it
+abbrev pub Shows : Messages → ℕ → (Held → Held) → (Backlog → Backlog) → Type 0
+Shows t place f g = (h : Held) → IsBacklog t place h → IsRising h.rows → shown t (f h) ≡ g (shown t h)
 
 -- one of many
-pub changed_shown : (t : Messages) (place now k : ℕ) (d : Held) (lists : List Held) → k < length lists → IsRising (get_or lists k d).rows → All (IsBacklog t place) lists → all_shown t (changed_at k (settled now) lists) ≡ changed_at k (received now) (all_shown t lists)
-changed_shown t place now k d [] l r b = refl
-changed_shown t place now zero d (h ∷ lists) l r b = rw (settled_shown t place now h (All-head (IsBacklog t place) h lists b) r) refl
-changed_shown t place now (suc k) d (h ∷ lists) l r b = ap (λ xs. shown t h ∷ xs) (changed_shown t place now k d lists (omega arith) r (All-tail (IsBacklog t place) h lists b))
+pub changed_shown : (t : Messages) (place k : ℕ) (f : Held → Held) (g : Backlog → Backlog) → Shows t place f g → (d : Held) (lists : List Held) → k < length lists → IsRising (get_or lists k d).rows → All (IsBacklog t place) lists → all_shown t (changed_at k f lists) ≡ changed_at k g (all_shown t lists)
+changed_shown t place k f g same d [] l r b = refl
+changed_shown t place zero f g same d (h ∷ lists) l r b = ap (λ x. x ∷ all_shown t lists) (same h (All-head (IsBacklog t place) h lists b) r)
+changed_shown t place (suc k) f g same d (h ∷ lists) l r b = ap (λ xs. shown t h ∷ xs) (changed_shown t place k f g same d lists (omega arith) r (All-tail (IsBacklog t place) h lists b))
 
-pub changed_backlogs : (t : Messages) (place now k : ℕ) (lists : List Held) → All (IsBacklog t place) lists → All (IsBacklog t place) (changed_at k (settled now) lists)
-changed_backlogs t place now k [] b = All-nil (IsBacklog t place)
-changed_backlogs t place now zero (h ∷ lists) b = All-cons (IsBacklog t place) (settled now h) lists (settled_backlog t place now h (All-head (IsBacklog t place) h lists b)) (All-tail (IsBacklog t place) h lists b)
-changed_backlogs t place now (suc k) (h ∷ lists) b = All-cons (IsBacklog t place) h (changed_at k (settled now) lists) (All-head (IsBacklog t place) h lists b) (changed_backlogs t place now k lists (All-tail (IsBacklog t place) h lists b))
+pub changed_backlogs : (t : Messages) (place k : ℕ) (f : Held → Held) → Keeps t place f → (lists : List Held) → All (IsBacklog t place) lists → All (IsBacklog t place) (changed_at k f lists)
+changed_backlogs t place k f step [] b = All-nil (IsBacklog t place)
+changed_backlogs t place zero f step (h ∷ lists) b = All-cons (IsBacklog t place) (f h) lists (step h (All-head (IsBacklog t place) h lists b)) (All-tail (IsBacklog t place) h lists b)
+changed_backlogs t place (suc k) f step (h ∷ lists) b = All-cons (IsBacklog t place) h (changed_at k f lists) (All-head (IsBacklog t place) h lists b) (changed_backlogs t place k f step lists (All-tail (IsBacklog t place) h lists b))
 
 pub changed_is_set : {X : Type 0} (k : ℕ) (f : X → X) (d : X) (lists : List X) → k < length lists → set lists k (f (get_or lists k d)) ≡ changed_at k f lists
 changed_is_set k f d [] l = absurd (omega arith)
@@ -96,11 +138,15 @@ later : (place : ℕ) (rows : List Row) → AreBelow place rows → AreBelow (pl
 later place rows b = All-weaker (λ (r : Row). r.place < place) (λ (r : Row). r.place < place + 1) (λ r l. omega (arith, l)) rows b
 
 pub put_backlog : (old new : Messages) (place : ℕ) (h : Held) → ((p : ℕ) → p ≢ place → message_of new p ≡ message_of old p) → IsBacklog old place h → IsBacklog new (place + 1) h
-put_backlog old new place h same b = record { below = later place h.rows b.below; waiting = b.waiting; own = record { each = rows_below old new place h.rows same b.below b.own.each } }
+put_backlog old new place h same b = record { below = later place h.rows b.below; own = record { each = rows_below old new place h.rows same b.below b.own.each } }
+
+-- the row that waits again, with its count
+abbrev pub again : MachineRow → MachineRow
+again x = waiting_row x.message x.count
 
 -- a row that comes, of what stands for its message
 abbrev pub row_at : ℕ → ℕ → Option Content → PlacedRow
-row_at place count o = record { place = place; row = record { message = message_or_none o; count = count } }
+row_at place count o = record { place = place; row = waiting_row (message_or_none o) count }
 
 row_shown : (t : Messages) (place : ℕ) (x : MachineRow) → message_of t place ≡ Some x.message → placed t (waiting place x.message x.count) ≡ row_at place x.count (Some x.message)
 row_shown t place x is = ap (row_at place x.count) is
@@ -109,10 +155,10 @@ length_placed : (t : Messages) (rows : List Row) → length (all_placed t rows) 
 length_placed t rows = length-map rows (placed t)
 
 -- a list that takes the message
-pub with_row_shown : (t : Messages) (place : ℕ) (x : MachineRow) (h : Held) → message_of t place ≡ Some x.message → shown t (with_row (waiting place x.message x.count) h) ≡ joined place x (shown t h)
+pub with_row_shown : (t : Messages) (place : ℕ) (x : MachineRow) (h : Held) → message_of t place ≡ Some x.message → shown t (with_row (waiting place x.message x.count) h) ≡ joined place (again x) (shown t h)
 with_row_shown t place x h is = go (is_at_limit h.limit (length h.rows)) refl
   where
-    go : (b : Bool) → is_at_limit h.limit (length h.rows) ≡ b → shown t (with_row (waiting place x.message x.count) h) ≡ joined place x (shown t h)
+    go : (b : Bool) → is_at_limit h.limit (length h.rows) ≡ b → shown t (with_row (waiting place x.message x.count) h) ≡ joined place (again x) (shown t h)
     go true e = rw (length_placed t h.rows, e) refl
     go false e = rw (length_placed t h.rows, e, map-append (placed t) h.rows (waiting place x.message x.count ∷ []), row_shown t place x is) refl
 
@@ -123,10 +169,9 @@ with_row_backlog t place x h is b = go (is_at_limit h.limit (length h.rows)) ref
     own = record { priority = rw is refl; expiration = rw is refl }
 
     go : (c : Bool) → is_at_limit h.limit (length h.rows) ≡ c → IsBacklog t (place + 1) (with_row (waiting place x.message x.count) h)
-    go true e = rw e (record { below = b.below; waiting = b.waiting; own = b.own })
+    go true e = rw e (record { below = b.below; own = b.own })
     go false e = rw e (record {
       below = All-push (λ (r : Row). r.place < place + 1) h.rows (waiting place x.message x.count) b.below (omega arith);
-      waiting = All-push (λ (r : Row). is_waiting r ≡ true) h.rows (waiting place x.message x.count) b.waiting refl;
       own = record { each = All-push (IsRowOf t) h.rows (waiting place x.message x.count) b.own.each own };
     })
 
@@ -142,11 +187,11 @@ offered_backlogs old new place x indexes lists after same is o b = λ k d l.
     go false k d here = here
 
 pub offered_shown : (old new : Messages) (place : ℕ) (x : MachineRow) (indexes : List ℕ) (lists after : List Held) (k : ℕ) (d : Held) → k < length lists → ((p : ℕ) → p ≢ place → message_of new p ≡ message_of old p) → message_of new place ≡ Some x.message → IsOffered indexes (waiting place x.message x.count) lists after → All (IsBacklog old place) lists
-    → shown new (get_or after k d) ≡ cond (is_named indexes k) (joined place x (shown old (get_or lists k d))) (shown old (get_or lists k d))
+    → shown new (get_or after k d) ≡ cond (is_named indexes k) (joined place (again x) (shown old (get_or lists k d))) (shown old (get_or lists k d))
 offered_shown old new place x indexes lists after k d inside same is o b =
     let put = put_shown old new place (get_or lists k d) same (b k d inside) in
     rw (o.each k d inside) (go (is_named indexes k) put)
   where
-    go : (c : Bool) → shown new (get_or lists k d) ≡ shown old (get_or lists k d) → shown new (cond c (with_row (waiting place x.message x.count) (get_or lists k d)) (get_or lists k d)) ≡ cond c (joined place x (shown old (get_or lists k d))) (shown old (get_or lists k d))
-    go true put = with_row_shown new place x (get_or lists k d) is ∙ ap (joined place x) put
+    go : (c : Bool) → shown new (get_or lists k d) ≡ shown old (get_or lists k d) → shown new (cond c (with_row (waiting place x.message x.count) (get_or lists k d)) (get_or lists k d)) ≡ cond c (joined place (again x) (shown old (get_or lists k d))) (shown old (get_or lists k d))
+    go true put = with_row_shown new place x (get_or lists k d) is ∙ ap (joined place (again x)) put
     go false put = put

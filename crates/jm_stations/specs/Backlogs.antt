@@ -1,16 +1,19 @@
 -- What is held under each key, as callers see it.
-use Rattle.std.specs.Prelude.{◌≡◌, ◌≤◌, ◌<◌, ◌^◌, ◌+◌, ◌-◌, ◌↔◌, nat_eq, ℕ, zero, suc, Bool, ◌==◌, List, [], ◌∷◌, ◌++◌, Contains, find, length, min, count_by, sum_by, slice_index_or, Option, Some, None, if◌then◌else◌}
+use Rattle.std.specs.Prelude.{◌≡◌, ◌≤◌, ◌<◌, ◌+◌, ◌-◌, ◌↔◌, nat_eq, ℕ, zero, suc, Bool, ◌&&◌, ◌==◌, List, [], ◌∷◌, ◌++◌, Contains, find, length, count_by, sum_by, slice_index_or, Option, Some, None, if◌then◌else◌}
 use Rattle.std.specs.List.{list_any, IsDistinct}
 use Rattle.std.specs.Option.{option_or}
-use Rattle.jm_base.specs.declared.mode.Mode.TheVariants.{Auto}
+use Rattle.jm_dest.specs.declared.key.Key.{Key}
+use Rattle.jm_dest.specs.declared.session.SessionId.{SessionId}
 use Rattle.jm_header.specs.declared.content.Content.{Content}
 use Rattle.jm_machine.specs.declared.state.Row.{Row}
+use Rattle.jm_machine.specs.declared.state.RowState.TheVariants.{Waiting}
 use Rattle.jm_machine.specs.declared.state.PlacedRow.{PlacedRow}
 use Rattle.jm_machine.specs.declared.answer.Answer.{Answer}
 use Rattle.jm_machine.specs.declared.answer.Answer.TheVariants.{Delivered, Nothing}
-use Rattle.jm_machine.specs.Machine.{delivery}
-use Rattle.jm_machine.specs.Rows.{protected, fresh, live, is_next, next, left_of, bare, deliver_placed, live_placed}
+use Rattle.jm_machine.specs.Machine.{delivery, one_missed, settled_rows, returned_rows}
+use Rattle.jm_machine.specs.Rows.{protected, fresh, sent_out, live, is_next, next, bare, deliver_placed, live_placed}
 use Rattle.jm_pending.specs.declared.held.Taken.{Taken}
+use Rattle.jm_pending.specs.declared.row.Row.{Row as RowHere}
 use Rattle.jm_pending.specs.Rows.{is_at_limit}
 
 -- what is held under a key: rows with their messages, by place, the limit of their number, how many publications
@@ -51,8 +54,12 @@ is_named indexes k = list_any (λ i. i == k) indexes
 abbrev pub joined : ℕ → Row → Backlog → Backlog
 joined place row b =
     if is_at_limit b.limit (length b.rows)
-    then record b { missed = min (b.missed + 1) (2 ^ 64 - 1) }
+    then record b { missed = one_missed b.missed }
     else record b { rows = b.rows ++ record { place = place; row = row } ∷ []; room = b.room - 1 }
+
+-- the row of a message that was delivered so often: it waits
+abbrev pub waiting_row : Content → ℕ → Row
+waiting_row m count = record { message = m; count = count; state = Waiting }
 
 -- the row of a message that comes, which was never delivered
 abbrev pub added : ℕ → Content → Backlog → Backlog
@@ -67,9 +74,35 @@ pub record HasCome (indexes : List ℕ) (place : ℕ) (row : Row) (old new : Lis
 abbrev pub IsPublished : List ℕ → ℕ → Content → List Backlog → List Backlog → Type 0
 IsPublished indexes place m old new = HasCome indexes place (fresh m) old new
 
--- expired rows go, and the next one is delivered and settled
+-- what a delivery that settles at once leaves of a row: nothing
+abbrev pub gone : Row → List Row
+gone r = []
+
+-- waiting rows that are expired go, and the next one is delivered and settled
 abbrev pub received : ℕ → Backlog → Backlog
-received now b = record b { rows = deliver_placed now (left_of (Some Auto)) b.rows }
+received now b = record b { rows = deliver_placed now gone b.rows }
+
+-- what a delivery to the session through its consumer leaves of a row: it is out, and counted once more
+abbrev pub out_row : SessionId → ℕ → Row → List Row
+out_row s c r = sent_out s c r ∷ []
+
+-- waiting rows that are expired go, and the next one is delivered, and goes out to the session through its consumer
+abbrev pub delivered : SessionId → ℕ → ℕ → Backlog → Backlog
+delivered s c now b = record b { rows = deliver_placed now (out_row s c) b.rows }
+
+-- the rows that are out through consumers that pass go
+abbrev pub settled : (SessionId → ℕ → Bool) → Backlog → Backlog
+settled p b = record b { rows = settled_rows p b.rows }
+
+-- they wait again, at their places and with their counts
+abbrev pub returned : (SessionId → ℕ → Bool) → Backlog → Backlog
+returned p b = record b { rows = returned_rows p b.rows }
+
+-- what is held under the keys that pass, each beside its key
+abbrev pub kept_under : (Key → Bool) → List Key → List Backlog → List Backlog
+kept_under p [] list = []
+kept_under p (k ∷ keys) [] = []
+kept_under p (k ∷ keys) (b ∷ list) = if p k then b ∷ kept_under p keys list else kept_under p keys list
 
 -- what a delivery from these rows answers
 abbrev pub answered : ℕ → List PlacedRow → Answer
@@ -87,14 +120,14 @@ placed_at p rows = count_by (λ (x : PlacedRow). x.place == p) rows
 abbrev pub holders_at : ℕ → List Backlog → ℕ
 holders_at p list = sum_by (λ (b : Backlog). placed_at p b.rows) list
 
--- the message of a row that some other row holds too
-abbrev pub shared_message : List Backlog → Option PlacedRow → Option Content
-shared_message list None = None
-shared_message list (Some x) = if holders_at x.place list == 1 then None else Some x.row.message
+-- the message of a row that is held after a delivery: the row is not settled at once, or some other row holds it too
+abbrev pub kept_message : Bool → List Backlog → Option PlacedRow → Option Content
+kept_message settles list None = None
+kept_message settles list (Some x) = if settles && (holders_at x.place list == 1) then None else Some x.row.message
 
--- the copy that a delivery wants: of the next row's message, where some other row holds it too
-abbrev pub copy_wanted : ℕ → List Backlog → List PlacedRow → Option Content
-copy_wanted now list rows = shared_message list (next_placed now rows)
+-- the copy that a delivery wants, which settles at once or not: of the next row's message, where that is held after it
+abbrev pub copy_wanted : Bool → ℕ → List Backlog → List PlacedRow → Option Content
+copy_wanted settles now list rows = kept_message settles list (next_placed now rows)
 
 -- under each key the same is held, and there is room for as many more rows or for further ones
 pub record HasMoreRoom (old new : List Backlog) : Type 0 where
@@ -113,6 +146,11 @@ pub record IsNumberOfMessages (n : ℕ) (list : List Backlog) : Type 0 where
 abbrev pub told : ℕ → Option Content → Answer
 told count None = Nothing
 told count (Some m) = Delivered (record { message = protected m; count = count })
+
+-- what is handed out of a row that went out, of which the copy stands for its message
+abbrev pub handed_copy : Option RowHere → Option Content → Answer
+handed_copy None copy = Nothing
+handed_copy (Some r) copy = told r.count copy
 
 -- what is handed out of a row that was taken, with the copy where its message stays held
 abbrev pub handed_out : Taken → Option Content → Answer

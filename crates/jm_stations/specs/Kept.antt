@@ -1,10 +1,14 @@
 -- What is held inside: the rows of each key, over one table of messages.
-use Rattle.std.specs.Prelude.{◌≡◌, ◌≤◌, ◌<◌, ◌^◌, ◌+◌, ◌-◌, ◌==◌, ℕ, Bool, true, List, [], ◌∷◌, ◌++◌, map, filter, length, min, slice_index_or, All, Option, Some, None, option_map, if◌then◌else◌}
+use Rattle.std.specs.Prelude.{◌≡◌, ◌≤◌, ◌<◌, ◌+◌, ◌-◌, ◌&&◌, ◌==◌, ℕ, Bool, true, not, List, [], ◌∷◌, ◌++◌, map, filter, length, slice_index_or, All, Option, Some, None, option_map, if◌then◌else◌}
+use Rattle.std.specs.List.{remove}
 use Rattle.jm_dest.specs.Numbers.{long_end}
+use Rattle.jm_dest.specs.declared.key.Key.{Key}
+use Rattle.jm_dest.specs.declared.session.SessionId.{SessionId}
 use Rattle.jm_header.specs.declared.content.Content.{Content}
+use Rattle.jm_machine.specs.Machine.{one_missed}
 use Rattle.jm_pending.specs.declared.row.Row.{Row}
 use Rattle.jm_pending.specs.declared.held.Taken.{Taken}
-use Rattle.jm_pending.specs.Rows.{Held, is_waiting, is_at_limit, is_elsewhere, next, stays, counted}
+use Rattle.jm_pending.specs.Rows.{Held, is_at_limit, is_elsewhere, is_out, next, stays, back, counted, sent_at}
 use Rattle.jm_pending.specs.Holders.{Messages, KeepsMessages, holders_of, message_of, last_message}
 use Rattle.jm_pending.specs.Counts.{IsCounted, all_at}
 use Rattle.jm_pending.specs.Placed.{all_placed, AreRowsOf}
@@ -30,11 +34,9 @@ without_room h = record h { room = 0 }
 abbrev pub AreBelow : ℕ → List Row → Type 0
 AreBelow place rows = All (λ (r : Row). r.place < place) rows
 
--- what each list keeps: its rows wait, stand below the next place, and have the priority and the expiration of their
--- messages
+-- what each list keeps: its rows stand below the next place, and have the priority and the expiration of their messages
 pub record IsBacklog (t : Messages) (next_place : ℕ) (h : Held) : Type 0 where
   pub below : AreBelow next_place h.rows
-  pub waiting : All (λ (r : Row). is_waiting r ≡ true) h.rows
   pub own : AreRowsOf t h.rows
 
 -- each place has as many holders as rows of all lists, and each list is in order; places run to 2^63-1
@@ -47,7 +49,7 @@ pub record IsKept (t : Messages) (lists : List Held) (next_place : ℕ) : Type 0
 abbrev pub with_row : Row → Held → Held
 with_row row h =
     if is_at_limit h.limit (length h.rows)
-    then record h { missed = min (h.missed + 1) (2 ^ 64 - 1) }
+    then record h { missed = one_missed h.missed }
     else record h { rows = h.rows ++ row ∷ []; room = h.room - 1 }
 
 -- each list that is named has one row more, and each other is as before
@@ -65,9 +67,26 @@ abbrev pub is_left : Option Row → Row → Bool
 is_left None r = true
 is_left (Some x) r = is_elsewhere x.place r
 
--- rows without the expired ones, and without the next one
+-- rows without the waiting ones that are expired, and without the next one
 abbrev pub settled : ℕ → Held → Held
 settled now h = record h { rows = filter (is_left (next now h.rows)) (filter (stays now) h.rows) }
+
+-- a row, sent where it is the one that goes out
+abbrev pub sent_if : Option Row → SessionId → ℕ → Row → Row
+sent_if None s c r = r
+sent_if (Some x) s c r = sent_at x.place s c r
+
+-- rows without the waiting ones that are expired, of which the next one goes out
+abbrev pub sent_off : SessionId → ℕ → ℕ → Held → Held
+sent_off s c now h = record h { rows = map (sent_if (next now h.rows) s c) (filter (stays now) h.rows) }
+
+-- rows without those that are out through consumers that pass
+abbrev pub settled_out : (SessionId → ℕ → Bool) → Held → Held
+settled_out p h = record h { rows = filter (λ r. not (is_out p r)) h.rows }
+
+-- rows of which those wait again
+abbrev pub given_back : (SessionId → ℕ → Bool) → Held → Held
+given_back p h = record h { rows = map (back (is_out p)) h.rows }
 
 -- what is taken out: the next row, counted, with its message where no other row holds it
 abbrev pub taken : Messages → Option Row → Option Taken
@@ -79,7 +98,15 @@ pub record HasMoreRoom (old new : List Held) : Type 0 where
   pub same : (k : ℕ) (d : Held) → k < length old → slice_index_or new k d ≡ record (slice_index_or old k d) { room = (slice_index_or new k d).room }
   pub room : (k : ℕ) (d : Held) → k < length old → (slice_index_or old k d).room ≤ (slice_index_or new k d).room
 
--- the message of a row that some other row holds too
-abbrev pub copied : Messages → Option Row → Option Content
-copied t None = None
-copied t (Some r) = if holders_of t r.place == 1 then None else message_of t r.place
+-- the message of a row that is held after a delivery: the row is not settled at once, or some other row holds it too
+abbrev pub copied : Bool → Messages → Option Row → Option Content
+copied settles t None = None
+copied settles t (Some r) = if settles && (holders_of t r.place == 1) then None else message_of t r.place
+
+-- keys without the one at an index, where it goes
+abbrev pub keys_without : Bool → ℕ → List Key → List Key
+keys_without goes index keys = if goes then remove keys index else keys
+
+-- what is held under them
+abbrev pub list_without : Bool → ℕ → List Backlog → List Backlog
+list_without goes index list = if goes then remove list index else list

@@ -1,16 +1,17 @@
 //! The rows and the messages of all keys.
 
-ghost use Rattle.std.specs.Prelude.{◌≡◌, ◌≤◌, ◌<◌, ◌+◌, ◌-◌, ◌++◌, [], ◌∷◌, true, nat_eq, All, length, map, slice_index_or, is_some, IfOk, OnOk, OnErr};
+ghost use Rattle.std.specs.Prelude.{◌≡◌, ◌≤◌, ◌<◌, ◌+◌, ◌-◌, ◌++◌, [], ◌∷◌, true, false, nat_eq, All, length, map, slice_index_or, is_some, IfOk, OnOk, OnErr};
 ghost use Rattle.std.specs.List.{IsDistinct, remove};
-ghost use Rattle.jm_machine.specs.Machine.{places_end};
+ghost use Rattle.jm_machine.specs.Machine.{are_meant, places_end};
+ghost use Rattle.jm_machine.specs.Rows as machine;
 ghost use Rattle.jm_stations.specs.Backlogs as spec;
 ghost use Rattle.jm_stations.specs.Backlogs.{Backlog};
 ghost use Rattle.jm_stations.specs.Kept as kept;
 
 use crate::{copies, lists};
-use jm_dest::Moment;
+use jm_dest::{ConsumerId, Moment, SessionId};
 use jm_header::Message;
-use jm_machine::{Answer, Delivery, PlacedRow, Row as MachineRow};
+use jm_machine::{Answer, Consumers, Delivery, PlacedRow, Row as MachineRow};
 use jm_pending::{Held, Row, Table, Taken};
 use std::alloc::{AllocError, Global};
 use std::marker::Model;
@@ -70,15 +71,25 @@ fn handed_out(taken: Option<Taken>, copy: Option<Message>) -> Answer
     }
 }
 
-/// A copy of the row's message, where some other row holds it too.
-fn copy_of(table: &Table, row: Option<Row>) -> Result<Option<Message>, AllocError>
-    ensures copy { IfOk result (λ copy. copy ≡ kept.copied table.now row) }
-    ensures err { OnErr result (is_some (kept.copied table.now row) ≡ true) }
+/// What is handed out of a row that went out, where there is one: the copy stands for its message.
+fn sent_out(row: Option<Row>, copy: Option<Message>) -> Answer
+    ensures { result ≡ spec.handed_copy row copy }
+{
+    match row {
+        None => Answer::Nothing,
+        Some(row) => delivered(Taken { row, message: None }, copy),
+    }
+}
+
+/// A copy of the row's message, where it is not settled at once, or some other row holds it too.
+fn copy_of(table: &Table, row: Option<Row>, settles: bool) -> Result<Option<Message>, AllocError>
+    ensures copy { IfOk result (λ copy. copy ≡ kept.copied settles table.now row) }
+    ensures err { OnErr result (is_some (kept.copied settles table.now row) ≡ true) }
 {
     let Some(row) = row else {
         return Ok(None);
     };
-    if table.holders(row.place) == 1 {
+    if settles && table.holders(row.place) == 1 {
         return Ok(None);
     }
     match table.get(row.place) {
@@ -212,18 +223,19 @@ impl Backlogs {
         self.bring(message, 0, indexes);
     }
 
-    /// A row of a message that was delivered so often takes the next place, and comes to the list with that index; at
-    /// its limit the list misses it instead. Takes no memory, since room was reserved.
+    /// A row that waits, of a message that was delivered so often, takes the next place, and comes to the list with
+    /// that index; at its limit the list misses it instead. Takes no memory, since room was reserved.
     pub fn load(&mut self, index: usize, row: MachineRow)
         requires places { self.old.next_place < places_end }
         requires messages { 0 < self.old.message_room }
         requires within { index < length self.old.list }
         requires rows { (d : Backlog) → 0 < (slice_index_or self.old.list index d).room }
+        requires waiting { machine.is_waiting row ≡ true }
         ensures list { self.new.list ≡ spec.changed_at index (spec.joined self.old.next_place row) self.old.list }
         ensures next_place { self.new.next_place ≡ self.old.next_place + 1 }
         ensures room { self.old.message_room ≤ self.new.message_room + 1 }
     {
-        let MachineRow { message, count } = row;
+        let MachineRow { message, count, .. } = row;
         self.bring(message, count, &[index]);
     }
 
@@ -244,7 +256,7 @@ impl Backlogs {
         requires within { All (λ i. i < length self.old.list) indexes.now }
         requires once { IsDistinct nat_eq indexes.now }
         requires rows { All (λ i. (d : Backlog) → 0 < (slice_index_or self.old.list i d).room) indexes.now }
-        ensures list { spec.HasCome indexes.now self.old.next_place (record { message = message; count = count }) self.old.list self.new.list }
+        ensures list { spec.HasCome indexes.now self.old.next_place (spec.waiting_row message count) self.old.list self.new.list }
         ensures next_place { self.new.next_place ≡ self.old.next_place + 1 }
         ensures room { self.old.message_room ≤ self.new.message_room + 1 }
     {
@@ -256,21 +268,27 @@ impl Backlogs {
         self.next_place = place + 1;
     }
 
-    /// The copy that a delivery from the list at that moment wants: of the next row's message, where another row holds
-    /// it too. `AllocError` where a request for memory was refused, which comes only where a copy is wanted.
-    pub fn copy_for(&self, index: usize, now: Moment) -> Result<Option<Message>, AllocError>
+    /// The copy that a delivery from the list at that moment wants, which settles at once or not: of the next row's
+    /// message, where that is held after it. `AllocError` where a request for memory was refused, which comes only
+    /// where a copy is wanted.
+    pub fn copy_for(
+        &self,
+        index: usize,
+        now: Moment,
+        settles: bool,
+    ) -> Result<Option<Message>, AllocError>
         requires within { index < length self.now.list }
-        ensures copy { (d : Backlog) → IfOk result (λ copy. copy ≡ spec.copy_wanted now self.now.list (slice_index_or self.now.list index d).rows) }
-        ensures err { (d : Backlog) → OnErr result (is_some (spec.copy_wanted now self.now.list (slice_index_or self.now.list index d).rows) ≡ true) }
+        ensures copy { (d : Backlog) → IfOk result (λ copy. copy ≡ spec.copy_wanted settles now self.now.list (slice_index_or self.now.list index d).rows) }
+        ensures err { (d : Backlog) → OnErr result (is_some (spec.copy_wanted settles now self.now.list (slice_index_or self.now.list index d).rows) ≡ true) }
     {
-        copy_of(&self.table, self.lists[index].next(now))
+        copy_of(&self.table, self.lists[index].next(now), settles)
     }
 
-    /// Drops the rows of the list that are expired at that moment, and delivers the next one, which is settled. Its
+    /// Drops the waiting rows of the list that are expired at that moment, and delivers the next one, which is settled. Its
     /// message is moved out where no other row holds it, and else the copy stands for it. Takes no memory.
     pub fn receive(&mut self, index: usize, now: Moment, copy: Option<Message>) -> Answer
         requires within { index < length self.old.list }
-        requires copy { (d : Backlog) → copy ≡ spec.copy_wanted now self.old.list (slice_index_or self.old.list index d).rows }
+        requires copy { (d : Backlog) → copy ≡ spec.copy_wanted true now self.old.list (slice_index_or self.old.list index d).rows }
         ensures answer { (d : Backlog) → result ≡ spec.answered now (slice_index_or self.old.list index d).rows }
         ensures list { self.new.list ≡ spec.changed_at index (spec.received now) self.old.list }
         ensures next_place { self.new.next_place ≡ self.old.next_place }
@@ -278,5 +296,61 @@ impl Backlogs {
     {
         let taken = lists::take(&mut self.lists, &mut self.table, index, now);
         handed_out(taken, copy)
+    }
+
+    /// Drops the waiting rows of the list that are expired at that moment, and delivers the next one, which goes out to
+    /// the session through its consumer. The copy stands for its message. Takes no memory.
+    pub fn deliver(
+        &mut self,
+        index: usize,
+        now: Moment,
+        copy: Option<Message>,
+        session: SessionId,
+        consumer: ConsumerId,
+    ) -> Answer
+        requires within { index < length self.old.list }
+        requires copy { (d : Backlog) → copy ≡ spec.copy_wanted false now self.old.list (slice_index_or self.old.list index d).rows }
+        ensures answer { (d : Backlog) → result ≡ spec.answered now (slice_index_or self.old.list index d).rows }
+        ensures list { self.new.list ≡ spec.changed_at index (spec.delivered session consumer now) self.old.list }
+        ensures next_place { self.new.next_place ≡ self.old.next_place }
+        ensures room { self.old.message_room ≤ self.new.message_room }
+    {
+        let row = lists::send(
+            &mut self.lists,
+            &mut self.table,
+            index,
+            now,
+            session,
+            consumer,
+        );
+        sent_out(row, copy)
+    }
+
+    /// The rows that are out through one of those consumers go, in all lists, and each message that no other row holds
+    /// with them. Takes no memory.
+    pub fn settle(&mut self, which: &Consumers)
+        ensures list { self.new.list ≡ map (spec.settled (are_meant which.now)) self.old.list }
+        ensures next_place { self.new.next_place ≡ self.old.next_place }
+        ensures room { self.old.message_room ≤ self.new.message_room }
+    {
+        lists::settle_each(&mut self.lists, &mut self.table, which);
+    }
+
+    /// The rows that are out through one of those consumers wait again, in all lists, at their places and with their
+    /// counts. Takes no memory.
+    pub fn give_back(&mut self, which: &Consumers)
+        ensures list { self.new.list ≡ map (spec.returned (are_meant which.now)) self.old.list }
+        ensures next_place { self.new.next_place ≡ self.old.next_place }
+        ensures room { self.old.message_room ≤ self.new.message_room }
+    {
+        lists::give_back_each(&mut self.lists, which);
+    }
+
+    /// How many publications the list with that index missed at its limit.
+    pub fn missed(&self, index: usize) -> u64
+        requires { index < length self.now.list }
+        ensures { (d : Backlog) → result ≡ (slice_index_or self.now.list index d).missed }
+    {
+        self.lists[index].missed()
     }
 }

@@ -28,6 +28,7 @@ fn placed_row(table: &Table, row: Option<Row>) -> Result<Option<PlacedRow>, Allo
             row: MachineRow {
                 message: message.copy()?,
                 count: row.count,
+                state: row.state,
             },
         })),
     }

@@ -1,14 +1,17 @@
 //! Many lists of rows over one table.
 
-ghost use Rattle.std.specs.Prelude.{◌≡◌, ◌≤◌, ◌<◌, ◌+◌, ℕ, true, nat_eq, All, length, slice_index_or, map, OnOk};
+ghost use Rattle.std.specs.Prelude.{◌≡◌, ◌≤◌, ◌<◌, ◌+◌, ℕ, true, nat_eq, All, length, slice_index_or, map, option_map, OnOk};
 ghost use Rattle.std.specs.List.{IsDistinct};
 ghost use Rattle.jm_dest.specs.Numbers.{long_end};
-ghost use Rattle.jm_pending.specs.Rows.{Held, IsRising, is_waiting, next};
-ghost use Rattle.jm_pending.specs.Holders.{Covers, Follows, holders_of};
+ghost use Rattle.jm_machine.specs.Machine.{are_meant};
+ghost use Rattle.jm_pending.specs.Counts.{IsCounted};
+ghost use Rattle.jm_pending.specs.Rows.{Held, IsRising, is_waiting, next, sent};
+ghost use Rattle.jm_pending.specs.Holders.{Covers, Follows, KeepsMessages, holders_of};
 ghost use Rattle.jm_stations.specs.Backlogs.{changed_at};
 ghost use Rattle.jm_stations.specs.Kept as kept;
 
-use jm_dest::Moment;
+use jm_dest::{ConsumerId, Moment, SessionId};
+use jm_machine::Consumers;
 use jm_pending::{Held, Row, Table, Taken};
 use std::alloc::AllocError;
 
@@ -47,6 +50,50 @@ pub(crate) fn take(
 {
     let held = &mut lists[index];
     held.take_settled(table, now)
+}
+
+/// Drops the expired waiting rows of the list with that index, and sends the next one to the session through its
+/// consumer.
+pub(crate) fn send(
+    lists: &mut Vec<Held>,
+    table: &mut Table,
+    index: usize,
+    now: Moment,
+    session: SessionId,
+    consumer: ConsumerId,
+) -> Option<Row>
+    requires within { index < length lists.old.items }
+    requires covers { (d : Held) → Covers table.old (slice_index_or lists.old.items index d).rows }
+    ensures result { (d : Held) → result ≡ option_map (sent session consumer) (next now (slice_index_or lists.old.items index d).rows) }
+    ensures lists { lists.new.items ≡ changed_at index (kept.sent_off session consumer now) lists.old.items }
+    ensures table { (d : Held) → Follows table.old table.new (slice_index_or lists.old.items index d).rows (kept.sent_off session consumer now (slice_index_or lists.old.items index d)).rows }
+    ensures rising { (d : Held) → IsRising (slice_index_or lists.old.items index d).rows }
+{
+    let held = &mut lists[index];
+    held.take(table, now, session, consumer)
+}
+
+/// The rows of all lists that are out through one of those consumers go.
+pub(crate) fn settle_each(lists: &mut Vec<Held>, table: &mut Table, which: &Consumers)
+    requires { IsCounted table.old (kept.all_rows lists.old.items) }
+    ensures lists { lists.new.items ≡ map (kept.settled_out (are_meant which.now)) lists.old.items }
+    ensures counted { IsCounted table.new (kept.all_rows lists.new.items) }
+    ensures messages { KeepsMessages table.old table.new }
+{
+    for index in 0..lists.len() {
+        let held = &mut lists[index];
+        held.settle(table, which);
+    }
+}
+
+/// The rows of all lists that are out through one of those consumers wait again.
+pub(crate) fn give_back_each(lists: &mut Vec<Held>, which: &Consumers)
+    ensures { lists.new.items ≡ map (kept.given_back (are_meant which.now)) lists.old.items }
+{
+    for index in 0..lists.len() {
+        let held = &mut lists[index];
+        held.give_back(which);
+    }
 }
 
 /// Makes room for that many more rows in each of the lists with those indexes.

@@ -1,19 +1,22 @@
 //! What is held under each key.
 
-ghost use Rattle.std.specs.Prelude.{◌≡◌, ◌≤◌, ◌<◌, ◌+◌, ◌++◌, [], ◌∷◌, true, nat_eq, is_some, All, length, map, slice_index_or, Some, None, IfSome, IfOk, OnOk, OnErr};
+ghost use Rattle.std.specs.Prelude.{◌≡◌, ◌≤◌, ◌<◌, ◌+◌, ◌++◌, [], ◌∷◌, true, false, not, nat_eq, is_some, All, filter, length, map, slice_index_or, Some, None, IfSome, IfOk, OnOk, OnErr};
 ghost use Rattle.std.specs.List.{IsDistinct, remove};
+ghost use Rattle.jm_dest.specs.declared.key.Key.{Key};
 ghost use Rattle.jm_dest.specs.Keys.{key_eq};
-ghost use Rattle.jm_machine.specs.Machine.{places_end};
+ghost use Rattle.jm_machine.specs.Machine.{are_meant, is_own_of, places_end};
+ghost use Rattle.jm_machine.specs.Rows as machine;
 ghost use Rattle.jm_stations.specs.Backlogs as spec;
 ghost use Rattle.jm_stations.specs.Backlogs.{Backlog};
+ghost use Rattle.jm_stations.specs.Kept as kept;
 ghost use Rattle.jm_stations.specs.Stations.{index_in};
 
 use crate::backlogs::Backlogs;
 use crate::copies;
 use indexmap::IndexSet;
-use jm_dest::{Key, Moment};
+use jm_dest::{ConsumerId, Key, Moment, SessionId};
 use jm_header::Message;
-use jm_machine::{Answer, PlacedRow, Row};
+use jm_machine::{Answer, Consumers, PlacedRow, Row};
 use std::alloc::{AllocError, Global};
 use std::marker::Model;
 
@@ -178,6 +181,49 @@ impl Stations {
         self.backlogs.remove(index);
     }
 
+    /// The key with that index goes, as `remove` takes it out, where it is to go.
+    fn remove_if(&mut self, index: usize, goes: bool)
+        requires { index < length self.old.list }
+        ensures removed { self.new ≡ record self.old {
+          keys = kept.keys_without goes index self.old.keys;
+          list = kept.list_without goes index self.old.list;
+          message_room = self.new.message_room;
+          key_room = self.new.key_room;
+        } }
+        ensures message_room { self.old.message_room ≤ self.new.message_room }
+        ensures key_room { self.old.key_room ≤ self.new.key_room }
+    {
+        if goes {
+            self.remove(index);
+        }
+    }
+
+    /// The key with that index goes, as `remove` takes it out, where it is that of the own subscription of one of those
+    /// consumers.
+    fn close_at(&mut self, which: &Consumers, index: usize)
+        requires { index < length self.old.list }
+        ensures keys { (d : Key) → self.new.keys ≡ kept.keys_without (is_own_of which.now (slice_index_or self.old.keys index d)) index self.old.keys }
+        ensures list { (d : Key) → self.new.list ≡ kept.list_without (is_own_of which.now (slice_index_or self.old.keys index d)) index self.old.list }
+        ensures next_place { self.new.next_place ≡ self.old.next_place }
+        ensures message_room { self.old.message_room ≤ self.new.message_room }
+        ensures key_room { self.old.key_room ≤ self.new.key_room }
+    {
+        let goes = is_own_at(self.keys.as_slice(), which, index);
+        self.remove_if(index, goes);
+    }
+
+    /// The keys of the own subscriptions of those consumers go with the rows under them, and each message that no other
+    /// row holds with them; the others move up, in their order. Goes over all keys. Takes no memory.
+    pub fn close(&mut self, which: &Consumers)
+        ensures keys { self.new.keys ≡ filter (λ k. not (is_own_of which.now k)) self.old.keys }
+        ensures list { self.new.list ≡ spec.kept_under (λ k. not (is_own_of which.now k)) self.old.keys self.old.list }
+        ensures next_place { self.new.next_place ≡ self.old.next_place }
+        ensures message_room { self.old.message_room ≤ self.new.message_room }
+        ensures key_room { self.old.key_room ≤ self.new.key_room }
+    {
+        close_each(self, which);
+    }
+
     /// Makes room for that many more messages, and for as many more rows under each key with one of those indexes.
     /// `AllocError` where a request for memory was refused. Either way all but the room is as before.
     pub fn reserve(&mut self, indexes: &[usize], additional: usize) -> Result<(), AllocError>
@@ -208,14 +254,15 @@ impl Stations {
         self.backlogs.publish(message, indexes);
     }
 
-    /// A row that was held elsewhere, with the count of its deliveries, takes the next place, and comes to what is held
-    /// under the key with that index; at its limit it is missed there instead. Takes no memory, since room was
-    /// reserved.
+    /// A row that waits, and was held elsewhere, takes the next place with the count of its deliveries, and comes to
+    /// what is held under the key with that index; at its limit it is missed there instead. Takes no memory, since room
+    /// was reserved.
     pub fn load(&mut self, index: usize, row: Row)
         requires places { self.old.next_place < places_end }
         requires messages { 0 < self.old.message_room }
         requires within { index < length self.old.list }
         requires rows { (d : Backlog) → 0 < (slice_index_or self.old.list index d).room }
+        requires waiting { machine.is_waiting row ≡ true }
         ensures keys { self.new.keys ≡ self.old.keys }
         ensures list { self.new.list ≡ spec.changed_at index (spec.joined self.old.next_place row) self.old.list }
         ensures next_place { self.new.next_place ≡ self.old.next_place + 1 }
@@ -234,23 +281,28 @@ impl Stations {
         self.backlogs.skip_to(place);
     }
 
-    /// The copy that a delivery from the rows under the key with that index wants at that moment: of the next row's
-    /// message, where another row holds it too. `AllocError` where a request for memory was refused, which comes only
-    /// where a copy is wanted.
-    pub fn copy_for(&self, index: usize, now: Moment) -> Result<Option<Message>, AllocError>
+    /// The copy that a delivery from the rows under the key with that index wants at that moment, which settles at once
+    /// or not: of the next row's message, where that is held after it. `AllocError` where a request for memory was
+    /// refused, which comes only where a copy is wanted.
+    pub fn copy_for(
+        &self,
+        index: usize,
+        now: Moment,
+        settles: bool,
+    ) -> Result<Option<Message>, AllocError>
         requires within { index < length self.now.list }
-        ensures copy { (d : Backlog) → IfOk result (λ copy. copy ≡ spec.copy_wanted now self.now.list (slice_index_or self.now.list index d).rows) }
-        ensures err { (d : Backlog) → OnErr result (is_some (spec.copy_wanted now self.now.list (slice_index_or self.now.list index d).rows) ≡ true) }
+        ensures copy { (d : Backlog) → IfOk result (λ copy. copy ≡ spec.copy_wanted settles now self.now.list (slice_index_or self.now.list index d).rows) }
+        ensures err { (d : Backlog) → OnErr result (is_some (spec.copy_wanted settles now self.now.list (slice_index_or self.now.list index d).rows) ≡ true) }
     {
-        self.backlogs.copy_for(index, now)
+        self.backlogs.copy_for(index, now, settles)
     }
 
-    /// Drops the rows under the key with that index that are expired at that moment, and delivers the next one,
+    /// Drops the waiting rows under the key with that index that are expired at that moment, and delivers the next one,
     /// which is settled. Its message is moved out where no other row holds it, and else the copy stands for it.
     /// Takes no memory.
     pub fn receive(&mut self, index: usize, now: Moment, copy: Option<Message>) -> Answer
         requires within { index < length self.old.list }
-        requires copy { (d : Backlog) → copy ≡ spec.copy_wanted now self.old.list (slice_index_or self.old.list index d).rows }
+        requires copy { (d : Backlog) → copy ≡ spec.copy_wanted true now self.old.list (slice_index_or self.old.list index d).rows }
         ensures answer { (d : Backlog) → result ≡ spec.answered now (slice_index_or self.old.list index d).rows }
         ensures keys { self.new.keys ≡ self.old.keys }
         ensures list { self.new.list ≡ spec.changed_at index (spec.received now) self.old.list }
@@ -258,5 +310,81 @@ impl Stations {
         ensures room { self.old.message_room ≤ self.new.message_room }
     {
         self.backlogs.receive(index, now, copy)
+    }
+
+    /// Drops the waiting rows under the key with that index that are expired at that moment, and delivers the next one,
+    /// which goes out to the session through its consumer, and is counted once more. The copy stands for its message,
+    /// which stays held. Takes no memory.
+    pub fn deliver(
+        &mut self,
+        index: usize,
+        now: Moment,
+        copy: Option<Message>,
+        session: SessionId,
+        consumer: ConsumerId,
+    ) -> Answer
+        requires within { index < length self.old.list }
+        requires copy { (d : Backlog) → copy ≡ spec.copy_wanted false now self.old.list (slice_index_or self.old.list index d).rows }
+        ensures answer { (d : Backlog) → result ≡ spec.answered now (slice_index_or self.old.list index d).rows }
+        ensures keys { self.new.keys ≡ self.old.keys }
+        ensures list { self.new.list ≡ spec.changed_at index (spec.delivered session consumer now) self.old.list }
+        ensures next_place { self.new.next_place ≡ self.old.next_place }
+        ensures room { self.old.message_room ≤ self.new.message_room }
+    {
+        self.backlogs.deliver(index, now, copy, session, consumer)
+    }
+
+    /// The rows that are out through one of those consumers go, and each message that no other row holds with them.
+    /// Goes over all keys; of a key under which no row was ever out, no row is looked at. Takes no memory.
+    pub fn settle(&mut self, which: &Consumers)
+        ensures keys { self.new.keys ≡ self.old.keys }
+        ensures list { self.new.list ≡ map (spec.settled (are_meant which.now)) self.old.list }
+        ensures next_place { self.new.next_place ≡ self.old.next_place }
+        ensures room { self.old.message_room ≤ self.new.message_room }
+    {
+        self.backlogs.settle(which);
+    }
+
+    /// The rows that are out through one of those consumers wait again, at their places and with their counts. Goes over
+    /// all keys; of a key under which no row was ever out, no row is looked at. Takes no memory.
+    pub fn give_back(&mut self, which: &Consumers)
+        ensures keys { self.new.keys ≡ self.old.keys }
+        ensures list { self.new.list ≡ map (spec.returned (are_meant which.now)) self.old.list }
+        ensures next_place { self.new.next_place ≡ self.old.next_place }
+        ensures room { self.old.message_room ≤ self.new.message_room }
+    {
+        self.backlogs.give_back(which);
+    }
+
+    /// How many publications were missed under the key with that index, since it was at its limit; at
+    /// 18,446,744,073,709,551,615 it stays.
+    pub fn missed(&self, index: usize) -> u64
+        requires { index < length self.now.list }
+        ensures { (d : Backlog) → result ≡ (slice_index_or self.now.list index d).missed }
+    {
+        self.backlogs.missed(index)
+    }
+}
+
+/// Whether the key with that index is that of the own subscription of one of those consumers.
+fn is_own_at(keys: &[Key], which: &Consumers, index: usize) -> bool
+    requires { index < length keys.now }
+    ensures { (d : Key) → result ≡ is_own_of which.now (slice_index_or keys.now index d) }
+{
+    which.own(&keys[index])
+}
+
+/// The keys of the own subscriptions of those consumers go, from the last on.
+fn close_each(stations: &mut Stations, which: &Consumers)
+    ensures keys { stations.new.keys ≡ filter (λ k. not (is_own_of which.now k)) stations.old.keys }
+    ensures list { stations.new.list ≡ spec.kept_under (λ k. not (is_own_of which.now k)) stations.old.keys stations.old.list }
+    ensures next_place { stations.new.next_place ≡ stations.old.next_place }
+    ensures message_room { stations.old.message_room ≤ stations.new.message_room }
+    ensures key_room { stations.old.key_room ≤ stations.new.key_room }
+{
+    let mut end = stations.len();
+    while end > 0 {
+        end -= 1;
+        stations.close_at(which, end);
     }
 }

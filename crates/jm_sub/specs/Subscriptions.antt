@@ -9,7 +9,8 @@ use Rattle.jm_base.specs.declared.refusal.Refusal.TheVariants.{InvalidSelector, 
 use Rattle.jm_lexer.specs.declared.fault.SyntaxFault.{SyntaxFault}
 use Rattle.jm_header.specs.declared.content.Content.{Content}
 use Rattle.jm_machine.specs.declared.state.Definition.{Definition}
-use Rattle.jm_machine.specs.Machine.{Publisher, accepts}
+use Rattle.jm_machine.specs.declared.consumers.Consumers.{Consumers}
+use Rattle.jm_machine.specs.Machine.{Publisher, accepts, is_own_of}
 
 -- a subscription: its key, and what it asks for
 pub record Subscription : Type 0 where
@@ -36,6 +37,10 @@ without key subscriptions = filter (λ s. not (key_eq s.key key)) subscriptions
 -- a new subscription, in place of any other of its key
 abbrev pub put : Subscription → List Subscription → List Subscription
 put s subscriptions = without s.key subscriptions ++ s ∷ []
+
+-- all but the own subscriptions of those consumers
+abbrev pub without_own : Consumers → List Subscription → List Subscription
+without_own which subscriptions = filter (λ s. not (is_own_of which s.key)) subscriptions
 
 -- the refusal for a fault of that cause
 abbrev pub refused_for : ℕ → Cause → Refusal

@@ -7,13 +7,13 @@ ghost use Rattle.jm_dest.specs.Keys.{key_eq};
 ghost use Rattle.jm_machine.specs.Machine.{Publisher, defined};
 ghost use Rattle.jm_machine.specs.Selectors.{selector_refusal};
 ghost use Rattle.jm_sub.specs.Subscriptions as spec;
-ghost use Rattle.jm_sub.specs.Subscriptions.{put, takes, without};
+ghost use Rattle.jm_sub.specs.Subscriptions.{put, takes, without, without_own};
 
 use crate::subscription::Sub;
 use jm_base::{Refusal, Str};
 use jm_dest::{Key, Name};
 use jm_header::Message;
-use jm_machine::Definition;
+use jm_machine::{Consumers, Definition};
 use std::alloc::{AllocError, Global};
 use std::marker::Model;
 
@@ -55,6 +55,15 @@ fn remove_key_of(items: &mut Vec<Sub>, other: &Sub)
     ensures capacity { vec_capacity items.new ≡ vec_capacity items.old }
 {
     items.retain(|sub| !sub.shares_key(other));
+}
+
+/// The subscriptions without the own ones of those consumers.
+fn remove_own(items: &mut Vec<Sub>, which: &Consumers)
+    ensures items { items.new.items ≡ without_own which.now items.old.items }
+    ensures bound { vec_len items.new ≤ vec_len items.old }
+    ensures capacity { vec_capacity items.new ≡ vec_capacity items.old }
+{
+    items.retain(|sub| !sub.is_own_of(which));
 }
 
 /// The keys of those that accept the message.
@@ -192,5 +201,13 @@ impl Subs {
         let Decision { created } = decision;
         remove_key_of(&mut self.items, &created);
         self.items.push_reserved(created);
+    }
+
+    /// Ends the own subscriptions of those consumers; the others stay, in their order. Takes no memory.
+    pub fn close(&mut self, which: &Consumers)
+        ensures list { self.new.list ≡ without_own which.now self.old.list }
+        ensures spare { self.old.spare ≤ self.new.spare }
+    {
+        remove_own(&mut self.items, which);
     }
 }

@@ -3,7 +3,7 @@
 ghost use Rattle.std.specs.Prelude.{◌≡◌, ◌≢◌, IfOk, IfErr, Ok, Some};
 ghost use Rattle.jm_base.specs.declared.refusal.Refusal.TheVariants.{Memory};
 ghost use Rattle.jm_dest.specs.Keys.{key_eq};
-ghost use Rattle.jm_machine.specs.Machine.{Publisher, defined};
+ghost use Rattle.jm_machine.specs.Machine.{Publisher, defined, is_own_of};
 ghost use Rattle.jm_machine.specs.Selectors as spec;
 ghost use Rattle.jm_machine.specs.Selectors.{selector_read, selector_refusal};
 ghost use Rattle.jm_sub.specs.Subscriptions.{refused, takes};
@@ -12,7 +12,7 @@ use jm_base::{Cause, Refusal, Str};
 use jm_dest::{Key, Name};
 use jm_eval::selects;
 use jm_header::Message;
-use jm_machine::{Definition, copy_selector};
+use jm_machine::{Consumers, Definition, copy_selector};
 use jm_syntax::{SyntaxFault, Tree, parse};
 use std::alloc::{AllocError, Global};
 use std::marker::Model;
@@ -147,6 +147,13 @@ impl Sub {
         ensures { result ≡ key_eq self.now.key other.now.key }
     {
         self.has_key(&other.key)
+    }
+
+    /// Whether it is the own subscription of one of those consumers.
+    pub(crate) fn is_own_of(&self, which: &Consumers) -> bool
+        ensures { result ≡ is_own_of which.now self.now.key }
+    {
+        which.own(&self.key)
     }
 
     /// Whether the message's topic is the subscription's, and its selector accepts the message.

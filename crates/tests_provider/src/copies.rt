@@ -109,7 +109,7 @@ fn counts_of_a_run(alloc: Global, core: &mut Core) -> (u32, u32) {
 }
 
 fn copied_replies(alloc: Global) -> (u32, u32) {
-    match Core::new(alloc, 1) {
+    match Core::new(alloc, 1, 100_000) {
         Ok(mut core) => counts_of_a_run(alloc, &mut core),
         Err(_) => (0, 0),
     }
@@ -207,7 +207,7 @@ fn held_is_copied(alloc: Global, core: &mut Core) -> bool {
 }
 
 fn run_is_copied(alloc: Global) -> bool {
-    match Core::new(alloc, 1) {
+    match Core::new(alloc, 1, 100_000) {
         Ok(mut core) => held_is_copied(alloc, &mut core),
         Err(_) => false,
     }

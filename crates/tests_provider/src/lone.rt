@@ -82,7 +82,7 @@ fn record(
     places: &[usize],
     refusal: Refusal,
 ) -> Result<Vec<Entry>, Refusal> {
-    let mut core = Core::new(alloc, 1)?;
+    let mut core = Core::new(alloc, 1, 100_000)?;
     match spoiled(alloc, &mut core, ops, places, refusal) {
         Ok(replies) => record_of(alloc, core.opening(), ops, &replies),
         Err(refusal) => Err(refusal),
@@ -105,7 +105,7 @@ fn alone_from(
 
 /// The same from a new core.
 fn alone(alloc: Global, record: &[Entry], key: &Key) -> Result<String, Refusal> {
-    let opening = Core::new(alloc, 1)?;
+    let opening = Core::new(alloc, 1, 100_000)?;
     alone_from(alloc, &opening, record, key)
 }
 
@@ -160,7 +160,7 @@ const OPENED_TWICE: [Op; 9] = [
 
 /// The record of those calls, in which the second opening was accepted.
 fn opened_twice(alloc: Global) -> Result<Vec<Entry>, Refusal> {
-    let mut core = Core::new(alloc, 1)?;
+    let mut core = Core::new(alloc, 1, 100_000)?;
     let mut replies = run(alloc, &mut core, &OPENED_TWICE)?;
     if let Some(reply) = replies.get_mut(7) {
         *reply = Ok(Answer::Done);
@@ -213,7 +213,7 @@ fn told_from(alloc: Global, opening: &mut Core) -> Result<String, Refusal> {
 }
 
 fn told_waiting(alloc: Global) -> Result<String, Refusal> {
-    let mut opening = Core::new(alloc, 1)?;
+    let mut opening = Core::new(alloc, 1, 100_000)?;
     told_from(alloc, &mut opening)
 }
 

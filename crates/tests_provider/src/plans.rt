@@ -74,8 +74,8 @@ fn is_planned(one: &mut Core, other: &mut Core, step: &Step) -> Result<bool, All
 
 /// Whether each step is planned so, and all of them lead to what a run of the calls leads to.
 fn are_planned(alloc: Global) -> Result<bool, Refusal> {
-    let mut one = Core::new(alloc, 1)?;
-    let mut other = Core::new(alloc, 1)?;
+    let mut one = Core::new(alloc, 1, 100_000)?;
+    let mut other = Core::new(alloc, 1, 100_000)?;
     for op in &OPS {
         let step = step(alloc, *op)?;
         if !is_planned(&mut one, &mut other, &step)? {

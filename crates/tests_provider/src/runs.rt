@@ -21,7 +21,7 @@ fn all_shown(alloc: Global, replies: &[Reply]) -> Result<String, AllocError> {
 }
 
 fn replies(alloc: Global) -> Result<String, AllocError> {
-    let Ok(mut core) = Core::new(alloc, 1) else {
+    let Ok(mut core) = Core::new(alloc, 1, 100_000) else {
         return Err(AllocError);
     };
     match run(alloc, &mut core, &OPS) {
@@ -74,7 +74,7 @@ fn copy_has_run(core: &Core) -> bool {
 }
 
 fn leaves(alloc: Global) -> bool {
-    match Core::new(alloc, 1) {
+    match Core::new(alloc, 1, 100_000) {
         Ok(mut core) => {
             let _ = run(alloc, &mut core, &OPS);
             has_run(&core) && copy_has_run(&core)
@@ -90,8 +90,23 @@ fn what_a_run_leaves(rt: HostRuntime) {
 
 #[test]
 fn no_opening_is_zero(rt: HostRuntime) {
-    let refusal = Core::new(rt.alloc(), 0).err();
+    let refusal = Core::new(rt.alloc(), 0, 100_000).err();
     holds(&rt, "0", refusal == Some(Refusal::OutOfRange));
+}
+
+/// The limit of a new core that was made with that one.
+fn limit_of(alloc: Global, held_limit: u32) -> Result<u32, Refusal> {
+    let core = Core::new(alloc, 1, held_limit)?;
+    Ok(core.held_limit())
+}
+
+#[test]
+fn limits_are_up_to_a_million(rt: HostRuntime) {
+    let alloc = rt.alloc();
+    holds(&rt, "0", limit_of(alloc, 0) == Err(Refusal::OutOfRange));
+    holds(&rt, "1", limit_of(alloc, 1) == Ok(1));
+    holds(&rt, "1,000,000", limit_of(alloc, 1_000_000) == Ok(1_000_000));
+    holds(&rt, "1,000,001", limit_of(alloc, 1_000_001) == Err(Refusal::OutOfRange));
 }
 
 /// A step that publishes a message of session 2.1, stamped in that opening.
@@ -118,7 +133,7 @@ fn next_place_after(alloc: Global, core: &mut Core, step: &Step) -> Result<u64, 
 /// The next place after a message of session 2.1 that was stamped in that opening is published in opening 1.
 fn next_place(alloc: Global, opening: u32) -> Result<u64, Refusal> {
     let step = publication(alloc, opening)?;
-    match Core::new(alloc, 1) {
+    match Core::new(alloc, 1, 100_000) {
         Ok(mut core) => next_place_after(alloc, &mut core, &step),
         Err(refusal) => Err(refusal),
     }

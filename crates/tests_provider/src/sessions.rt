@@ -13,6 +13,9 @@ enum Op {
     Stop(u32),
     Session(u32, u32),
     Consumer(u32, u32, u32),
+    CloseConnection(u32),
+    CloseSession(u32, u32),
+    CloseConsumer(u32, u32, u32),
 }
 
 fn session(connection: u32, number: u32) -> Result<SessionId, Refusal> {
@@ -32,6 +35,11 @@ fn make(sessions: &mut Sessions, op: Op) -> Result<(), Refusal> {
         Op::Stop(c) => sessions.stop(ConnectionId::new(c)?),
         Op::Session(c, s) => sessions.session(&session(c, s)?, Mode::Auto),
         Op::Consumer(c, s, k) => consumer(sessions, session(c, s)?, k),
+        Op::CloseConnection(c) => sessions.close_connection(ConnectionId::new(c)?),
+        Op::CloseSession(c, s) => sessions.close_session(&session(c, s)?),
+        Op::CloseConsumer(c, s, k) => {
+            sessions.close_consumer(&session(c, s)?, ConsumerId::new(k)?)
+        }
     }
 }
 
@@ -57,8 +65,8 @@ const CALLS: [(Op, bool); 17] = [
 ];
 
 /// Makes the calls in turn, and gives whether each is answered as wanted.
-fn are_made(sessions: &mut Sessions) -> bool {
-    for (op, is_done) in &CALLS {
+fn are_made(sessions: &mut Sessions, calls: &[(Op, bool)]) -> bool {
+    for (op, is_done) in calls {
         let wanted = if *is_done {
             Ok(())
         } else {
@@ -81,7 +89,7 @@ fn has_lists(sessions: &Sessions) -> bool {
 fn is_answered(alloc: Global, room: usize) -> Result<bool, Refusal> {
     let mut sessions = Sessions::new(alloc);
     sessions.reserve(room)?;
-    Ok(are_made(&mut sessions) && has_lists(&sessions))
+    Ok(are_made(&mut sessions, &CALLS) && has_lists(&sessions))
 }
 
 #[test]
@@ -107,7 +115,7 @@ const CONNECTIONS: [(u32, (bool, bool)); 3] = [
 #[test]
 fn connections_by_number(rt: HostRuntime) {
     let mut sessions = Sessions::new(rt.alloc());
-    let _ = are_made(&mut sessions);
+    let _ = are_made(&mut sessions, &CALLS);
     for (connection, wanted) in &CONNECTIONS {
         let known = connection_known(&sessions, *connection);
         holds(&rt, "a connection", known == Ok(*wanted));
@@ -135,7 +143,7 @@ const SESSIONS: [(u32, u32, (bool, bool)); 5] = [
 #[test]
 fn sessions_by_number(rt: HostRuntime) {
     let mut sessions = Sessions::new(rt.alloc());
-    let _ = are_made(&mut sessions);
+    let _ = are_made(&mut sessions, &CALLS);
     for (c, s, wanted) in &SESSIONS {
         let known = session_known(&sessions, *c, *s);
         holds(&rt, "a session", known == Ok(*wanted));
@@ -162,7 +170,7 @@ const CONSUMERS: [(u32, u32, [bool; 3]); 4] = [
 #[test]
 fn consumers_by_number(rt: HostRuntime) {
     let mut sessions = Sessions::new(rt.alloc());
-    let _ = are_made(&mut sessions);
+    let _ = are_made(&mut sessions, &CALLS);
     for (s, k, wanted) in &CONSUMERS {
         let known = consumer_known(&sessions, *s, *k);
         holds(&rt, "a consumer", known == Ok(*wanted));
@@ -215,4 +223,72 @@ fn what_is_known_of_one_session(rt: HostRuntime) {
         let known = one_known(rt.alloc(), &sessions, *number);
         holds(&rt, "one session", known == Ok(*wanted));
     }
+/// Calls after those, and whether each is done; the others are refused.
+const CLOSES: [(Op, bool); 22] = [
+    (Op::CloseConsumer(1, 1, 2), false),
+    (Op::CloseConsumer(1, 3, 1), false),
+    (Op::CloseConsumer(1, 1, 1), true),
+    (Op::CloseConsumer(1, 1, 1), true),
+    (Op::Consumer(1, 1, 1), false),
+    (Op::CloseSession(1, 3), false),
+    (Op::CloseSession(1, 2), true),
+    (Op::CloseSession(1, 2), true),
+    (Op::CloseConsumer(1, 2, 1), true),
+    (Op::Session(1, 2), false),
+    (Op::Consumer(1, 2, 2), false),
+    (Op::CloseConnection(3), false),
+    (Op::CloseConnection(1), true),
+    (Op::CloseConnection(1), true),
+    (Op::Start(1), false),
+    (Op::Stop(1), false),
+    (Op::Open(1), false),
+    (Op::CloseSession(1, 1), true),
+    (Op::CloseSession(1, 3), true),
+    (Op::CloseConsumer(1, 3, 1), false),
+    (Op::Session(1, 3), false),
+    (Op::Start(2), true),
+];
+
+/// Whether that connection, its session 1, and consumer 1 of that are open.
+fn open_parts(sessions: &Sessions, connection: u32) -> Result<[bool; 3], Refusal> {
+    let id = ConnectionId::new(connection)?;
+    let session = session(connection, 1)?;
+    Ok([
+        sessions.is_open_connection(id),
+        sessions.is_open(&session),
+        sessions.is_active(&session, ConsumerId::new(1)?),
+    ])
+}
+
+/// Connections, and whether each, its session 1, and consumer 1 of that are open before those calls.
+const OPEN: [(u32, [bool; 3]); 3] = [
+    (1, [true, true, true]),
+    (2, [true, true, false]),
+    (3, [false, false, false]),
+];
+
+/// The same after them.
+const OPEN_AFTER: [(u32, [bool; 3]); 3] = [
+    (1, [false, false, false]),
+    (2, [true, true, false]),
+    (3, [false, false, false]),
+];
+
+fn are_open(sessions: &Sessions, rows: &[(u32, [bool; 3])]) -> bool {
+    for (connection, wanted) in rows {
+        if open_parts(sessions, *connection) != Ok(*wanted) {
+            return false;
+        }
+    }
+    true
+}
+
+#[test]
+fn closing_calls(rt: HostRuntime) {
+    let mut sessions = Sessions::new(rt.alloc());
+    let _ = are_made(&mut sessions, &CALLS);
+    holds(&rt, "before", are_open(&sessions, &OPEN));
+    holds(&rt, "closings", are_made(&mut sessions, &CLOSES));
+    holds(&rt, "after", are_open(&sessions, &OPEN_AFTER));
+    holds(&rt, "all stay known", has_lists(&sessions));
 }

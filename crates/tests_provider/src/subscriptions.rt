@@ -3,8 +3,9 @@
 use crate::calls::{selector, sent, session};
 use crate::told::{holds, is_text};
 use jm_base::{Cause, Refusal};
-use jm_dest::{ConsumerId, Key, Name};
+use jm_dest::{ConnectionId, ConsumerId, Key, Name};
 use jm_header::Message;
+use jm_machine::Consumers;
 use jm_sub::Subs;
 use std::alloc::{AllocError, Global};
 
@@ -153,4 +154,51 @@ fn replaced_subscription(rt: HostRuntime) {
         _ => false,
     };
     holds(&rt, "four", is_replaced);
+}
+
+/// Which consumers close.
+#[derive(Clone, Copy)]
+enum Closing {
+    OfConnection(u32),
+    /// Those of session 1 of that connection.
+    OfSession(u32),
+    /// That one of session 1 of that connection.
+    One(u32, u32),
+}
+
+fn meant(closing: Closing) -> Result<Consumers, Refusal> {
+    match closing {
+        Closing::OfConnection(c) => Ok(Consumers::OfConnection(ConnectionId::new(c)?)),
+        Closing::OfSession(c) => Ok(Consumers::OfSession(session(c)?)),
+        Closing::One(c, k) => Ok(Consumers::One(session(c)?, ConsumerId::new(k)?)),
+    }
+}
+
+/// Where the subscriptions of consumers 1 to 3 stand after that closing, and how many there are.
+fn kept(alloc: Global, closing: Closing) -> Result<([Option<usize>; 3], usize), Refusal> {
+    let mut subs = four(alloc);
+    subs.close(&meant(closing)?);
+    let places = [
+        subs.position(&key(1)?),
+        subs.position(&key(2)?),
+        subs.position(&key(3)?),
+    ];
+    Ok((places, subs.len()))
+}
+
+/// Closings, and where the subscriptions of consumers 1 to 3 stand after each, and how many there are.
+const KEPT: [(Closing, ([Option<usize>; 3], usize)); 6] = [
+    (Closing::One(1, 3), ([Some(0), Some(1), None], 3)),
+    (Closing::One(2, 3), ([Some(0), Some(2), Some(1)], 4)),
+    (Closing::OfSession(1), ([None, None, None], 0)),
+    (Closing::OfSession(2), ([Some(0), Some(2), Some(1)], 4)),
+    (Closing::OfConnection(1), ([None, None, None], 0)),
+    (Closing::OfConnection(2), ([Some(0), Some(2), Some(1)], 4)),
+];
+
+#[test]
+fn closed_consumers(rt: HostRuntime) {
+    for (closing, wanted) in &KEPT {
+        holds(&rt, "a closing", kept(rt.alloc(), *closing) == Ok(*wanted));
+    }
 }

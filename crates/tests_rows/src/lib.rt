@@ -9,6 +9,8 @@ mod loaded;
 #[cfg(test)]
 mod messages;
 #[cfg(test)]
+mod outgoing;
+#[cfg(test)]
 mod rig;
 #[cfg(test)]
 mod rows;

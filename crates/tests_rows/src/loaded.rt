@@ -4,7 +4,7 @@ use crate::keys::create;
 use crate::messages::{Words, is_text, sent};
 use jm_base::Refusal;
 use jm_dest::Moment;
-use jm_machine::{Answer, Row};
+use jm_machine::{Answer, Row, RowState};
 use jm_stations::Stations;
 use std::alloc::Global;
 
@@ -30,7 +30,15 @@ fn load(alloc: Global, stations: &mut Stations, loaded: Loaded) -> Result<(), Re
     let message = sent(alloc, words)?;
     stations.reserve(&[0], 1)?;
     stations.skip_to(place);
-    stations.load(0, Row { message, count });
+    let state = RowState::Waiting;
+    stations.load(
+        0,
+        Row {
+            message,
+            count,
+            state,
+        },
+    );
     Ok(())
 }
 
@@ -58,7 +66,7 @@ fn receive(stations: &mut Stations) -> Result<Answer, Refusal> {
     if stations.len() == 0 {
         return Err(Refusal::IllegalState);
     }
-    let copy = stations.copy_for(0, now)?;
+    let copy = stations.copy_for(0, now, true)?;
     Ok(stations.receive(0, now, copy))
 }
 

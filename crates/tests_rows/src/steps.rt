@@ -62,7 +62,7 @@ fn receive(stations: &mut Stations, index: usize, at: i64) -> Result<Answer, Ref
     if index >= stations.len() {
         return Err(Refusal::IllegalState);
     }
-    let copy = stations.copy_for(index, now)?;
+    let copy = stations.copy_for(index, now, true)?;
     Ok(stations.receive(index, now, copy))
 }
 

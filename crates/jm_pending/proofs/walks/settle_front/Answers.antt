@@ -3,12 +3,18 @@ use Rattle.std.specs.List.{remove}
 use Rattle.jm_pending.specs.Rows.{keeps}
 use Rattle.jm_pending.proofs.Sieve.{sieved_gone, sieved_left, sieved_all, sieved_rest, sieved_in}
 use Rattle.jm_pending.proofs.Letting.{row_gone}
+use Rattle.jm_pending.proofs.Holding.{holder_there}
 use Rattle.jm_pending.proofs.Steps.{waiting_kept}
 use Rattle.jm_pending.proofs.walks.settle_front.Goals as goal
 use Rattle.jm_pending.proofs.walks.settle_front.Goals.{then-is_among, else-is_among, After-loop-turn}
 
 at_end : (c : After-loop-turn) → c.loop-turn._turn ≡ c.args.high
 at_end c = omega arith
+
+pub let_go-requires : goal.let_go-requires
+let_go-requires c =
+    let within : c.loop-turn._turn < length c.args.rows.now.items = omega arith in
+    holder_there c.loop-turn.table c.loop-turn.rows.items c.loop-turn.at c.index.result.now c.loop-turn.invariant.covers (sieved_in (keeps c.args.outs.now) c.args.rows.now.items c.loop-turn.rows.items c.loop-turn._turn c.loop-turn.at c.loop-turn.invariant.sieved within) c.index.ensures
 
 pub loop-turn-preserved : goal.loop-turn-preserved
 loop-turn-preserved c =

@@ -11,7 +11,7 @@ invariant_of-result c =
     let keys = ap (λ (x : Stations). x.keys) c.in_ok-stations.ensures in
     let list = ap (λ (x : Stations). x.list) c.in_ok-stations.ensures in
     let place = ap (λ (x : Stations). x.next_place) c.in_ok-stations.ensures in
-    rw (consumers, c.in_ok-subs.ensures, keys, list, place) (sound_copied i.sessions.consumers i.subs.list i.stations.keys i.stations.list i.stations.next_place c.self.invariant)
+    rw (consumers, c.in_ok-subs.ensures, keys, list, place) (sound_copied i.limit i.sessions.consumers i.subs.list i.stations.keys i.stations.list i.stations.next_place c.self.invariant)
 
 pub returns : goal.returns
 returns c =

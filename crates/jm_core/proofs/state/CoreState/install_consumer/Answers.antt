@@ -21,15 +21,15 @@ invariant_of-self c =
     let i = c.self.inside in
     let begins = rw (← c.self.view_is) at h.begins in
     rw (m.consumers, m.subs, m.keys, m.list, m.next_place, h.decided)
-    (sound_created i.sessions.life i.sessions.consumers i.subs.list i.stations.keys i.stations.list i.stations.next_place c.args.session.now c.args.id (defined h.topic h.selector) c.self.invariant begins)
+    (sound_created i.limit i.sessions.life i.sessions.consumers i.subs.list i.stations.keys i.stations.list i.stations.next_place c.args.session.now c.args.id (defined h.topic h.selector) c.self.invariant begins)
 
 pub returns : goal.returns
 returns c =
     let m = c.make_create.ensures in
     let i = c.self.inside in
-    let after : List Station → State = λ xs. record { opening = i.opening; life = i.sessions.life; consumers = i.sessions.consumers ++ new_consumer c.args.session.now c.args.id (Own c.args.session.now c.args.id) ∷ []; stations = xs; next_place = i.stations.next_place } in
+    let after : List Station → State = λ xs. record { opening = i.opening; limit = i.limit; life = i.sessions.life; consumers = i.sessions.consumers ++ new_consumer c.args.session.now c.args.id (Own c.args.session.now c.args.id) ∷ []; stations = xs; next_place = i.stations.next_place } in
     λ who call h.
     let begins = rw (← c.self.view_is) at h.begins in
-    let seen = created_stations i.sessions.life i.sessions.consumers i.subs.list i.stations.keys i.stations.list i.stations.next_place c.args.session.now c.args.id (defined h.topic h.selector) c.self.invariant begins in
-    consumer_made c.args.self.now who call c.args.session.now c.args.id c.args.decision (state_of (of_parts i.opening c.make_create.new.sessions c.make_create.new.subs c.make_create.new.stations)) h
+    let seen = created_stations i.limit i.sessions.life i.sessions.consumers i.subs.list i.stations.keys i.stations.list i.stations.next_place c.args.session.now c.args.id (defined h.topic h.selector) c.self.invariant begins in
+    consumer_made c.args.self.now who call c.args.session.now c.args.id c.args.decision (state_of (of_parts i.opening i.limit c.make_create.new.sessions c.make_create.new.subs c.make_create.new.stations)) h
     (rw (m.life, m.consumers, m.subs, m.list, m.next_place, h.decided, ← c.self.view_is) (ap after seen))

@@ -1,24 +1,37 @@
 use Rattle.std.proofs.Common.{refl}
 use Rattle.jm_core.specs.Takings.{receiving}
-use Rattle.jm_core.proofs.Fits.{receive_made, sound_taken}
+use Rattle.jm_core.proofs.Fits.{copy_taken, receive_made, sound_taken}
 use Rattle.jm_core.proofs.state.CoreState.install_delivery.Goals as goal
+
+pub make_delivery-requires-clause-within : goal.make_delivery-requires-clause-within
+make_delivery-requires-clause-within c = rw (← c.self.view_is) at c.requires.2.within
+
+pub make_delivery-requires-clause-copy : goal.make_delivery-requires-clause-copy
+make_delivery-requires-clause-copy c =
+    let i = c.self.inside in
+    let r = c.args.receiver.now in
+    let taken = rw (← c.self.view_is) at c.requires.2.taken in
+    copy_taken i.stations.keys i.stations.list r (receiving i.sessions.life i.sessions.consumers r.session r.consumer) c.args.taking taken
 
 pub invariant_of-self : goal.invariant_of-self
 invariant_of-self c =
     let h = c.requires.2 in
     let m = c.make_delivery.ensures in
     let i = c.self.inside in
+    let r = c.args.receiver.now in
     let taken = rw (← c.self.view_is) at h.taken in
-    rw (m.keys, m.list, m.next_place) (sound_taken i.sessions.consumers i.subs.list i.stations.keys i.stations.list i.stations.next_place c.args.now (receiving i.sessions.life i.sessions.consumers h.session h.consumer) c.args.taking c.self.invariant taken)
+    rw (m.keys, m.list, m.next_place) (sound_taken i.limit i.sessions.consumers i.subs.list i.stations.keys i.stations.list i.stations.next_place r (receiving i.sessions.life i.sessions.consumers r.session r.consumer) c.args.taking c.self.invariant taken)
 
 pub returns : goal.returns
 returns c =
     let m = c.make_delivery.ensures in
     let i = c.self.inside in
+    let r = c.args.receiver.now in
     λ who call h.
+    let mode = rw (← c.self.view_is) at h.mode in
     let allowed = rw (← c.self.view_is) at h.allowed in
     let held = rw (← c.self.view_is) at h.taken in
     let taken = rw (← c.self.invariant.same) at held in
-    let key = receiving i.sessions.life i.sessions.consumers h.session h.consumer in
+    let key = receiving i.sessions.life i.sessions.consumers r.session r.consumer in
     rw (h.sender, h.asked, m.list, m.next_place, ← c.self.view_is)
-    (receive_made i.opening i.sessions.life i.sessions.consumers i.subs.list i.stations.list i.stations.next_place h.session h.consumer c.args.now key c.args.taking c.make_delivery.result c.self.invariant.number allowed refl taken m.answer)
+    (receive_made i.opening i.limit i.sessions.life i.sessions.consumers i.subs.list i.stations.list i.stations.next_place r key c.args.taking c.make_delivery.result c.self.invariant.number mode allowed refl taken m.answer)

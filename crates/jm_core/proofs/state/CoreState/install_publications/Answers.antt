@@ -15,7 +15,7 @@ invariant_of-self c =
     let ready = rw (← c.self.view_is) at h.ready in
     let places = rw (← c.self.view_is) at h.places in
     rw (m.keys, m.next_place)
-    (sound_published i.sessions.life i.sessions.consumers i.subs.list i.stations.keys i.stations.list c.make_publications.new.stations.list i.stations.next_place (i.stations.next_place + length xs) xs c.self.invariant
+    (sound_published i.limit i.sessions.life i.sessions.consumers i.subs.list i.stations.keys i.stations.list c.make_publications.new.stations.list i.stations.next_place (i.stations.next_place + length xs) xs c.self.invariant
     (ready_sent (length h.messages) i.subs.list i.stations.list xs ready) m.list (omega (arith, places, as_many xs h.messages h.same)))
 
 pub returns : goal.returns
@@ -27,7 +27,7 @@ returns c =
     λ who call h.
     let ready = rw (← c.self.view_is) at h.ready in
     let end = m.next_place ∙ ap (λ n. i.stations.next_place + n) (as_many xs h.messages h.same) in
-    all_published c.args.self.now who call xs (state_of (of_parts i.opening i.sessions i.subs new)) h
+    all_published c.args.self.now who call xs (state_of (of_parts i.opening i.limit i.sessions i.subs new)) h
     (rw (← c.self.view_is)
-    (publication_seen i.opening i.sessions.life i.sessions.consumers i.subs.list i.stations.keys i.stations.list i.stations.list new.list i.stations.next_place new.next_place xs h.messages c.self.invariant (room_same i.stations.list)
+    (publication_seen i.opening i.limit i.sessions.life i.sessions.consumers i.subs.list i.stations.keys i.stations.list i.stations.list new.list i.stations.next_place new.next_place xs h.messages c.self.invariant (room_same i.stations.list)
     (ready_sent (length h.messages) i.subs.list i.stations.list xs ready) h.same m.list end))

@@ -12,7 +12,7 @@ returns-in_err-decision c =
     let place = ap (λ (x : Stations). x.next_place) h.stations in
     let i = c.self.inside in
     rw (p.1, p.2, h.life, h.consumers, h.subs, list, place, ← c.self.view_is)
-    (refl, create_refused (state_from i.opening i.sessions.life i.sessions.consumers i.subs.list i.stations.list i.stations.next_place) c.args.session.now c.args.id c.args.topic.now c.args.selector.now c.in_err-decision.field-0.0 h.illegal h.refused)
+    (refl, create_refused (state_from i.opening i.limit i.sessions.life i.sessions.consumers i.subs.list i.stations.list i.stations.next_place) c.args.session.now c.args.id c.args.topic.now c.args.selector.now c.in_err-decision.field-0.0 h.illegal h.refused)
 
 pub returns : goal.returns
 returns c =

@@ -1,8 +1,5 @@
-use Rattle.std.proofs.Common.{◌≡◌, ◌≤◌, ◌+◌, ◌∙◌, true, length, refl, sym, arith}
-use Rattle.std.specs.Prelude.{nat_le}
-use Rattle.std.proofs.lemmas.Bool.Decides.{nat_tests}
+use Rattle.std.proofs.Common.{◌∙◌, length, refl, sym}
 use Rattle.std.proofs.lemmas.Result.{err_from_is_err_and}
-use Rattle.jm_machine.specs.Machine.{places_end}
 use Rattle.jm_core.specs.Provider.{state_of}
 use Rattle.jm_core.proofs.Planned.{no_places, not_stamped, places_within, wants_room}
 use Rattle.jm_core.proofs.Stations.{more_room}
@@ -20,7 +17,7 @@ pub invariant_of-self : goal.invariant_of-self
 invariant_of-self c =
     let h = c.in_err-publications.ensures in
     let i = c.self.inside in
-    rw (h.keys, h.next_place) (sound_room i.sessions.consumers i.subs.list i.stations.keys i.stations.list c.prepare_publications.new.stations.list i.stations.next_place c.self.invariant h.list)
+    rw (h.keys, h.next_place) (sound_room i.limit i.sessions.consumers i.subs.list i.stations.keys i.stations.list c.prepare_publications.new.stations.list i.stations.next_place c.self.invariant h.list)
 
 pub returns-in_err-publications : goal.returns-in_err-publications
 returns-in_err-publications c =
@@ -34,7 +31,7 @@ pub invariant_of-self-2 : goal.invariant_of-self-2
 invariant_of-self-2 c =
     let h = c.in_ok-publications.ensures in
     let i = c.self.inside in
-    rw (h.keys, h.next_place) (sound_room i.sessions.consumers i.subs.list i.stations.keys i.stations.list c.prepare_publications.new.stations.list i.stations.next_place c.self.invariant h.list)
+    rw (h.keys, h.next_place) (sound_room i.limit i.sessions.consumers i.subs.list i.stations.keys i.stations.list c.prepare_publications.new.stations.list i.stations.next_place c.self.invariant h.list)
 
 pub returns : goal.returns
 returns c =

@@ -11,7 +11,7 @@ pub invariant_of-self : goal.invariant_of-self
 invariant_of-self c =
     let h = c.in_err-publication.ensures in
     let i = c.self.inside in
-    rw (h.keys, h.next_place) (sound_room i.sessions.consumers i.subs.list i.stations.keys i.stations.list c.prepare_publication.new.stations.list i.stations.next_place c.self.invariant h.list)
+    rw (h.keys, h.next_place) (sound_room i.limit i.sessions.consumers i.subs.list i.stations.keys i.stations.list c.prepare_publication.new.stations.list i.stations.next_place c.self.invariant h.list)
 
 pub returns-in_err-publication-clause-err : goal.returns-in_err-publication-clause-err
 returns-in_err-publication-clause-err c =
@@ -31,7 +31,7 @@ invariant_of-self-2 c =
     let Room : Provider → Type 0 = λ p. p.held.next_place + 1 ≤ places_end in
     let room = subst Room (sym c.self.view_is) c.requires in
     rw (m.keys, m.next_place, h.keys, h.next_place)
-    (publication_sound i.sessions.consumers i.subs.list i.stations.keys i.stations.list mid new i.stations.next_place (i.stations.next_place + 1) (x ∷ []) c.self.invariant h.list (one_sent 1 i.subs.list mid x h.ready) (one_published i.stations.next_place mid new x (rw h.next_place at m.list)) room)
+    (publication_sound i.limit i.sessions.consumers i.subs.list i.stations.keys i.stations.list mid new i.stations.next_place (i.stations.next_place + 1) (x ∷ []) c.self.invariant h.list (one_sent 1 i.subs.list mid x h.ready) (one_published i.stations.next_place mid new x (rw h.next_place at m.list)) room)
 
 pub returns-clause-ok : goal.returns-clause-ok
 returns-clause-ok c =
@@ -42,5 +42,5 @@ returns-clause-ok c =
     let new = c.make_publication.new.stations.list in
     let x = c.in_ok-publication.publication in
     rw (← c.self.view_is)
-    (publication_seen i.opening i.sessions.life i.sessions.consumers i.subs.list i.stations.keys i.stations.list mid new i.stations.next_place c.make_publication.new.stations.next_place (x ∷ []) (c.args.message ∷ []) c.self.invariant h.list (one_sent 1 i.subs.list mid x h.ready) (ap (λ y. y ∷ []) h.message)
+    (publication_seen i.opening i.limit i.sessions.life i.sessions.consumers i.subs.list i.stations.keys i.stations.list mid new i.stations.next_place c.make_publication.new.stations.next_place (x ∷ []) (c.args.message ∷ []) c.self.invariant h.list (one_sent 1 i.subs.list mid x h.ready) (ap (λ y. y ∷ []) h.message)
     (one_published i.stations.next_place mid new x (rw h.next_place at m.list)) (m.next_place ∙ ap (λ n. n + 1) h.next_place))

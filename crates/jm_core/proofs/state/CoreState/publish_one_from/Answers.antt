@@ -1,5 +1,4 @@
-use Rattle.std.proofs.Common.{◌≡◌, ◌∙◌, ◌∷◌, [], true, false, ap, refl, sym}
-use Rattle.std.specs.Prelude.{◌&&◌, is_some}
+use Rattle.std.proofs.Common.{◌∙◌, ◌∷◌, [], refl, sym}
 use Rattle.jm_base.specs.declared.refusal.Refusal.TheVariants.{Exhausted, IllegalState}
 use Rattle.jm_machine.specs.declared.call.Who.TheVariants.{Session}
 use Rattle.jm_machine.specs.declared.call.Call.TheVariants.{Publish}

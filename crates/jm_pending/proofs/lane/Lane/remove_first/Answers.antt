@@ -2,7 +2,7 @@ use Rattle.std.proofs.Common.{arith, sym, ◌≡◌, ◌<◌, ◌∙◌, length,
 use Rattle.std.specs.List.{filter, find, remove}
 use Rattle.std.proofs.lemmas.List.{take_all}
 use Rattle.jm_pending.specs.declared.row.Row.{Row}
-use Rattle.jm_pending.specs.declared.row.State.TheVariants.{Waiting}
+use Rattle.jm_machine.specs.declared.state.RowState.TheVariants.{Waiting}
 use Rattle.jm_pending.specs.Rows.{is_waiting, is_elsewhere}
 use Rattle.jm_pending.proofs.Rising.{find_at, find_none, remove_at, others_before}
 use Rattle.jm_pending.proofs.Steps.{lane_low}

@@ -18,7 +18,7 @@ invariant_of-self c =
     either c.insert.result c.insert.ensures.entries c.insert.ensures.err
     (λ is. (
       c.self.invariant.0,
-      (added session_eq session_sym (λ x. x.id) c.self.inside.sessions c.insert.new.self c.args.id.now (record { id = c.args.id.now; mode = c.args.mode }) refl c.self.invariant.1 (subst (λ (k : Known). is_some (session_of k.life.sessions c.args.id.now) ≡ false) (sym c.self.view_is) absent) is).1,
+      (added session_eq session_sym (λ x. x.id) c.self.inside.sessions c.insert.new.self c.args.id.now (record { id = c.args.id.now; mode = c.args.mode; is_open = true }) refl c.self.invariant.1 (subst (λ (k : Known). is_some (session_of k.life.sessions c.args.id.now) ≡ false) (sym c.self.view_is) absent) is).1,
       c.self.invariant.2,
     ))
     (λ is. (c.self.invariant.0, subst (IsNumbered (λ (x : SessionState). x.id)) (sym is) c.self.invariant.1, c.self.invariant.2))
@@ -31,6 +31,6 @@ returns-clause-life c =
     elim c.match-insert.branch [
       | in-Ok w ↦
           rw (w.result-is, new, ← c.self.view_is) (ap (λ xs. life_of (values c.self.inside.connections) xs)
-          (added session_eq session_sym (λ x. x.id) c.self.inside.sessions c.insert.new.self c.args.id.now (record { id = c.args.id.now; mode = c.args.mode }) refl c.self.invariant.1 (subst (λ (k : Known). is_some (session_of k.life.sessions c.args.id.now) ≡ false) (sym c.self.view_is) absent) w.in-Ok.ensures.entries).0)
+          (added session_eq session_sym (λ x. x.id) c.self.inside.sessions c.insert.new.self c.args.id.now (record { id = c.args.id.now; mode = c.args.mode; is_open = true }) refl c.self.invariant.1 (subst (λ (k : Known). is_some (session_of k.life.sessions c.args.id.now) ≡ false) (sym c.self.view_is) absent) w.in-Ok.ensures.entries).0)
       | in-Err w ↦ rw (w.result-is, ← c.self.view_is) (ap (λ es. life_of (values c.self.inside.connections) (values_of es)) w.in-Err.ensures.err)
     ]

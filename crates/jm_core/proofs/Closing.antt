@@ -1,0 +1,227 @@
+-- Acknowledgement and closing of what is held are the machine's.
+use Rattle.std.proofs.Common.{◌≡◌, ℕ, Bool, true, false, cond, List, [], ◌∷◌, map, length, refl, ap, sym, subst, ◌∙◌, arith, Option, Some, suc}
+use Rattle.std.specs.Prelude.{◌&&◌, ◌||◌, filter, not, is_some}
+use Rattle.std.specs.List.{All, AllByRecursion, IsDistinct}
+use Rattle.std.proofs.lemmas.List.Elements.{All-head, All-tail, All-nil, All-cons, All-weaker}
+use Rattle.jm_base.specs.declared.mode.Mode.{Mode}
+use Rattle.jm_base.specs.declared.mode.Mode.TheVariants.{Auto, Client, Dups}
+use Rattle.jm_dest.specs.declared.session.SessionId.{SessionId}
+use Rattle.jm_dest.specs.declared.key.Key.{Key}
+use Rattle.jm_dest.specs.declared.key.Key.TheVariants.{Queue, Own, SharedOwn, Durable}
+use Rattle.jm_dest.specs.Keys.{key_eq}
+use Rattle.jm_machine.specs.declared.consumers.Consumers.{Consumers}
+use Rattle.jm_machine.specs.declared.state.Consumer.{Consumer}
+use Rattle.jm_machine.specs.declared.state.PlacedRow.{PlacedRow}
+use Rattle.jm_machine.specs.declared.state.Station.{Station}
+use Rattle.jm_machine.specs.Rows.{is_out}
+use Rattle.jm_machine.specs.Machine.{are_meant, closed_consumer, consumer_of, ends, has_number, is_client, is_one_of, is_own_of, of_session, returned_rows, settled_rows, with_rows}
+use Rattle.jm_stations.specs.Backlogs.{Backlog}
+use Rattle.jm_stations.proofs.Keys.{key_same}
+use Rattle.jm_sub.specs.Subscriptions.{Subscription, without_own}
+use Rattle.jm_core.specs.Accepted.{HoldsAccepted}
+use Rattle.jm_core.specs.Closing.{acknowledged, given_back, is_kept, kept_backlogs, kept_keys}
+use Rattle.jm_core.specs.State.{AllOwn, HasLimit, station, stations_of, keys_of, IsOfConsumer, IsSound}
+use Rattle.jm_core.proofs.Accepted.{all_returned_hold, all_settled_hold, kept_hold}
+use Rattle.jm_core.proofs.Stations.{with}
+use Rattle.jm_core.proofs.Sound.{key_parts}
+
+-- ---- consumers that close
+
+own_closed : (p : SessionId → ℕ → Bool) (xs : List Consumer) → AllOwn xs → AllOwn (map (closed_consumer p) xs)
+own_closed p [] k = tt
+own_closed p (x ∷ xs) k = (go (p x.session x.id), own_closed p xs k.1)
+  where
+    go : (b : Bool) → (cond b (record x { is_active = false }) x).key ≡ Own (cond b (record x { is_active = false }) x).session (cond b (record x { is_active = false }) x).id
+    go true = k.0
+    go false = k.0
+
+found_closed : (p : SessionId → ℕ → Bool) (s : SessionId) (c : ℕ) (xs : List Consumer) → is_some (consumer_of (map (closed_consumer p) xs) s c) ≡ is_some (consumer_of xs s c)
+found_closed p s c [] = refl
+found_closed p s c (x ∷ xs) = go (p x.session x.id) (found_closed p s c xs)
+  where
+    pick : (t : Bool) (a b : Consumer) (m n : Option Consumer) → is_some m ≡ is_some n → is_some (cond t (Some a) m) ≡ is_some (cond t (Some b) n)
+    pick true a b m n e = refl
+    pick false a b m n e = e
+
+    go : (b : Bool) → is_some (consumer_of (map (closed_consumer p) xs) s c) ≡ is_some (consumer_of xs s c) →
+        is_some (cond (has_number s c (cond b (record x { is_active = false }) x)) (Some (cond b (record x { is_active = false }) x)) (consumer_of (map (closed_consumer p) xs) s c)) ≡ is_some (cond (has_number s c x) (Some x) (consumer_of xs s c))
+    go true e = pick (has_number s c x) (record x { is_active = false }) x (consumer_of (map (closed_consumer p) xs) s c) (consumer_of xs s c) e
+    go false e = pick (has_number s c x) x x (consumer_of (map (closed_consumer p) xs) s c) (consumer_of xs s c) e
+
+made_closed : (p : SessionId → ℕ → Bool) (xs : List Consumer) (k : Key) → IsOfConsumer xs k → IsOfConsumer (map (closed_consumer p) xs) k
+made_closed p xs (Own s c) h = found_closed p s c xs ∙ h
+made_closed p xs (Queue name) h = h
+made_closed p xs (SharedOwn client name) h = h
+made_closed p xs (Durable client name) h = h
+
+-- ---- the subscriptions that end
+
+-- a key of a consumer is among those of consumers that pass exactly where the consumer passes
+one_of : (p : SessionId → ℕ → Bool) (s : SessionId) (c : ℕ) (xs : List Consumer) → AllOwn xs → is_one_of p xs (Own s c) ≡ (is_some (consumer_of xs s c) && p s c)
+one_of p s c [] k = refl
+one_of p s c (x ∷ xs) k =
+    ap (λ (y : Key). (key_eq y (Own s c) && p x.session x.id) || is_one_of p xs (Own s c)) k.0
+    ∙ go (has_number s c x) refl (one_of p s c xs k.1)
+  where
+    absorbed : (a m : Bool) → (a || (m && a)) ≡ a
+    absorbed true m = refl
+    absorbed false true = refl
+    absorbed false false = refl
+
+    go : (b : Bool) → has_number s c x ≡ b → is_one_of p xs (Own s c) ≡ (is_some (consumer_of xs s c) && p s c) →
+        ((b && p x.session x.id) || is_one_of p xs (Own s c)) ≡ (is_some (cond b (Some x) (consumer_of xs s c)) && p s c)
+    go true e r =
+        let parts = key_parts x.session s x.id c (key_same (Own x.session x.id) (Own s c) e) in
+        (λ i. p (parts.0 i) (parts.1 i) || r i) ∙ absorbed (p s c) (is_some (consumer_of xs s c))
+    go false e r = r
+
+ends_own : (which : Consumers) (xs : List Consumer) → AllOwn xs → (k : Key) → IsOfConsumer xs k → ends (are_meant which) xs k ≡ is_own_of which k
+ends_own which xs own (Own s c) h = one_of (are_meant which) s c xs own ∙ ap (λ b. b && are_meant which s c) h
+ends_own which xs own (Queue name) h = refl
+ends_own which xs own (SharedOwn client name) h = refl
+ends_own which xs own (Durable client name) h = refl
+
+nothing_of : (ss : List Subscription) → stations_of ss [] ≡ []
+nothing_of [] = refl
+nothing_of (s ∷ ss) = refl
+
+ended : (which : Consumers) (xs : List Consumer) (ss : List Subscription) (bs : List Backlog) → AllOwn xs → All (IsOfConsumer xs) (keys_of ss) →
+    stations_of (without_own which ss) (kept_backlogs which (keys_of ss) bs) ≡ filter (λ x. not (ends (are_meant which) xs x.key)) (stations_of ss bs)
+ended which xs [] bs own h = refl
+ended which xs (s ∷ ss) [] own h = nothing_of (without_own which (s ∷ ss))
+ended which xs (s ∷ ss) (b ∷ bs) own h =
+    go (is_kept which s.key) (ended which xs ss bs own (All-tail (IsOfConsumer xs) s.key (keys_of ss) h))
+    ∙ ap (λ o. cond (not o) (station s b ∷ filter (λ x. not (ends (are_meant which) xs x.key)) (stations_of ss bs)) (filter (λ x. not (ends (are_meant which) xs x.key)) (stations_of ss bs))) (sym (ends_own which xs own s.key (All-head (IsOfConsumer xs) s.key (keys_of ss) h)))
+  where
+    go : (t : Bool) → stations_of (without_own which ss) (kept_backlogs which (keys_of ss) bs) ≡ filter (λ x. not (ends (are_meant which) xs x.key)) (stations_of ss bs) →
+        stations_of (cond t (s ∷ without_own which ss) (without_own which ss)) (cond t (b ∷ kept_backlogs which (keys_of ss) bs) (kept_backlogs which (keys_of ss) bs))
+        ≡ cond t (station s b ∷ filter (λ x. not (ends (are_meant which) xs x.key)) (stations_of ss bs)) (filter (λ x. not (ends (are_meant which) xs x.key)) (stations_of ss bs))
+    go true r = ap (λ ys. station s b ∷ ys) r
+    go false r = r
+
+kept_same : (which : Consumers) (ss : List Subscription) → keys_of (without_own which ss) ≡ kept_keys which (keys_of ss)
+kept_same which [] = refl
+kept_same which (s ∷ ss) = go (is_kept which s.key) (kept_same which ss)
+  where
+    go : (t : Bool) → keys_of (without_own which ss) ≡ kept_keys which (keys_of ss) → keys_of (cond t (s ∷ without_own which ss) (without_own which ss)) ≡ cond t (s.key ∷ kept_keys which (keys_of ss)) (kept_keys which (keys_of ss))
+    go true r = ap (λ ks. s.key ∷ ks) r
+    go false r = r
+
+kept_number : (which : Consumers) (ss : List Subscription) (bs : List Backlog) → length bs ≡ length ss → length (kept_backlogs which (keys_of ss) bs) ≡ length (without_own which ss)
+kept_number which [] bs n = refl
+kept_number which (s ∷ ss) [] n = absurd (omega arith)
+kept_number which (s ∷ ss) (b ∷ bs) n = go (is_kept which s.key) (kept_number which ss bs (omega arith))
+  where
+    go : (t : Bool) → length (kept_backlogs which (keys_of ss) bs) ≡ length (without_own which ss) →
+        length (cond t (b ∷ kept_backlogs which (keys_of ss) bs) (kept_backlogs which (keys_of ss) bs)) ≡ length (cond t (s ∷ without_own which ss) (without_own which ss))
+    go true r = ap suc r
+    go false r = r
+
+kept_limited : (limit : ℕ) (which : Consumers) (keys : List Key) (bs : List Backlog) → All (HasLimit limit) bs → All (HasLimit limit) (kept_backlogs which keys bs)
+kept_limited limit which [] bs u = All-nil (HasLimit limit)
+kept_limited limit which (k ∷ keys) [] u = All-nil (HasLimit limit)
+kept_limited limit which (k ∷ keys) (b ∷ bs) u = go (is_kept which k) (kept_limited limit which keys bs (All-tail (HasLimit limit) b bs u))
+  where
+    go : (t : Bool) → All (HasLimit limit) (kept_backlogs which keys bs) → All (HasLimit limit) (cond t (b ∷ kept_backlogs which keys bs) (kept_backlogs which keys bs))
+    go true r = All-cons (HasLimit limit) b (kept_backlogs which keys bs) (All-head (HasLimit limit) b bs u) r
+    go false r = r
+
+-- keys of which some go
+
+all_kept : (P : Key → Type 0) (t : Key → Bool) (ks : List Key) → All P ks → All P (filter t ks)
+all_kept P t [] h = h
+all_kept P t (k ∷ ks) h = go (t k) (all_kept P t ks (All-tail P k ks h))
+  where
+    go : (b : Bool) → All P (filter t ks) → All P (cond b (k ∷ filter t ks) (filter t ks))
+    go true r = All-cons P k (filter t ks) (All-head P k ks h) r
+    go false r = r
+
+apart_kept : (a : Key) (t : Key → Bool) (ks : List Key) → AllByRecursion (λ y. key_eq a y ≡ false) ks → AllByRecursion (λ y. key_eq a y ≡ false) (filter t ks)
+apart_kept a t [] h = h
+apart_kept a t (k ∷ ks) h = go (t k) (apart_kept a t ks h.1)
+  where
+    go : (b : Bool) → AllByRecursion (λ y. key_eq a y ≡ false) (filter t ks) → AllByRecursion (λ y. key_eq a y ≡ false) (cond b (k ∷ filter t ks) (filter t ks))
+    go true r = (h.0, r)
+    go false r = r
+
+distinct_kept : (t : Key → Bool) (ks : List Key) → IsDistinct key_eq ks → IsDistinct key_eq (filter t ks)
+unfolding IsDistinct
+distinct_kept t [] h = h
+distinct_kept t (k ∷ ks) h = go (t k) (distinct_kept t ks h.1)
+  where
+    go : (b : Bool) → IsDistinct key_eq (filter t ks) → IsDistinct key_eq (cond b (k ∷ filter t ks) (filter t ks))
+    go true r = (apart_kept k t ks h.0, r)
+    go false r = r
+
+-- what callers see of the subscriptions that stay
+pub ended_stations : (limit : ℕ) (which : Consumers) (xs : List Consumer) (ss : List Subscription) (keys : List Key) (bs : List Backlog) (place : ℕ) → IsSound limit xs ss keys bs place →
+    stations_of (without_own which ss) (kept_backlogs which keys bs) ≡ filter (λ x. not (ends (are_meant which) xs x.key)) (stations_of ss bs)
+ended_stations limit which xs ss keys bs place h =
+    subst (λ (ks : List Key). stations_of (without_own which ss) (kept_backlogs which ks bs) ≡ filter (λ x. not (ends (are_meant which) xs x.key)) (stations_of ss bs)) h.same
+    (ended which xs ss bs h.own (subst (All (IsOfConsumer xs)) (sym h.same) h.made))
+
+-- what every core keeps, after consumers close
+pub sound_ended : (limit : ℕ) (which : Consumers) (xs : List Consumer) (ss : List Subscription) (keys : List Key) (bs : List Backlog) (place : ℕ) → IsSound limit xs ss keys bs place →
+    IsSound limit (map (closed_consumer (are_meant which)) xs) (without_own which ss) (kept_keys which keys) (kept_backlogs which keys bs) place
+sound_ended limit which xs ss keys bs place h = record {
+  same = kept_same which ss ∙ ap (kept_keys which) h.same;
+  number = subst (λ (ks : List Key). length (kept_backlogs which ks bs) ≡ length (without_own which ss)) h.same (kept_number which ss bs h.number);
+  once = distinct_kept (is_kept which) keys h.once;
+  made = all_kept (IsOfConsumer (map (closed_consumer (are_meant which)) xs)) (is_kept which) keys (All-weaker (IsOfConsumer xs) (IsOfConsumer (map (closed_consumer (are_meant which)) xs)) (made_closed (are_meant which) xs) keys h.made);
+  own = own_closed (are_meant which) xs h.own;
+  limited = kept_limited limit which keys bs h.limited;
+  accepted = subst HoldsAccepted (sym (ended_stations limit which xs ss keys bs place h)) (kept_hold (λ x. not (ends (are_meant which) xs x.key)) (stations_of ss bs) h.accepted);
+  places = h.places;
+}
+
+-- ---- rows that wait again, and rows that are settled
+
+rows_seen : (g : List PlacedRow → List PlacedRow) (ss : List Subscription) (bs : List Backlog) → stations_of ss (map (with g) bs) ≡ map (with_rows g) (stations_of ss bs)
+rows_seen g [] bs = refl
+rows_seen g (s ∷ ss) [] = refl
+rows_seen g (s ∷ ss) (b ∷ bs) = ap (λ ys. station s (with g b) ∷ ys) (rows_seen g ss bs)
+
+rows_number : (g : List PlacedRow → List PlacedRow) (bs : List Backlog) → length (map (with g) bs) ≡ length bs
+rows_number g [] = refl
+rows_number g (b ∷ bs) = ap suc (rows_number g bs)
+
+rows_limited : (limit : ℕ) (g : List PlacedRow → List PlacedRow) (bs : List Backlog) → All (HasLimit limit) bs → All (HasLimit limit) (map (with g) bs)
+rows_limited limit g [] u = u
+rows_limited limit g (b ∷ bs) u = All-cons (HasLimit limit) (with g b) (map (with g) bs) (All-head (HasLimit limit) b bs u) (rows_limited limit g bs (All-tail (HasLimit limit) b bs u))
+
+sound_rows : (limit : ℕ) (g : List PlacedRow → List PlacedRow) (xs : List Consumer) (ss : List Subscription) (keys : List Key) (bs : List Backlog) (place : ℕ) → HoldsAccepted (map (with_rows g) (stations_of ss bs)) → IsSound limit xs ss keys bs place →
+    IsSound limit xs ss keys (map (with g) bs) place
+sound_rows limit g xs ss keys bs place a h = record {
+  same = h.same;
+  number = rows_number g bs ∙ h.number;
+  once = h.once;
+  made = h.made;
+  own = h.own;
+  limited = rows_limited limit g bs h.limited;
+  accepted = subst HoldsAccepted (sym (rows_seen g ss bs)) a;
+  places = h.places;
+}
+
+pub sound_returned : (limit : ℕ) (which : Consumers) (xs : List Consumer) (ss : List Subscription) (keys : List Key) (bs : List Backlog) (place : ℕ) → IsSound limit xs ss keys bs place → IsSound limit xs ss keys (given_back which bs) place
+sound_returned limit which xs ss keys bs place h = sound_rows limit (returned_rows (are_meant which)) xs ss keys bs place (all_returned_hold (are_meant which) (stations_of ss bs) h.accepted) h
+
+pub returned_stations : (which : Consumers) (ss : List Subscription) (bs : List Backlog) → stations_of ss (given_back which bs) ≡ map (with_rows (returned_rows (are_meant which))) (stations_of ss bs)
+returned_stations which ss bs = rows_seen (returned_rows (are_meant which)) ss bs
+
+-- both
+pub closed_stations : (limit : ℕ) (which : Consumers) (xs : List Consumer) (ss : List Subscription) (keys : List Key) (bs : List Backlog) (place : ℕ) → IsSound limit xs ss keys bs place →
+    stations_of (without_own which ss) (kept_backlogs which keys (given_back which bs)) ≡ filter (λ x. not (ends (are_meant which) xs x.key)) (map (with_rows (returned_rows (are_meant which))) (stations_of ss bs))
+closed_stations limit which xs ss keys bs place h =
+    ended_stations limit which xs ss keys (given_back which bs) place (sound_returned limit which xs ss keys bs place h)
+    ∙ ap (filter (λ (x : Station). not (ends (are_meant which) xs x.key))) (returned_stations which ss bs)
+
+pub sound_acknowledged : (limit : ℕ) (mode : Mode) (s : SessionId) (xs : List Consumer) (ss : List Subscription) (keys : List Key) (bs : List Backlog) (place : ℕ) → IsSound limit xs ss keys bs place → IsSound limit xs ss keys (acknowledged mode s bs) place
+sound_acknowledged limit Auto s xs ss keys bs place h = h
+sound_acknowledged limit Client s xs ss keys bs place h =
+    sound_rows limit (settled_rows (of_session s)) xs ss keys bs place (all_settled_hold (λ x. not (is_out (of_session s) x.row)) (stations_of ss bs) h.accepted) h
+sound_acknowledged limit Dups s xs ss keys bs place h = h
+
+pub acknowledged_stations : (mode : Mode) (s : SessionId) (ss : List Subscription) (bs : List Backlog) → stations_of ss (acknowledged mode s bs) ≡ cond (is_client (Some mode)) (map (with_rows (settled_rows (of_session s))) (stations_of ss bs)) (stations_of ss bs)
+acknowledged_stations Auto s ss bs = refl
+acknowledged_stations Client s ss bs = rows_seen (settled_rows (of_session s)) ss bs
+acknowledged_stations Dups s ss bs = refl

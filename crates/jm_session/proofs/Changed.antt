@@ -1,0 +1,168 @@
+-- What a change of values leaves, one after the other, or of one alone that is found by its number.
+use Rattle.std.proofs.Common.{◌≡◌, ◌<◌, ◌≤◌, ◌+◌, ℕ, zero, suc, length, Bool, true, false, true≢false, cond, List, [], ◌∷◌, Option, None, Some, refl, sym, ap, subst, ◌∙◌, arith, add-one}
+use Rattle.std.specs.Prelude.{◌==◌, ◌&&◌, map, slice_get, position, nat_lt}
+use Rattle.std.proofs.lemmas.Bool.Decides.{nat_tests}
+use Rattle.std.proofs.lemmas.Bool.{eqb-true}
+use Rattle.std.specs.List.{IsDistinct, AllByRecursion, position_or_len}
+use Rattle.std.specs.Map.{keys_of, values_of}
+use Rattle.indexmap.specs.IndexMap.{set_value_at}
+use Rattle.jm_dest.specs.declared.session.SessionId.{SessionId}
+use Rattle.jm_dest.specs.Names.{session_eq}
+use Rattle.jm_machine.specs.declared.state.Consumer.{Consumer}
+use Rattle.jm_machine.specs.declared.state.SessionState.{SessionState}
+use Rattle.jm_machine.specs.Life.{closed_where}
+use Rattle.jm_machine.specs.Machine.{closed_consumer}
+use Rattle.jm_session.specs.declared.number.ConsumerNumber.{ConsumerNumber}
+use Rattle.jm_session.specs.Numbers.{IsNumbered, number_of, with_changed}
+use Rattle.jm_session.proofs.Found.{found_at, number_eq}
+
+module _ {K V : Type 0} (f : V → V) where
+  -- the entries, of which so many from the front on are changed
+  abbrev pub begun : ℕ → List (K × V) → List (K × V)
+  begun zero entries = entries
+  begun (suc n) [] = []
+  begun (suc n) (e ∷ entries) = (e.0, f e.1) ∷ begun n entries
+
+  -- they are as many
+  pub length_begun : (n : ℕ) (entries : List (K × V)) → length (begun n entries) ≡ length entries
+  length_begun zero entries = refl
+  length_begun (suc n) [] = refl
+  length_begun (suc n) (e ∷ entries) = ap suc (length_begun n entries)
+
+  -- one more is changed where it stands
+  changed_next : (n : ℕ) (entries : List (K × V)) (v : V) → slice_get (values_of (begun n entries)) n ≡ Some v → set_value_at (begun n entries) n (f v) ≡ begun (suc n) entries
+  changed_next zero [] v is = cc
+  changed_next zero (e ∷ entries) v is = let same : e.1 ≡ v = cc in λ i. (e.0, f (sym same i)) ∷ entries
+  changed_next (suc n) [] v is = cc
+  changed_next (suc n) (e ∷ entries) v is = ap (λ es. (e.0, f e.1) ∷ es) (changed_next n entries v is)
+
+  pub begun_next : (n : ℕ) (entries now : List (K × V)) (v : V) → now ≡ begun n entries → slice_get (values_of now) n ≡ Some v → set_value_at now n (f v) ≡ begun (n + 1) entries
+  begun_next n entries now v same is = rw (same, add-one) (changed_next n entries v (rw same at is))
+
+  -- the next one stands among them
+  pub begun_within : (n m : ℕ) (entries now : List (K × V)) → now ≡ begun n entries → m ≡ length entries → n < m → n < length now
+  begun_within n m entries now same all h = omega (arith, ap length same, length_begun n entries)
+
+  -- all are changed
+  all_begun : (entries : List (K × V)) → begun (length entries) entries ≡ with_changed f entries
+  all_begun [] = refl
+  all_begun (e ∷ entries) = ap (λ es. (e.0, f e.1) ∷ es) (all_begun entries)
+
+  pub begun_all : (n : ℕ) (entries : List (K × V)) → n ≡ length entries → begun n entries ≡ with_changed f entries
+  begun_all n entries e = ap (λ m. begun m entries) e ∙ all_begun entries
+
+  -- the values of changed entries
+  pub values_changed : (entries : List (K × V)) → values_of (with_changed f entries) ≡ map f (values_of entries)
+  values_changed [] = refl
+  values_changed (e ∷ entries) = ap (λ vs. f e.1 ∷ vs) (values_changed entries)
+
+  -- a change that leaves the numbers leaves each value under its own
+  pub numbered_changed : (number : V → K) → ((x : V) → number (f x) ≡ number x) → (entries : List (K × V)) → IsNumbered number entries → IsNumbered number (with_changed f entries)
+  numbered_changed number keeps [] h = tt
+  numbered_changed number keeps (e ∷ entries) h = (h.0 ∙ sym (keeps e.1), numbered_changed number keeps entries h.1)
+
+-- two that pass
+both : (a b : Bool) → (a && b) ≡ true → (a ≡ true) × (b ≡ true)
+both true b h = (refl, h)
+both false b h = absurd (true≢false (sym h))
+
+pub num_same : (a b : ℕ) → (a == b) ≡ true → a ≡ b
+num_same a b = eqb-true a b
+
+pub session_same : (a b : SessionId) → session_eq a b ≡ true → a ≡ b
+session_same a b h =
+    let parts = both (a.connection == b.connection) (a.number == b.number) h in
+    λ i. record { connection = eqb-true a.connection b.connection parts.0 i; number = eqb-true a.number b.number parts.1 i }
+
+pub number_same : (a b : ConsumerNumber) → number_eq a b ≡ true → a ≡ b
+number_same a b h =
+    let parts = both (session_eq a.session b.session) (a.consumer == b.consumer) h in
+    λ i. record { session = session_same a.session b.session parts.0 i; consumer = eqb-true a.consumer b.consumer parts.1 i }
+
+module _ {K V : Type 0} (eq : K → K → Bool) (symmetric : (a b : K) → eq a b ≡ eq b a) (same : (a b : K) → eq a b ≡ true → a ≡ b) (number : V → K)
+    (g : V → V) (keeps : (x : V) → number (g x) ≡ number x) (k : K) where
+  -- a value, changed where it has the number
+  abbrev pub changed_if : V → V
+  changed_if x = cond (eq (number x) k) (g x) x
+
+  hit : (x : V) → eq k (number x) ≡ true → g x ≡ changed_if x
+  hit x h = sym (ap (λ b. cond b (g x) x) (symmetric (number x) k ∙ h))
+
+  missed : (x : V) → eq k (number x) ≡ false → x ≡ changed_if x
+  missed x h = sym (ap (λ b. cond b (g x) x) (symmetric (number x) k ∙ h))
+
+  -- values of other numbers stay
+  stay : (entries : List (K × V)) → IsNumbered number entries → AllByRecursion (λ y. eq k y ≡ false) (keys_of entries) → values_of entries ≡ map changed_if (values_of entries)
+  stay [] h d = refl
+  stay (e ∷ entries) h d =
+      let apart : eq k (number e.1) ≡ false = (λ i. eq k (sym h.0 i)) ∙ d.0 in
+      λ i. missed e.1 apart i ∷ stay entries h.1 d.1 i
+
+  -- a value of the number, changed where it stands
+  changed_at : (v : V) (entries : List (K × V)) (at : ℕ) → slice_get (values_of entries) at ≡ Some v → IsNumbered number entries → IsDistinct eq (keys_of entries) →
+      position_or_len (eq k) (keys_of entries) ≡ at → at < length (keys_of entries) →
+      (values_of (set_value_at entries at (g v)) ≡ map changed_if (values_of entries)) × IsNumbered number (set_value_at entries at (g v))
+  unfolding IsDistinct
+  changed_at v [] at there h d is within = absurd (omega arith)
+  changed_at v (e ∷ entries) zero there h d is within = by (eq k e.0) refl
+    where
+      by : (b : Bool) → eq k e.0 ≡ b → (values_of (set_value_at (e ∷ entries) zero (g v)) ≡ map changed_if (values_of (e ∷ entries))) × IsNumbered number (set_value_at (e ∷ entries) zero (g v))
+      by true this =
+          let here : k ≡ e.0 = same k e.0 this in
+          let is_v : v ≡ e.1 = cc in
+          let is_w : g v ≡ changed_if e.1 = ap g is_v ∙ hit e.1 ((λ i. eq k (sym h.0 i)) ∙ this) in
+          let apart : AllByRecursion (λ y. eq k y ≡ false) (keys_of entries) = subst (λ j. AllByRecursion (λ y. eq j y ≡ false) (keys_of entries)) (sym here) d.0 in (
+            (λ i. is_w i ∷ stay entries h.1 apart i),
+            (h.0 ∙ sym (keeps e.1) ∙ (λ i. number (g (sym is_v i))), h.1),
+          )
+      by false this = absurd (omega (arith, rw this at is))
+  changed_at v (e ∷ entries) (suc at) there h d is within = by (eq k e.0) refl (changed_at v entries at there h.1 d.1)
+    where
+      by : (b : Bool) → eq k e.0 ≡ b →
+          (position_or_len (eq k) (keys_of entries) ≡ at → at < length (keys_of entries) → (values_of (set_value_at entries at (g v)) ≡ map changed_if (values_of entries)) × IsNumbered number (set_value_at entries at (g v))) →
+          (values_of (set_value_at (e ∷ entries) (suc at) (g v)) ≡ map changed_if (values_of (e ∷ entries))) × IsNumbered number (set_value_at (e ∷ entries) (suc at) (g v))
+      by true this later = absurd (omega (arith, rw this at is))
+      by false this later =
+          let place : position_or_len (eq k) (keys_of entries) ≡ at = omega (arith, rw this at is) in
+          let rest = later place (omega arith) in (
+            (λ i. missed e.1 ((λ j. eq k (sym h.0 j)) ∙ this) i ∷ rest.0 i),
+            (h.0, rest.1),
+          )
+
+  -- the same, where the number was looked for
+  pub changed_found : (v : V) (entries : List (K × V)) (at : ℕ) → slice_get (values_of entries) at ≡ Some v → IsNumbered number entries → IsDistinct eq (keys_of entries) →
+      position (eq k) (keys_of entries) ≡ Some at →
+      (values_of (set_value_at entries at (g v)) ≡ map changed_if (values_of entries)) × IsNumbered number (set_value_at entries at (g v))
+  changed_found v entries at there h d is =
+      let place = found_at (eq k) (keys_of entries) at is in
+      changed_at v entries at there h d place.0 place.1
+
+  -- a number that is not found is no value's
+  nowhere : (ks : List K) → length ks ≤ position_or_len (eq k) ks → AllByRecursion (λ y. eq k y ≡ false) ks
+  nowhere [] h = tt
+  nowhere (x ∷ ks) h = by (eq k x) refl (nowhere ks)
+    where
+      by : (b : Bool) → eq k x ≡ b → (length ks ≤ position_or_len (eq k) ks → AllByRecursion (λ y. eq k y ≡ false) ks) → AllByRecursion (λ y. eq k y ≡ false) (x ∷ ks)
+      by true this later = absurd (omega (arith, rw this at h))
+      by false this later = (this, later (omega (arith, rw this at h)))
+
+  -- where the number is not found, the values stay
+  pub changed_nowhere : (entries : List (K × V)) → IsNumbered number entries → position (eq k) (keys_of entries) ≡ None → values_of entries ≡ map changed_if (values_of entries)
+  changed_nowhere entries h none = stay entries h (nowhere (keys_of entries) (past (position_or_len (eq k) (keys_of entries)) (length (keys_of entries)) (nat_lt (position_or_len (eq k) (keys_of entries)) (length (keys_of entries))) refl none))
+    where
+      past : (n m : ℕ) (b : Bool) → nat_lt n m ≡ b → cond b (Some n) None ≡ None → m ≤ n
+      past n m true e none = cc
+      past n m false e none = grind (arith, nat_tests)
+
+-- a change under a test leaves what the change leaves
+left : {A B : Type 0} (h : A → B) (b : Bool) (x y : A) → h x ≡ h y → h (cond b x y) ≡ h y
+left h true x y e = e
+left h false x y e = refl
+
+-- a session that closes keeps its number
+pub session_keeps : (p : SessionId → Bool) (x : SessionState) → (closed_where p x).id ≡ x.id
+session_keeps p x = left (λ (y : SessionState). y.id) (p x.id) (record x { is_open = false }) x refl
+
+-- a consumer that closes keeps its number
+pub consumer_keeps : (p : SessionId → ℕ → Bool) (x : Consumer) → number_of (closed_consumer p x) ≡ number_of x
+consumer_keeps p x = left number_of (p x.session x.id) (record x { is_active = false }) x refl

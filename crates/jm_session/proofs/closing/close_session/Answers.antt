@@ -1,0 +1,17 @@
+use Rattle.std.proofs.Common.{◌∙◌, sym, refl, false}
+use Rattle.jm_dest.specs.Names.{session_eq}
+use Rattle.jm_machine.specs.declared.state.SessionState.{SessionState}
+use Rattle.jm_session.proofs.Found.{session_sym}
+use Rattle.jm_session.proofs.Changed.{changed_found, changed_nowhere, session_same}
+use Rattle.jm_session.proofs.closing.close_session.Goals as goal
+
+pub returns-in-Some-clause-entries : goal.returns-in-Some-clause-entries
+returns-in-Some-clause-entries c = λ h.
+    changed_found session_eq session_sym session_same (λ (x : SessionState). x.id) (λ (x : SessionState). record x { is_open = false }) (λ x. refl) c.args.id.now c.index_mut.result.now c.args.sessions.now.entries c.in-Some.at
+    c.index_mut.ensures.value h c.get_index_of.ensures.unique (sym c.get_index_of.ensures.index ∙ c.in-Some.is)
+
+pub returns-in_default-clause-entries : goal.returns-in_default-clause-entries
+returns-in_default-clause-entries c = λ h. (
+  changed_nowhere session_eq session_sym session_same (λ (x : SessionState). x.id) (λ (x : SessionState). record x { is_open = false }) (λ x. refl) c.args.id.now c.args.sessions.now.entries h (sym c.get_index_of.ensures.index ∙ c.in_default.is),
+  h,
+)
