@@ -136,13 +136,13 @@ impl Row {
             || (self.priority == other.priority && self.place < other.place)
     }
 
-    /// A bound on the expiration of what has that bound, and of the row.
+    /// A bound on when what has that bound expires, and the row, where it waits.
     pub(crate) fn earlier(&self, least: u64) -> u64
         ensures lower { result ≤ least }
         ensures bound { IsBound result self.now }
     {
         let expiration = self.expiration.get();
-        if expiration != 0 && expiration < least {
+        if self.is_waiting() && expiration != 0 && expiration < least {
             expiration
         } else {
             least
