@@ -48,18 +48,18 @@ impl Row {
         ensures row { result ≡ spec.fresh place message.now }
         ensures priority { result.priority < 10 }
     {
-        Row::with_count(place, message, 0)
+        Row::with_state(place, message, 0, RowState::Waiting)
     }
 
-    /// The row of a message that was delivered so often, at its place. It waits.
-    pub fn with_count(place: u64, message: &Message, count: u32) -> Row
-        ensures row { result ≡ spec.waiting place message.now count }
+    /// The row of a message that was delivered so often, at its place and in that state.
+    pub fn with_state(place: u64, message: &Message, count: u32, state: RowState) -> Row
+        ensures row { result ≡ spec.row_of place message.now count state }
         ensures priority { result.priority < 10 }
     {
         Row {
             place,
             count,
-            state: RowState::Waiting,
+            state,
             priority: message.priority(),
             expiration: message.expiration(),
         }
