@@ -13,6 +13,7 @@ mod Letting
 pub mod Holding
 mod Ranks
 mod Soonest
+mod Receiving
 mod Shown
 mod Standing
 pub mod Counting

@@ -1,6 +1,7 @@
 pub mod Lists
 pub mod Rows
 pub mod Lanes
+pub mod Receivers
 pub mod Holders
 pub mod Counts
 pub mod Placed

@@ -9,6 +9,7 @@ ghost use Rattle.jm_pending.specs.Holders.{Covers, Follows, holders_of, last_mes
 
 use crate::lane::Lane;
 use crate::lanes;
+use crate::receivers::Receivers;
 use crate::row::{Outs, Row};
 use crate::table::Table;
 use jm_dest::{ConsumerId, Moment, SessionId};
@@ -29,6 +30,7 @@ pub struct Taken {
 #[derive(Drop)]
 pub struct Held {
     lanes: [Lane; 30],
+    receivers: Receivers,
     limit: Option<u32>,
     missed: u64,
     room: usize,
@@ -36,13 +38,14 @@ pub struct Held {
 
 impl Model for Held {
     ghost use Rattle.jm_pending.specs.Lanes.{IsHeld, rows_of};
+    ghost use Rattle.jm_pending.specs.Receivers.{AreKnown};
     ghost use Rattle.jm_pending.specs.Rows.{Held as HeldShown};
 
     ghost Value = { HeldShown };
 
     ghost view = { λ h. record { rows = rows_of h.lanes; limit = h.limit; missed = h.missed; room = h.room } };
 
-    ghost invariant = { λ h. IsHeld h.lanes h.room };
+    ghost invariant = { λ h. IsHeld h.lanes h.room × AreKnown h.receivers (rows_of h.lanes) };
 }
 
 impl Held {
@@ -83,6 +86,7 @@ impl Held {
                 Lane::new(alloc, 0),
                 Lane::new(alloc, 0),
             ],
+            receivers: Receivers::Nobody,
             limit,
             missed: 0,
             room: 0,
@@ -96,6 +100,7 @@ impl Held {
     {
         Ok(Held {
             lanes: self.lanes.clone()?,
+            receivers: self.receivers,
             limit: self.limit,
             missed: self.missed,
             room: 0,
@@ -179,6 +184,7 @@ impl Held {
             return;
         }
         table.hold(row.place);
+        self.receivers = self.receivers.with(row.state);
         lanes::push(&mut self.lanes, row);
         self.room -= 1;
     }
@@ -214,6 +220,7 @@ impl Held {
         ensures rising { spec.IsRising self.old.rows }
     {
         lanes::drop_expired(&mut self.lanes, table, now);
+        self.receivers = self.receivers.with_one(&session, consumer);
         lanes::take_first(&mut self.lanes, session, consumer)
     }
 
@@ -241,13 +248,17 @@ impl Held {
         })
     }
 
-    /// The rows that are out through one of those consumers go. Takes no memory.
+    /// The rows that are out through one of those consumers go. Where it is known that none is, no row is looked at.
+    /// Takes no memory.
     pub fn settle(&mut self, table: &mut Table, which: &Consumers)
         requires { Covers table.old self.old.rows }
         ensures rows { self.new ≡ record self.old { rows = filter (λ r. not (spec.is_out (are_meant which.now) r)) self.old.rows } }
         ensures table { Follows table.old table.new self.old.rows self.new.rows }
     {
-        lanes::settle(&mut self.lanes, table, &Outs::Of(*which));
+        if self.receivers.include(which) {
+            lanes::settle(&mut self.lanes, table, &Outs::Of(*which));
+            self.receivers = self.receivers.without(which);
+        }
     }
 
     /// The row at that place goes, where it is out through that consumer of the session. Takes no
@@ -274,12 +285,15 @@ impl Held {
         );
     }
 
-    /// The rows that are out through one of those consumers wait again, at their places and with their counts. Takes
-    /// no memory.
+    /// The rows that are out through one of those consumers wait again, at their places and with their counts. Where
+    /// it is known that none is, no row is looked at. Takes no memory.
     pub fn give_back(&mut self, which: &Consumers)
         ensures { self.new ≡ record self.old { rows = map (spec.back (spec.is_out (are_meant which.now))) self.old.rows } }
     {
-        lanes::give_back(&mut self.lanes, &Outs::Of(*which));
+        if self.receivers.include(which) {
+            lanes::give_back(&mut self.lanes, &Outs::Of(*which));
+            self.receivers = self.receivers.without(which);
+        }
     }
 
     /// The row at that place waits again, where it is out through that consumer of the session. Takes
@@ -301,5 +315,6 @@ impl Held {
         ensures table { Follows table.old table.new self.old.rows self.new.rows }
     {
         lanes::clear(&mut self.lanes, table);
+        self.receivers = Receivers::Nobody;
     }
 }

@@ -6,6 +6,7 @@
 mod held;
 mod lane;
 mod lanes;
+mod receivers;
 mod row;
 mod table;
 mod walks;

@@ -5,6 +5,7 @@ use Rattle.jm_pending.specs.Lanes.{Lane, all_rows, rows_of, IsHeld, IsPushed}
 use Rattle.jm_pending.proofs.Places.{all_unsorted}
 use Rattle.jm_pending.proofs.Holding.{follows_held}
 use Rattle.jm_pending.proofs.Pushing.{held_push}
+use Rattle.jm_pending.proofs.Receiving.{known_added}
 use Rattle.jm_pending.proofs.held.Held.add.Goals as goal
 
 pushed : (xs ys : List Lane) (room : ℕ) (row : Row) → IsHeld xs room → 0 < room → row.place < 2 ^ 63 → All (λ (r : Row). r.place < row.place) (rows_of xs) → (at : ℕ) × (after : Lane) × (at < length xs) × (ys ≡ set xs at after) × IsPushed row (get_or xs at after) after → IsHeld ys (room - 1) × (rows_of ys ≡ rows_of xs ++ row ∷ [])
@@ -15,12 +16,13 @@ push-requires-clause-above c = all_unsorted (λ (r : Row). r.place < c.args.row.
 
 pub invariant_of-self-2 : goal.invariant_of-self-2
 invariant_of-self-2 c =
-    (pushed c.self.inside.lanes c.push.new.lanes c.self.inside.room c.args.row c.self.invariant (rw (← c.self.view_is) at c.requires.room) c.requires.place (rw (← c.self.view_is) at c.requires.above) c.push.ensures).0
+    let more = pushed c.self.inside.lanes c.push.new.lanes c.self.inside.room c.args.row c.self.invariant.0 (rw (← c.self.view_is) at c.requires.room) c.requires.place (rw (← c.self.view_is) at c.requires.above) c.push.ensures in
+    (more.0, known_added c.self.inside.receivers c.with-self-inside.result (rows_of c.self.inside.lanes) (rows_of c.push.new.lanes) c.args.row more.1 c.with-self-inside.ensures.row c.with-self-inside.ensures.others c.self.invariant.1)
 
 pub returns-clause-added : goal.returns-clause-added
 returns-clause-added c = λ no.
-    rw (← c.self.view_is, (pushed c.self.inside.lanes c.push.new.lanes c.self.inside.room c.args.row c.self.invariant (rw (← c.self.view_is) at c.requires.room) c.requires.place (rw (← c.self.view_is) at c.requires.above) c.push.ensures).1) refl
+    rw (← c.self.view_is, (pushed c.self.inside.lanes c.push.new.lanes c.self.inside.room c.args.row c.self.invariant.0 (rw (← c.self.view_is) at c.requires.room) c.requires.place (rw (← c.self.view_is) at c.requires.above) c.push.ensures).1) refl
 
 pub returns-clause-table : goal.returns-clause-table
 returns-clause-table c =
-    rw (← c.self.view_is, (pushed c.self.inside.lanes c.push.new.lanes c.self.inside.room c.args.row c.self.invariant (rw (← c.self.view_is) at c.requires.room) c.requires.place (rw (← c.self.view_is) at c.requires.above) c.push.ensures).1) (follows_held c.args.table.now c.hold.new.self (rows_of c.self.inside.lanes) c.args.row c.hold.ensures.holders c.hold.ensures.messages)
+    rw (← c.self.view_is, (pushed c.self.inside.lanes c.push.new.lanes c.self.inside.room c.args.row c.self.invariant.0 (rw (← c.self.view_is) at c.requires.room) c.requires.place (rw (← c.self.view_is) at c.requires.above) c.push.ensures).1) (follows_held c.args.table.now c.hold.new.self (rows_of c.self.inside.lanes) c.args.row c.hold.ensures.holders c.hold.ensures.messages)

@@ -1,6 +1,10 @@
-use Rattle.std.proofs.Common.{◌≡◌, ℕ, ◌+◌, ◌*◌, ◌<◌, ◌≤◌, List, [], ◌∷◌, length, get_or, refl, subst, arith, zero, suc}
+use Rattle.std.proofs.Common.{◌≡◌, ℕ, ◌+◌, ◌*◌, ◌<◌, ◌≤◌, List, [], ◌∷◌, length, get_or, refl, ap, subst, arith, zero, suc}
 use Rattle.std.proofs.lemmas.List.Elements.{All-nil}
-use Rattle.jm_pending.specs.Lanes.{Lane, IsLaneOf, IsHeld, all_rows}
+use Rattle.jm_pending.specs.Lists.{sorted}
+use Rattle.jm_pending.specs.Lanes.{Lane, IsLaneOf, IsHeld, all_rows, rows_of, is_lower}
+use Rattle.jm_pending.specs.declared.receivers.Receivers.TheVariants.{Nobody}
+use Rattle.jm_pending.specs.Receivers.{AreKnown}
+use Rattle.jm_pending.proofs.Receiving.{known_no_rows}
 use Rattle.jm_pending.proofs.held.Held.new.Goals as goal
 
 -- empty lanes, from the one at an index on
@@ -31,9 +35,16 @@ empty_lanes xs number h =
       spare = λ k d l. omega arith;
     }
 
+-- of no rows nothing is out
+no_rows_out : (xs : List Lane) → AreLanesFrom 0 xs → AreKnown Nobody (rows_of xs)
+no_rows_out xs h = known_no_rows Nobody (rows_of xs) (ap (sorted is_lower) (no_rows 0 xs h))
+
+empty_known : (xs : List Lane) → length xs ≡ 30 → AreLanesFrom 0 xs → IsHeld xs 0 × AreKnown Nobody (rows_of xs)
+empty_known xs number h = (empty_lanes xs number h, no_rows_out xs h)
+
 pub invariant_of-result : goal.invariant_of-result
 invariant_of-result c =
-    empty_lanes _ refl (
+    empty_known _ refl (
       lane_of 0 9 c.new.result c.new.ensures.priority c.new.ensures.rows (omega arith) (omega arith),
       (
         lane_of 1 9 c.new-2.result c.new-2.ensures.priority c.new-2.ensures.rows (omega arith) (omega arith),

@@ -1,19 +1,28 @@
 use Rattle.std.proofs.Common.{refl}
+use Rattle.jm_machine.specs.Machine.{are_meant}
 use Rattle.jm_pending.specs.declared.row.Outs.TheVariants.{Of}
 use Rattle.jm_pending.specs.Rows.{keeps}
+use Rattle.jm_pending.specs.Lanes.{rows_of}
 use Rattle.jm_pending.proofs.Holding.{covers_all, follows_all}
 use Rattle.jm_pending.proofs.Keeping.{held_filter}
+use Rattle.jm_pending.proofs.Receiving.{known_left, none_go}
 use Rattle.jm_pending.proofs.held.Held.settle.Goals as goal
 
 pub invariant_of-self : goal.invariant_of-self
-invariant_of-self c = (held_filter (keeps (Of c.args.which.now)) c.self.inside.lanes c.settle.new.lanes c.self.inside.room c.self.invariant c.settle.ensures.rows).0
-
-pub returns-clause-rows : goal.returns-clause-rows
-returns-clause-rows c =
-    rw (← c.self.view_is, (held_filter (keeps (Of c.args.which.now)) c.self.inside.lanes c.settle.new.lanes c.self.inside.room c.self.invariant c.settle.ensures.rows).1) refl
+invariant_of-self c =
+    let kept = held_filter (keeps (Of c.args.which.now)) c.self.inside.lanes c.settle.new.lanes c.self.inside.room c.self.invariant.0 c.settle.ensures.rows in
+    (kept.0, known_left (are_meant c.args.which.now) c.self.inside.receivers c.without-self-inside.result (rows_of c.self.inside.lanes) (rows_of c.settle.new.lanes) kept.1 c.without-self-inside.ensures c.self.invariant.1)
 
 pub settle-requires : goal.settle-requires
 settle-requires c = covers_all c.args.table.now c.self.inside.lanes (rw (← c.self.view_is) at c.requires)
 
-pub returns-clause-table : goal.returns-clause-table
-returns-clause-table c = rw (← c.self.view_is) (follows_all c.args.table.now c.settle.new.table c.self.inside.lanes c.settle.new.lanes c.settle.ensures.table)
+pub returns-then-include-clause-rows : goal.returns-then-include-clause-rows
+returns-then-include-clause-rows c =
+    rw (← c.self.view_is, (held_filter (keeps (Of c.args.which.now)) c.self.inside.lanes c.settle.new.lanes c.self.inside.room c.self.invariant.0 c.settle.ensures.rows).1) refl
+
+pub returns-then-include-clause-table : goal.returns-then-include-clause-table
+returns-then-include-clause-table c = rw (← c.self.view_is) (follows_all c.args.table.now c.settle.new.table c.self.inside.lanes c.settle.new.lanes c.settle.ensures.table)
+
+pub returns-else-include-clause-rows : goal.returns-else-include-clause-rows
+returns-else-include-clause-rows c =
+    rw (← c.self.view_is, none_go (are_meant c.args.which.now) c.self.inside.receivers (rows_of c.self.inside.lanes) (c.include.ensures c.if-include.false) c.self.invariant.1) refl

@@ -1,9 +1,12 @@
 use Rattle.jm_pending.proofs.Holding.{covers_all, follows_all}
 use Rattle.jm_pending.proofs.Keeping.{held_filter}
+use Rattle.jm_pending.proofs.Receiving.{known_filter}
 use Rattle.jm_pending.proofs.held.Held.settle_one.Goals as goal
 
 pub invariant_of-self : goal.invariant_of-self
-invariant_of-self c = (held_filter _ c.self.inside.lanes c.settle.new.lanes c.self.inside.room c.self.invariant c.settle.ensures.rows).0
+invariant_of-self c =
+    let kept = held_filter _ c.self.inside.lanes c.settle.new.lanes c.self.inside.room c.self.invariant.0 c.settle.ensures.rows in
+    (kept.0, known_filter _ _ _ _ kept.1 c.self.invariant.1)
 
 pub settle-requires : goal.settle-requires
 settle-requires c = covers_all c.args.table.now c.self.inside.lanes (rw (← c.self.view_is) at c.requires)

@@ -10,7 +10,10 @@ use Rattle.jm_pending.specs.Lanes.{Lane, all_rows, rows_of, IsHeld, IsApart, IsS
 use Rattle.jm_pending.proofs.Places.{apart_from_rising}
 use Rattle.jm_pending.proofs.Soonest.{next_soonest, soonest_ready, found_there}
 use Rattle.jm_pending.proofs.Edited.{all_rows_each}
+use Rattle.jm_pending.specs.declared.receivers.Receivers.{Receivers}
+use Rattle.jm_pending.specs.Receivers.{AreKnown}
 use Rattle.jm_pending.proofs.Keeping.{held_filter, held_same}
+use Rattle.jm_pending.proofs.Receiving.{known_filter, known_same}
 use Rattle.jm_pending.proofs.Holding.{covers_all, covers_after, first_holder, first_message, first_settled, follows_all, follows_then, filter_count}
 use Rattle.jm_pending.proofs.held.Held.take_settled.Goals as goal
 
@@ -42,13 +45,29 @@ pub drop_expired-requires : goal.drop_expired-requires
 drop_expired-requires c = covers_all c.args.table.now c.self.inside.lanes (rw (← c.self.view_is) at c.requires)
 
 pub remove_first-requires : goal.remove_first-requires
-remove_first-requires c = apart c.args.now c.self.inside.lanes c.drop_expired.new.lanes c.self.inside.room c.self.invariant c.drop_expired.ensures.rows
+remove_first-requires c = apart c.args.now c.self.inside.lanes c.drop_expired.new.lanes c.self.inside.room c.self.invariant.0 c.drop_expired.ensures.rows
+
+-- what is known of the rows is known of those that are left
+known_after : (k : Receivers) (now : ℕ) (xs ys zs : List Lane) (room : ℕ) (res : Option Row) → IsHeld xs room → AreKnown k (rows_of xs) → EachBecomes (filter (stays now)) xs ys → (o : Option Row) × IsSoonestOf is_waiting (all_rows ys) o × Takes ys zs res o → AreKnown k (rows_of zs)
+known_after k now xs ys zs room res h known e m =
+    let kept = held_filter (stays now) xs ys room h e in
+    go m.0 (known_filter k (stays now) (rows_of xs) (rows_of ys) kept.1 known) kept.0 m.2
+  where
+    go : (o : Option Row) → AreKnown k (rows_of ys) → IsHeld ys room → Takes ys zs res o → AreKnown k (rows_of zs)
+    go None known h m = known_same k (rows_of ys) (rows_of zs) (held_same ys zs room h m.1).1 known
+    go (Some r) known h m = known_filter k (is_elsewhere r.place) (rows_of ys) (rows_of zs) (held_filter (is_elsewhere r.place) ys zs room h m.1).1 known
 
 pub invariant_of-self : goal.invariant_of-self
-invariant_of-self c = (settled c.args.now c.self.inside.lanes c.drop_expired.new.lanes c.remove_first.new.lanes c.self.inside.room c.remove_first.result c.self.invariant c.drop_expired.ensures.rows c.remove_first.ensures).0
+invariant_of-self c = (
+  (settled c.args.now c.self.inside.lanes c.drop_expired.new.lanes c.remove_first.new.lanes c.self.inside.room c.remove_first.result c.self.invariant.0 c.drop_expired.ensures.rows c.remove_first.ensures).0,
+  known_after c.self.inside.receivers c.args.now c.self.inside.lanes c.drop_expired.new.lanes c.remove_first.new.lanes c.self.inside.room c.remove_first.result c.self.invariant.0 c.self.invariant.1 c.drop_expired.ensures.rows c.remove_first.ensures,
+)
 
 pub invariant_of-self-2 : goal.invariant_of-self-2
-invariant_of-self-2 c = (settled c.args.now c.self.inside.lanes c.drop_expired.new.lanes c.remove_first.new.lanes c.self.inside.room c.remove_first.result c.self.invariant c.drop_expired.ensures.rows c.remove_first.ensures).0
+invariant_of-self-2 c = (
+  (settled c.args.now c.self.inside.lanes c.drop_expired.new.lanes c.remove_first.new.lanes c.self.inside.room c.remove_first.result c.self.invariant.0 c.drop_expired.ensures.rows c.remove_first.ensures).0,
+  known_after c.self.inside.receivers c.args.now c.self.inside.lanes c.drop_expired.new.lanes c.remove_first.new.lanes c.self.inside.room c.remove_first.result c.self.invariant.0 c.self.invariant.1 c.drop_expired.ensures.rows c.remove_first.ensures,
+)
 
 -- the answer where nothing is next
 none_taken : (o res : Option Row) (out : Option Taken) (left dropped : List Row) (after : Row → List Row) (of : Row → Taken) (shown : List Row → Held) → MatchOption o ((res ≡ None) × (left ≡ dropped)) (λ r. (res ≡ Some r) × (left ≡ after r)) → res ≡ None → out ≡ None → MatchOption o ((out ≡ None) × (shown left ≡ shown dropped)) (λ r. (out ≡ Some (of r)) × (shown left ≡ shown (after r)))
@@ -79,7 +98,7 @@ left_all res (Some r) ys zs m none = absurd (let got = m.0 in cc)
 
 pub returns-in_err-row-clause-rows : goal.returns-in_err-row-clause-rows
 returns-in_err-row-clause-rows c =
-    let s = (settled c.args.now c.self.inside.lanes c.drop_expired.new.lanes c.remove_first.new.lanes c.self.inside.room c.remove_first.result c.self.invariant c.drop_expired.ensures.rows c.remove_first.ensures).1 in
+    let s = (settled c.args.now c.self.inside.lanes c.drop_expired.new.lanes c.remove_first.new.lanes c.self.inside.room c.remove_first.result c.self.invariant.0 c.drop_expired.ensures.rows c.remove_first.ensures).1 in
     rw (← c.self.view_is) (none_taken (next c.args.now (rows_of c.self.inside.lanes)) c.remove_first.result c.from_residual.result (rows_of c.remove_first.new.lanes) (filter (stays c.args.now) (rows_of c.self.inside.lanes)) (λ r. filter (is_elsewhere r.place) (filter (stays c.args.now) (rows_of c.self.inside.lanes))) (λ r. record { row = counted r; message = last_message c.args.table.now r.place }) (λ rows. record { rows = rows; limit = c.self.inside.limit; missed = c.self.inside.missed; room = c.self.inside.room }) s c.in_err-row.was c.from_residual.ensures)
 
 pub returns-in_err-row-clause-table : goal.returns-in_err-row-clause-table
@@ -94,7 +113,7 @@ dropped now xs ys e = all_rows_each (filter (stays now)) refl (filter-append (st
 pub release-message-requires : goal.release-message-requires
 release-message-requires c =
     let ys = all_rows c.drop_expired.new.lanes in
-    let apart' = apart c.args.now c.self.inside.lanes c.drop_expired.new.lanes c.self.inside.room c.self.invariant c.drop_expired.ensures.rows in
+    let apart' = apart c.args.now c.self.inside.lanes c.drop_expired.new.lanes c.self.inside.room c.self.invariant.0 c.drop_expired.ensures.rows in
     let out = taken_out c.remove_first.result c.in_ok-row.row c.drop_expired.new.lanes c.remove_first.new.lanes apart' c.remove_first.ensures c.in_ok-row.was in
     let covered = covers_after c.args.table.now c.drop_expired.new.table (all_rows c.self.inside.lanes) ys (covers_all c.args.table.now c.self.inside.lanes (rw (← c.self.view_is) at c.requires)) c.drop_expired.ensures.table in
     first_holder (is_at c.in_ok-row.row.place) c.drop_expired.new.table ys c.in_ok-row.row apart' out.0 covered
@@ -104,11 +123,11 @@ returns-clause-rows c =
     let xs = all_rows c.self.inside.lanes in
     let ys = all_rows c.drop_expired.new.lanes in
     let is = dropped c.args.now c.self.inside.lanes c.drop_expired.new.lanes c.drop_expired.ensures.rows in
-    let apart' = apart c.args.now c.self.inside.lanes c.drop_expired.new.lanes c.self.inside.room c.self.invariant c.drop_expired.ensures.rows in
+    let apart' = apart c.args.now c.self.inside.lanes c.drop_expired.new.lanes c.self.inside.room c.self.invariant.0 c.drop_expired.ensures.rows in
     let out = taken_out c.remove_first.result c.in_ok-row.row c.drop_expired.new.lanes c.remove_first.new.lanes apart' c.remove_first.ensures c.in_ok-row.was in
     let message : c.release-message.result ≡ last_message c.args.table.now c.in_ok-row.row.place =
-    c.release-message.ensures.result ∙ first_message (is_at c.in_ok-row.row.place) c.args.table.now c.drop_expired.new.table xs (stays c.args.now) c.in_ok-row.row (apart_from_rising xs c.self.invariant.rising) (rw (← is) apart') (rw (← is) out.0) (covers_all c.args.table.now c.self.inside.lanes (rw (← c.self.view_is) at c.requires)) (rw (← is) c.drop_expired.ensures.table) in
-    let s = (settled c.args.now c.self.inside.lanes c.drop_expired.new.lanes c.remove_first.new.lanes c.self.inside.room c.remove_first.result c.self.invariant c.drop_expired.ensures.rows c.remove_first.ensures).1 in
+    c.release-message.ensures.result ∙ first_message (is_at c.in_ok-row.row.place) c.args.table.now c.drop_expired.new.table xs (stays c.args.now) c.in_ok-row.row (apart_from_rising xs c.self.invariant.0.rising) (rw (← is) apart') (rw (← is) out.0) (covers_all c.args.table.now c.self.inside.lanes (rw (← c.self.view_is) at c.requires)) (rw (← is) c.drop_expired.ensures.table) in
+    let s = (settled c.args.now c.self.inside.lanes c.drop_expired.new.lanes c.remove_first.new.lanes c.self.inside.room c.remove_first.result c.self.invariant.0 c.drop_expired.ensures.rows c.remove_first.ensures).1 in
     rw (← c.self.view_is) (some_taken (next c.args.now (rows_of c.self.inside.lanes)) c.remove_first.result c.in_ok-row.row (record { row = c.counted.result; message = c.release-message.result }) (rows_of c.remove_first.new.lanes) (filter (stays c.args.now) (rows_of c.self.inside.lanes)) (λ r. filter (is_elsewhere r.place) (filter (stays c.args.now) (rows_of c.self.inside.lanes))) (λ r. record { row = counted r; message = last_message c.args.table.now r.place }) (λ rows. record { rows = rows; limit = c.self.inside.limit; missed = c.self.inside.missed; room = c.self.inside.room }) s c.in_ok-row.was (rw (c.counted.ensures, message) refl))
 
 pub returns-clause-table : goal.returns-clause-table
@@ -117,7 +136,7 @@ returns-clause-table c =
     let ys = all_rows c.drop_expired.new.lanes in
     let zs = all_rows c.remove_first.new.lanes in
     let row = c.in_ok-row.row in
-    let apart' = apart c.args.now c.self.inside.lanes c.drop_expired.new.lanes c.self.inside.room c.self.invariant c.drop_expired.ensures.rows in
+    let apart' = apart c.args.now c.self.inside.lanes c.drop_expired.new.lanes c.self.inside.room c.self.invariant.0 c.drop_expired.ensures.rows in
     let out = taken_out c.remove_first.result row c.drop_expired.new.lanes c.remove_first.new.lanes apart' c.remove_first.ensures c.in_ok-row.was in
     let left : zs ≡ filter (is_elsewhere row.place) ys = all_rows_each (filter (is_elsewhere row.place)) refl (filter-append (is_elsewhere row.place)) c.drop_expired.new.lanes c.remove_first.new.lanes out.1 in
     let gone = first_settled (is_at row.place) c.drop_expired.new.table c.release-message.new.self ys row apart' out.0 c.release-message.ensures.holders c.release-message.ensures.messages in
