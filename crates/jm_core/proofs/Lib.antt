@@ -10,3 +10,4 @@ pub mod Closing
 mod Sends
 mod Reached
 mod Within
+mod Outstanding

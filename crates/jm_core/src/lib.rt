@@ -19,4 +19,6 @@ pub use jm_machine::{
     Request, Row, RowState, SessionState, Station, Step, Who, copy_reply,
 };
 pub use plan::Plan;
-pub use provider::{Core, law_core_reached, law_rows_in_order, law_rows_within_limit};
+pub use provider::{
+    Core, law_core_reached, law_rows_in_order, law_rows_out_to_open, law_rows_within_limit,
+};

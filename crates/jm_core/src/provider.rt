@@ -6,6 +6,7 @@ ghost use Rattle.jm_machine.specs.Isolation.{Reached};
 ghost use Rattle.jm_core.specs.Accepted.{HoldsAccepted};
 ghost use Rattle.jm_core.specs.Kept.{IsNumberOfMessages};
 ghost use Rattle.jm_core.specs.Limits.{AllWithin};
+ghost use Rattle.jm_core.specs.Outstanding.{HoldsOutToOpen};
 ghost use Rattle.jm_core.specs.Plans.{InstallFits, IsPlan, IsPlanned, IsRefused};
 ghost use Rattle.jm_core.specs.Provider.{may_open, state_of};
 ghost use Rattle.jm_core.specs.Steps.{StepFits};
@@ -73,6 +74,15 @@ pub fn law_rows_in_order(core: &Core)
 /// Each subscription that is not durable holds at most as many rows as the limit says, waiting and out.
 pub fn law_rows_within_limit(core: &Core)
     ensures { AllWithin (state_of core.now).limit (state_of core.now).stations }
+{
+    let _ = &core.state;
+}
+
+/// The law of what is out, proved; the function itself does nothing.
+///
+/// Each row that is out is out to a session that is open.
+pub fn law_rows_out_to_open(core: &Core)
+    ensures { HoldsOutToOpen (state_of core.now).life (state_of core.now).stations }
 {
     let _ = &core.state;
 }
