@@ -18,6 +18,9 @@ pub(crate) struct Parcel {
     pub now: i64,
 }
 
+/// The most rows that a subscription may hold.
+const HELD_LIMIT: u32 = 1_000_000;
+
 /// A core with its two sessions, and the sum of the numbers of the messages that were received.
 #[derive(Drop)]
 pub(crate) struct Provider {
@@ -58,7 +61,7 @@ impl Provider {
     pub(crate) fn new(alloc: Global) -> Result<Provider, Refusal> {
         let receiver = SessionId::new(ConnectionId::new(1)?, 1)?;
         let publisher = SessionId::new(ConnectionId::new(2)?, 1)?;
-        let core = Core::new(alloc, 1)?;
+        let core = Core::new(alloc, 1, HELD_LIMIT)?;
         Ok(Provider {
             alloc,
             core,
@@ -69,22 +72,21 @@ impl Provider {
         })
     }
 
-    /// Opens and starts the session's connection, and opens the session.
-    fn open_session(&mut self, session: SessionId) -> Result<(), Refusal> {
+    /// Opens and starts the session's connection, and opens the session in that mode.
+    fn open_session(&mut self, session: SessionId, mode: Mode) -> Result<(), Refusal> {
         let connection = session.connection;
         self.ask(Who::Connection(connection), Request::Open)?;
         self.ask(Who::Connection(connection), Request::Start)?;
-        let request = Request::CreateSession { mode: Mode::Auto };
-        self.ask(Who::Session(session), request)?;
+        self.ask(Who::Session(session), Request::CreateSession { mode })?;
         Ok(())
     }
 
-    /// Opens and starts both connections, and opens both sessions.
-    pub(crate) fn open(&mut self) -> Result<(), Refusal> {
+    /// Opens and starts both connections, and opens both sessions, of which the one that receives has that mode.
+    pub(crate) fn open(&mut self, mode: Mode) -> Result<(), Refusal> {
         let receiver = self.receiver;
         let publisher = self.publisher;
-        self.open_session(receiver)?;
-        self.open_session(publisher)
+        self.open_session(receiver, mode)?;
+        self.open_session(publisher, Mode::Auto)
     }
 
     fn ask(&mut self, who: Who, request: Request) -> Result<Answer, Refusal> {
@@ -93,6 +95,18 @@ impl Provider {
             call: Call::Ask(request),
         };
         self.core.step(&step)
+    }
+
+    /// Acknowledges what was received.
+    pub(crate) fn acknowledge(&mut self) -> Result<(), Refusal> {
+        self.ask(Who::Session(self.receiver), Request::Acknowledge)?;
+        Ok(())
+    }
+
+    /// Lets what was received and not acknowledged come again.
+    pub(crate) fn recover(&mut self) -> Result<(), Refusal> {
+        self.ask(Who::Session(self.receiver), Request::Recover)?;
+        Ok(())
     }
 
     /// The sum of the numbers of the messages that were received.

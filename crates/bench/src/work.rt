@@ -1,7 +1,7 @@
 //! The kinds of work, each as rounds over a provider that holds rows already.
 
 use crate::provider::{Parcel, Provider};
-use jm_base::Refusal;
+use jm_base::{Mode, Refusal};
 
 /// What is done in each round.
 #[derive(Clone, Copy, PartialEq, Eq)]
@@ -16,7 +16,16 @@ pub(crate) enum Kind {
     Priorities,
     /// A message is sent that expires in two rounds, and one is received.
     Expiry,
+    /// A message is sent, and one is received, recovered, received again and acknowledged, beside subscribers of other
+    /// topics.
+    Redelivery,
+    /// A message is sent, and one is received; each hundredth round acknowledges what is out, beside subscribers of
+    /// other topics.
+    Client,
 }
+
+/// How many rows are out at most where they are acknowledged together.
+const ROWS_OUT: u32 = 100;
 
 /// How much of it.
 #[derive(Clone, Copy)]
@@ -37,6 +46,8 @@ pub(crate) fn kind_named(name: &str) -> Option<Kind> {
         "topics" => Some(Kind::Topics),
         "priorities" => Some(Kind::Priorities),
         "expiry" => Some(Kind::Expiry),
+        "redelivery" => Some(Kind::Redelivery),
+        "client" => Some(Kind::Client),
         _ => None,
     }
 }
@@ -63,15 +74,27 @@ fn parcel(load: Load, round: u32) -> Parcel {
     }
 }
 
+/// The mode of the session that receives.
+fn mode(kind: Kind) -> Mode {
+    match kind {
+        Kind::Redelivery | Kind::Client => Mode::Client,
+        _ => Mode::Auto,
+    }
+}
+
+/// The topic of the subscriber that so many were made before.
+fn topic(kind: Kind, number: u32) -> u32 {
+    match kind {
+        Kind::Topics | Kind::Redelivery | Kind::Client => number,
+        _ => 0,
+    }
+}
+
 /// Opens the provider, and makes the subscribers of the load and the rows that are held before it.
 pub(crate) fn fill(provider: &mut Provider, load: Load) -> Result<(), Refusal> {
-    provider.open()?;
+    provider.open(mode(load.kind))?;
     for number in 0..load.subscribers.min(1_000_000) {
-        let topic = match load.kind {
-            Kind::Topics => number,
-            _ => 0,
-        };
-        provider.subscribe(number + 1, topic)?;
+        provider.subscribe(number + 1, topic(load.kind, number))?;
     }
     for round in 0..load.held {
         let held = Parcel {
@@ -95,6 +118,19 @@ fn receivers(load: Load, round: u32) -> (u32, u32) {
     }
 }
 
+/// Lets what a round received come again, where the kind of work asks for it, and acknowledges it in its turn.
+fn finish(provider: &mut Provider, kind: Kind, round: u32) -> Result<(), Refusal> {
+    match kind {
+        Kind::Redelivery => {
+            provider.recover()?;
+            provider.receive(1, i64::from(round))?;
+            provider.acknowledge()
+        }
+        Kind::Client if round % ROWS_OUT == ROWS_OUT - 1 => provider.acknowledge(),
+        _ => Ok(()),
+    }
+}
+
 /// Makes one round.
 fn work_once(provider: &mut Provider, load: Load, round: u32) -> Result<(), Refusal> {
     provider.send(parcel(load, round))?;
@@ -102,7 +138,7 @@ fn work_once(provider: &mut Provider, load: Load, round: u32) -> Result<(), Refu
     for number in from..to.min(1_000_000) {
         provider.receive(number + 1, i64::from(round))?;
     }
-    Ok(())
+    finish(provider, load.kind, round)
 }
 
 /// Makes the rounds of the load.
