@@ -1,10 +1,12 @@
 -- What an owner sees of an opening.
-use Rattle.std.proofs.Common.{◌≡◌, ◌≤◌, ℕ, Bool, true, false, cond, List, [], ◌∷◌, length, refl, ap, sym, ◌∙◌, arith, Option, Some, None}
-use Rattle.std.specs.Prelude.{◌&&◌, ◌||◌, ◌==◌, not, find, filter, is_some, option_to_list, IfSome}
+use Rattle.std.proofs.Common.{◌≡◌, ◌≤◌, ℕ, Bool, true, false, cond, List, [], ◌∷◌, length, refl, ap, sym, subst, ◌∙◌, arith, Option, Some, None}
+use Rattle.std.specs.Prelude.{◌&&◌, ◌||◌, ◌==◌, not, find, filter, is_some, option_to_list, IfOk, IfSome, Result, Ok, Err}
 use Rattle.std.specs.List.{list_all}
 use Rattle.std.proofs.lemmas.Bool.Decides.{nat_tests}
 use Rattle.jm_dest.specs.declared.session.SessionId.{SessionId}
+use Rattle.jm_dest.specs.declared.key.Key.{Key}
 use Rattle.jm_dest.specs.declared.key.Key.TheVariants.{Own}
+use Rattle.jm_dest.specs.Names.{session_eq}
 use Rattle.jm_dest.specs.Keys.{key_eq}
 use Rattle.jm_header.specs.declared.content.Content.{Content}
 use Rattle.jm_machine.specs.declared.state.ConnectionState.{ConnectionState}
@@ -12,7 +14,7 @@ use Rattle.jm_machine.specs.declared.state.SessionState.{SessionState}
 use Rattle.jm_machine.specs.declared.state.Consumer.{Consumer}
 use Rattle.jm_machine.specs.declared.state.Station.{Station}
 use Rattle.jm_machine.specs.Isolation.{is_unshared}
-use Rattle.jm_machine.specs.Life.{Life, connection_of, session_of, open_mode, own_life}
+use Rattle.jm_machine.specs.Life.{Life, connection_of, session_of, open_mode, is_open_connection, own_life}
 use Rattle.jm_machine.specs.Machine.{State, Publisher, has_number, consumer_of, station_of, definition_of, missed_of, rows_of, ends, is_limited, is_one_of}
 use Rattle.jm_machine.specs.Lone.{Lone, lone_of, lone_accepts}
 use Rattle.jm_law.proofs.Consumers.{ends_in}
@@ -46,6 +48,11 @@ found_filtered p q (x ∷ xs) h = go (p x) (q x) refl h (found_filtered p q xs)
     go false true e k f = ap (λ b. cond b (Some x) (find p (filter q xs))) e ∙ f k
     go false false e k f = f k
 
+either : (a b : Bool) → (a || (b && a)) ≡ a
+either true b = refl
+either false true = refl
+either false false = refl
+
 -- each consumer of the key has its number, so the one that is found says whether the subscription ends
 one_found : (p : SessionId → ℕ → Bool) (t : SessionId) (d : ℕ) (xs : List Consumer) → Keyed xs → is_one_of p xs (Own t d) ≡ (is_some (consumer_of xs t d) && p t d)
 one_found p t d [] h = refl
@@ -62,11 +69,6 @@ one_found p t d (x ∷ xs) h = go (has_number t d x) refl (one_found p t d xs h.
         let k : p x.session x.id ≡ p t d = λ l. p (i l) (j l) in
         rw (key, e, k, r) (either (p t d) (is_some (consumer_of xs t d)))
     go false e r = rw (key, e) r
-
-    either : (a b : Bool) → (a || (b && a)) ≡ a
-    either true b = refl
-    either false true = refl
-    either false false = refl
 
 keyed_found : (t : SessionId) (d : ℕ) (xs : List Consumer) → Keyed xs → Keyed (option_to_list (consumer_of xs t d))
 keyed_found t d [] h = tt
@@ -85,12 +87,60 @@ within_found limit t d (x ∷ xs) h = go (key_eq x.key (Own t d)) refl (within_f
     go true e r = h.0 (ap is_limited (key_same x.key (Own t d) e))
     go false e r = r
 
+pub within_ok : {E : Type 0} (r : Result (Option Station) E) (limit : ℕ) (k : Key) (t : SessionId) (d : ℕ) (xs : List Station) → k ≡ Own t d → AllWithin limit xs → IfOk r (λ y. y ≡ station_of k xs) → IfOk r (λ y. IfSome y (λ x. length x.rows ≤ limit))
+within_ok (Ok y) limit k t d xs e h i = subst (λ (z : Option Station). IfSome z (λ x. length x.rows ≤ limit)) (sym (i ∙ ap (λ (l : Key). station_of l xs) e)) (within_found limit t d xs h)
+within_ok (Err y) limit k t d xs e h i = i
+
+-- what is found again passes both tests
+in_one : {A : Type 0} (p q : A → Bool) (o : Option A) → Passes p o → is_some (find q (option_to_list o)) ≡ true → (x : A) × ((p x ≡ true) × ((q x ≡ true) × (is_some o ≡ true)))
+in_one p q None h e = cc
+in_one p q (Some x) h e = go (q x) refl e
+  where
+    go : (b : Bool) → q x ≡ b → is_some (cond b (Some x) None) ≡ true → (y : _) × ((p y ≡ true) × ((q y ≡ true) × (is_some (Some x) ≡ true)))
+    go true k e = (x, (h, (k, refl)))
+    go false k e = cc
+
+same_session : (t s : SessionId) (y : SessionState) → session_eq y.id s ≡ true → session_eq y.id t ≡ true → t ≡ s
+same_session t s y h k = sym (session_same y.id t k) ∙ session_same y.id s h
+
+same_number : (t : SessionId) (d : ℕ) (s : SessionId) (c : ℕ) (x : Consumer) → has_number s c x ≡ true → has_number t d x ≡ true → t ≡ s
+same_number t d s c x h k =
+    let i : x.session ≡ s = grind (arith, nat_tests, session_same x.session s) in
+    let j : x.session ≡ t = grind (arith, nat_tests, session_same x.session t) in
+    sym j ∙ i
+
 -- what is taken of an opening lies as it lies there
 pub nested_found : (o : Owner) (opening : State) (life : Life) (consumers : List Consumer) → AllNested opening.life opening.consumers →
     life.connections ≡ option_to_list (connection_of opening.life.connections o.session.connection) →
     life.sessions ≡ option_to_list (session_of opening.life.sessions o.session) →
     consumers ≡ option_to_list (consumer_of opening.consumers o.session o.consumer) → AllNested life consumers
-nested_found o opening life consumers n c s x t d = ?
+nested_found o opening life consumers n c s x t d = record {
+  made_in = λ e.
+      let w = in_one (has_number o.session o.consumer) (has_number t d) (consumer_of opening.consumers o.session o.consumer) (found_passes _ opening.consumers) (sym (ap (λ xs. is_some (consumer_of xs t d)) x) ∙ e) in
+      session (same_number t d o.session o.consumer w.0 w.1.0 w.1.1.0) ((n o.session o.consumer).made_in w.1.1.1);
+  opened_in = λ e.
+      let w = in_session e in
+      let i = same_session t o.session w.0 w.1.0 w.1.1.0 in
+      ap (λ xs. is_some (connection_of xs t.connection)) c ∙ ap (λ (u : SessionId). is_some (connection_of (option_to_list (connection_of opening.life.connections o.session.connection)) u.connection)) i
+      ∙ ap is_some (found_alone _ opening.life.connections) ∙ (n o.session o.consumer).opened_in w.1.1.1;
+  open_in = λ e.
+      let w = in_session (some_mode (session_of life.sessions t) e) in
+      let i = same_session t o.session w.0 w.1.0 w.1.1.0 in
+      let is_open : is_some (open_mode (session_of opening.life.sessions o.session)) ≡ true =
+      sym (ap (λ y. is_some (open_mode y)) (found_alone (λ y. session_eq y.id o.session) opening.life.sessions)) ∙ sym (ap (λ xs. is_some (open_mode (session_of xs o.session))) s) ∙ sym (ap (λ (u : SessionId). is_some (open_mode (session_of life.sessions u))) i) ∙ e in
+      ap (λ xs. is_open_connection (connection_of xs t.connection)) c ∙ ap (λ (u : SessionId). is_open_connection (connection_of (option_to_list (connection_of opening.life.connections o.session.connection)) u.connection)) i
+      ∙ ap is_open_connection (found_alone _ opening.life.connections) ∙ (n o.session o.consumer).open_in is_open;
+}
+  where
+    some_mode : (y : Option SessionState) → is_some (open_mode y) ≡ true → is_some y ≡ true
+    some_mode None e = cc
+    some_mode (Some y) e = refl
+
+    in_session : is_some (session_of life.sessions t) ≡ true → (y : SessionState) × ((session_eq y.id o.session ≡ true) × ((session_eq y.id t ≡ true) × (is_some (session_of opening.life.sessions o.session) ≡ true)))
+    in_session e = in_one (λ y. session_eq y.id o.session) (λ y. session_eq y.id t) (session_of opening.life.sessions o.session) (found_passes _ opening.life.sessions) (sym (ap (λ xs. is_some (session_of xs t)) s) ∙ e)
+
+    session : t ≡ o.session → is_some (session_of opening.life.sessions o.session) ≡ true → is_some (session_of life.sessions t) ≡ true
+    session i e = ap (λ xs. is_some (session_of xs t)) s ∙ ap (λ (u : SessionId). is_some (session_of (option_to_list (session_of opening.life.sessions o.session)) u)) i ∙ ap is_some (found_alone _ opening.life.sessions) ∙ e
 
 -- what is taken of an opening shows the owner what the opening holds of its subscription
 pub opened : (o : Owner) (opening : State) (l : Lone) → is_unshared (scope o).key opening ≡ true → Keyed opening.consumers →
