@@ -1,6 +1,7 @@
 //! One subscription alone: what it holds, and what it answers to what it is fed.
 
-ghost use Rattle.std.specs.Prelude.{◌≡◌, ◌≤◌, ◌&&◌, ◌++◌, [], ◌∷◌, true, is_none, is_some, length, option_to_list, IfOk, IfSome, OnOk, if◌then◌else◌};
+ghost use Rattle.std.specs.Prelude.{◌≡◌, ◌≤◌, ◌&&◌, ◌++◌, [], ◌∷◌, true, length, option_to_list};
+ghost use Rattle.std.specs.Prelude.{is_none, is_some, IfOk, IfSome, OnOk, if◌then◌else◌};
 ghost use Rattle.std.specs.Option.{option_copied};
 ghost use Rattle.jm_dest.specs.declared.key.Key.{Key as OfKey};
 ghost use Rattle.jm_dest.specs.Keys.{key_eq};
@@ -15,7 +16,7 @@ ghost use Rattle.jm_machine.specs.Lone.Item.{Called};
 ghost use Rattle.jm_core.specs.Provider.{state_of};
 ghost use Rattle.jm_model.specs.Owners.{scope};
 ghost use Rattle.jm_model.specs.Parts.{AllNested, definition_in, seen};
-ghost use Rattle.jm_model.specs.Answers.{Answers};
+ghost use Rattle.jm_model.specs.Answers.{Answers, IsAnswered, IsTakenUp, after};
 
 use crate::owner::Owner;
 use crate::rows::Rows;
@@ -96,7 +97,8 @@ fn own_sessions(alloc: Global, opening: &Core, owner: &Owner) -> Result<Sessions
 
 /// What is held under the owner's key in the opening.
 fn own_station(opening: &Core, owner: &Owner) -> Result<Option<Station>, AllocError>
-    ensures station { IfOk result (λ station. station ≡ machine.station_of (scope owner.now).key (state_of opening.now).stations) }
+    ensures station { IfOk result (λ station. station
+        ≡ machine.station_of (scope owner.now).key (state_of opening.now).stations) }
     ensures within { IfOk result (λ station. IfSome station (λ x. length x.rows ≤ (state_of opening.now).limit)) }
 {
     law_rows_within_limit(opening);
@@ -113,8 +115,10 @@ fn parts_of(
 ) -> Result<(Subs, Rows), AllocError>
     requires { length station.rows ≤ limit }
     ensures accepts { (key : OfKey) (publisher : machine.Publisher) (m : Content) →
-        IfOk result (λ parts. spec.lone_accepts key (definition_in parts.0.list) publisher m ≡ machine.accepts key station.definition publisher m) }
-    ensures rows { IfOk result (λ parts. parts.1 ≡ record { limit = limit; missed = station.missed; rows = bare station.rows }) }
+        IfOk result (λ parts. spec.lone_accepts key (definition_in parts.0.list) publisher m
+        ≡ machine.accepts key station.definition publisher m) }
+    ensures rows { IfOk result (λ parts. parts.1
+        ≡ record { limit = limit; missed = station.missed; rows = bare station.rows }) }
 {
     let Station {
         key,
@@ -151,7 +155,8 @@ impl Lone {
     /// What the opening holds of the owner's subscription.
     pub(crate) fn of(alloc: Global, opening: &Core, owner: &Owner) -> Result<Lone, AllocError>
         requires { is_unshared (scope owner.now).key (state_of opening.now) ≡ true }
-        ensures { IfOk result (λ lone. seen owner.now lone ≡ seen owner.now (spec.lone_of (scope owner.now) (state_of opening.now))) }
+        ensures { IfOk result (λ lone. seen owner.now lone
+            ≡ seen owner.now (spec.lone_of (scope owner.now) (state_of opening.now))) }
     {
         law_core_reached(opening);
         let station = own_station(opening, owner)?;
@@ -197,8 +202,7 @@ impl Lone {
 
     /// The owner's connection is opened. One that was opened before is as it was, and nothing is seen of it.
     fn open(&mut self, owner: &Owner) -> Result<(), AllocError>
-        ensures { OnOk result (seen owner.now self.new
-            ≡ seen owner.now (spec.lone_did (scope owner.now).key self.old (Who.Connection owner.now.session.connection) Request.Open)) }
+        ensures { OnOk result (IsTakenUp owner.now self.old Request.Open self.new) }
     {
         if self.sessions.is_used(owner.session.connection) {
             return Ok(());
@@ -211,16 +215,14 @@ impl Lone {
 
     /// The owner's connection is started. One that is not open is as it was, and nothing is seen of it.
     fn start(&mut self, owner: &Owner)
-        ensures { seen owner.now self.new
-            ≡ seen owner.now (spec.lone_did (scope owner.now).key self.old (Who.Connection owner.now.session.connection) Request.Start) }
+        ensures { IsTakenUp owner.now self.old Request.Start self.new }
     {
         let _ = self.sessions.start(owner.session.connection);
     }
 
     /// The owner's connection is stopped. One that is not open is as it was, and nothing is seen of it.
     fn stop(&mut self, owner: &Owner)
-        ensures { seen owner.now self.new
-            ≡ seen owner.now (spec.lone_did (scope owner.now).key self.old (Who.Connection owner.now.session.connection) Request.Stop) }
+        ensures { IsTakenUp owner.now self.old Request.Stop self.new }
     {
         let _ = self.sessions.stop(owner.session.connection);
     }
@@ -228,8 +230,7 @@ impl Lone {
     /// The owner's connection closes with its session and the owner: what is out waits again, and the subscription
     /// ends. Of one that was never opened nothing is seen.
     fn close_connection(&mut self, alloc: Global, owner: &Owner) -> Result<(), AllocError>
-        ensures { OnOk result (seen owner.now self.new
-            ≡ seen owner.now (spec.lone_did (scope owner.now).key self.old (Who.Connection owner.now.session.connection) Request.CloseConnection)) }
+        ensures { OnOk result (IsTakenUp owner.now self.old Request.CloseConnection self.new) }
     {
         let which = Consumers::OfConnection(owner.session.connection);
         let ends = self.ends(owner, &which);
@@ -241,8 +242,7 @@ impl Lone {
     /// Takes up a request of the owner's connection that was accepted.
     #[tactic(auto, unfolding(jm_machine::specs::Lone::lone_did, jm_machine::specs::Life::life_after))]
     fn take_up(&mut self, alloc: Global, owner: &Owner, request: &Request) -> Result<(), AllocError>
-        ensures { OnOk result (seen owner.now self.new
-            ≡ seen owner.now (spec.lone_did (scope owner.now).key self.old (Who.Connection owner.now.session.connection) request.now)) }
+        ensures { OnOk result (IsTakenUp owner.now self.old request.now self.new) }
     {
         match request {
             Request::Open => self.open(owner)?,
@@ -257,7 +257,8 @@ impl Lone {
     /// Opens the session, where it may be opened.
     #[tactic(auto, unfolding(jm_machine::specs::Life::life_after))]
     fn create_session(&mut self, id: &SessionId, mode: Mode) -> Result<(), AllocError>
-        ensures { OnOk result (self.new ≡ record self.old { life = life.life_after self.old.life (Who.Session id.now) (Request.CreateSession mode) }) }
+        ensures { OnOk result (self.new
+            ≡ spec.lone_life (Who.Session id.now) (Request.CreateSession mode) self.old) }
     {
         match self.sessions.session(id, mode) {
             Err(Refusal::Memory) => Err(AllocError),
@@ -273,9 +274,7 @@ impl Lone {
         owner: &Owner,
         id: &SessionId,
     ) -> Result<(), AllocError>
-        ensures { OnOk result (self.new
-            ≡ (if is_none (spec.lone_refusal self.old (Who.Session id.now) Request.CloseSession)
-            then spec.lone_did (scope owner.now).key self.old (Who.Session id.now) Request.CloseSession else self.old)) }
+        ensures { OnOk result (self.new ≡ after owner.now self.old id.now Request.CloseSession) }
     {
         let which = Consumers::OfSession(*id);
         let ends = self.ends(owner, &which);
@@ -290,7 +289,8 @@ impl Lone {
     fn join(&mut self, alloc: Global, owner: &Owner, subs: Subs) -> Result<(), AllocError>
         requires { machine.may_begin self.old.life self.old.consumers owner.now.session owner.now.consumer ≡ true }
         ensures { OnOk result (self.new ≡ record self.old {
-          consumers = self.old.consumers ++ machine.new_consumer owner.now.session owner.now.consumer (scope owner.now).key ∷ [];
+          consumers = self.old.consumers
+              ++ machine.new_consumer owner.now.session owner.now.consumer (scope owner.now).key ∷ [];
           definition = definition_in subs.list;
           missed = 0;
           rows = [];
@@ -319,9 +319,7 @@ impl Lone {
     ) -> Result<Reply, AllocError>
         ensures { IfOk result (λ reply.
             let request = Request.CreateConsumer owner.now.consumer topic.now selector.now in
-            (reply ≡ spec.lone_reply self.old (Who.Session owner.now.session) request)
-            × (self.new ≡ (if is_none (spec.lone_refusal self.old (Who.Session owner.now.session) request)
-            then spec.lone_did (scope owner.now).key self.old (Who.Session owner.now.session) request else self.old))) }
+            IsAnswered owner.now self.old request reply self.new) }
     {
         if !self.sessions.may_begin(&owner.session, owner.consumer) {
             return Ok(Err(Refusal::IllegalState));
@@ -340,10 +338,7 @@ impl Lone {
     #[tactic(auto, unfolding(jm_machine::specs::Machine::refusal, jm_machine::specs::Machine::answer, jm_machine::specs::Lone::lone_did))]
     fn close_consumer(&mut self, alloc: Global, owner: &Owner) -> Result<Reply, AllocError>
         ensures { IfOk result (λ reply.
-            let request = Request.CloseConsumer owner.now.consumer in
-            (reply ≡ spec.lone_reply self.old (Who.Session owner.now.session) request)
-            × (self.new ≡ (if is_none (spec.lone_refusal self.old (Who.Session owner.now.session) request)
-            then spec.lone_did (scope owner.now).key self.old (Who.Session owner.now.session) request else self.old))) }
+            IsAnswered owner.now self.old (Request.CloseConsumer owner.now.consumer) reply self.new) }
     {
         let which = Consumers::One(owner.session, owner.consumer);
         let ends = self.ends(owner, &which);
@@ -362,10 +357,7 @@ impl Lone {
     #[tactic(auto, unfolding(jm_machine::specs::Machine::refusal, jm_machine::specs::Machine::answer, jm_machine::specs::Lone::lone_did))]
     fn receive(&mut self, owner: &Owner, now: Moment) -> Result<Reply, AllocError>
         ensures { IfOk result (λ reply.
-            let request = Request.Receive owner.now.consumer now in
-            (reply ≡ spec.lone_reply self.old (Who.Session owner.now.session) request)
-            × (self.new ≡ (if is_none (spec.lone_refusal self.old (Who.Session owner.now.session) request)
-            then spec.lone_did (scope owner.now).key self.old (Who.Session owner.now.session) request else self.old))) }
+            IsAnswered owner.now self.old (Request.Receive owner.now.consumer now) reply self.new) }
     {
         let Some(mode) = self.sessions.mode_of(&owner.session) else {
             return Ok(Err(Refusal::IllegalState));
@@ -384,7 +376,8 @@ impl Lone {
 
     /// Settles what is out to the session, where it is open and its mode lets the client acknowledge.
     fn acknowledge(&mut self, id: &SessionId)
-        ensures { self.new ≡ (if machine.is_client (life.mode_of self.old.life id.now) then spec.lone_settled (machine.of_session id.now) self.old else self.old) }
+        ensures { self.new ≡ (if machine.is_client (life.mode_of self.old.life id.now)
+            then spec.lone_settled (machine.of_session id.now) self.old else self.old) }
     {
         if let Some(Mode::Client) = self.sessions.mode_of(id) {
             self.rows.settle(&Consumers::OfSession(*id));
@@ -393,7 +386,8 @@ impl Lone {
 
     /// Lets what is out to the session wait again, where it is open.
     fn recover(&mut self, id: &SessionId)
-        ensures { self.new ≡ (if is_some (life.mode_of self.old.life id.now) then spec.lone_returned (machine.of_session id.now) self.old else self.old) }
+        ensures { self.new ≡ (if is_some (life.mode_of self.old.life id.now)
+            then spec.lone_returned (machine.of_session id.now) self.old else self.old) }
     {
         if self.sessions.is_open(id) {
             self.rows.give_back(&Consumers::OfSession(*id));
@@ -403,7 +397,8 @@ impl Lone {
     /// How many publications the owner's subscription missed, where the owner may ask.
     #[tactic(auto, unfolding(jm_machine::specs::Machine::refusal, jm_machine::specs::Machine::answer))]
     fn missed(&self, owner: &Owner) -> Reply
-        ensures { result ≡ spec.lone_reply self.now (Who.Session owner.now.session) (Request.Missed owner.now.consumer) }
+        ensures { result
+            ≡ spec.lone_reply self.now (Who.Session owner.now.session) (Request.Missed owner.now.consumer) }
     {
         if !self.sessions.may_receive(&owner.session, owner.consumer) {
             return Err(Refusal::IllegalState);
@@ -421,7 +416,8 @@ impl Lone {
         request: &Request,
     ) -> Result<(), AllocError>
         ensures { OnOk result (self.new ≡ (if is_none (spec.about (scope owner.now) session.now request.now)
-            then spec.lone_after (scope owner.now) self.old (Called (Who.Session session.now) request.now) else self.old)) }
+            then spec.lone_after (scope owner.now) self.old (Called (Who.Session session.now) request.now)
+            else self.old)) }
     {
         match request {
             Request::CreateSession { mode } => self.create_session(session, *mode)?,
@@ -444,7 +440,8 @@ impl Lone {
     ) -> Result<Option<Reply>, AllocError>
         ensures { IfOk result (λ reply.
             let item = Called (Who.Session session.now) request.now in
-            (reply ≡ spec.lone_told (scope owner.now) self.old item) × (self.new ≡ spec.lone_after (scope owner.now) self.old item)) }
+            (reply ≡ spec.lone_told (scope owner.now) self.old item)
+            × (self.new ≡ spec.lone_after (scope owner.now) self.old item)) }
     {
         match request {
             Request::CreateConsumer {
@@ -472,7 +469,8 @@ impl Lone {
 
     /// A publication comes, where it is accepted; at the limit it is missed.
     fn publish(&mut self, owner: &Owner, message: &Message) -> Result<(), AllocError>
-        ensures { (publisher : machine.Publisher) → OnOk result (self.new ≡ (if spec.lone_accepts (scope owner.now).key self.old.definition publisher message.now
+        ensures { (publisher : machine.Publisher) → OnOk result (self.new
+            ≡ (if spec.lone_accepts (scope owner.now).key self.old.definition publisher message.now
             then spec.lone_brought (scope owner.now).key message.now self.old else self.old)) }
     {
         if accepts(&self.subs, message) {
@@ -491,7 +489,8 @@ impl Lone {
         request: &Request,
         is_accepted: bool,
     ) -> Result<(), AllocError>
-        ensures { OnOk result (seen owner.now self.new ≡ seen owner.now (if owns.is_own_connection (scope owner.now).sessions id && is_accepted
+        ensures { OnOk result (seen owner.now self.new
+            ≡ seen owner.now (if owns.is_own_connection (scope owner.now).sessions id && is_accepted
             then spec.lone_after (scope owner.now) self.old (Called (Who.Connection id) request.now) else self.old)) }
     {
         if is_accepted && owner.is_own_connection(id) {
@@ -509,7 +508,8 @@ impl Lone {
         request: &Request,
         reply: &Reply,
     ) -> Result<Option<Reply>, AllocError>
-        ensures { IfOk result (λ answer. Answers owner.now self.old (Entry.Asked who request.now reply.now) answer self.new) }
+        ensures { IfOk result (λ answer.
+            Answers owner.now self.old (Entry.Asked who request.now reply.now) answer self.new) }
     {
         match who {
             Who::Connection(id) => {
