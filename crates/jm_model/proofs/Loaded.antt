@@ -1,9 +1,8 @@
 -- The rows of the first list after each change of it.
 use Rattle.std.proofs.Common.{◌≡◌, ◌<◌, ◌≤◌, ◌+◌, ◌-◌, ℕ, Bool, true, false, cond, List, [], ◌∷◌, ◌++◌, length, map, min, refl, ap, sym, ◌∙◌, arith, Option, Some}
-use Rattle.std.specs.Prelude.{All, filter, nat_le, nat_lt, not, slice_index_or}
+use Rattle.std.specs.Prelude.{All, filter, nat_le, not, slice_index_or}
 use Rattle.std.proofs.lemmas.Bool.Decides.{nat_tests}
 use Rattle.jm_dest.specs.declared.session.SessionId.{SessionId}
-use Rattle.jm_machine.specs.declared.state.PlacedRow.{PlacedRow}
 use Rattle.jm_machine.specs.declared.state.Row.{Row}
 use Rattle.jm_machine.specs.Machine.{delivery, greatest_missed, one_missed, places_end}
 use Rattle.jm_machine.specs.Rows.{bare, live, next, deliver, deliver_placed, is_out, given_back}

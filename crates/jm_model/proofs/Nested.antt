@@ -1,6 +1,6 @@
 -- What is open lies within what is, after each call.
 use Rattle.std.proofs.Common.{◌≡◌, ℕ, Bool, true, false, cond, List, [], ◌∷◌, ◌++◌, map, refl, ap, sym, subst, ◌∙◌, arith, Option, Some, None}
-use Rattle.std.specs.Prelude.{◌&&◌, ◌||◌, ◌==◌, not, find, is_some, is_ok, option_map, OnOk, Result, Ok, Err}
+use Rattle.std.specs.Prelude.{◌&&◌, ◌==◌, not, find, is_some, is_ok, option_map, OnOk, Result, Ok, Err}
 use Rattle.std.specs.Option.{option_or}
 use Rattle.std.proofs.lemmas.List.Folds.{find-append}
 use Rattle.std.proofs.lemmas.Bool.Decides.{nat_tests}

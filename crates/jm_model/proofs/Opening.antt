@@ -1,6 +1,6 @@
 -- What an owner sees of an opening.
 use Rattle.std.proofs.Common.{◌≡◌, ◌≤◌, ℕ, Bool, true, false, cond, List, [], ◌∷◌, length, refl, ap, sym, subst, ◌∙◌, arith, Option, Some, None}
-use Rattle.std.specs.Prelude.{◌&&◌, ◌||◌, ◌==◌, not, find, filter, is_some, option_to_list, IfOk, IfSome, Result, Ok, Err}
+use Rattle.std.specs.Prelude.{◌&&◌, ◌||◌, not, find, filter, is_some, option_to_list, IfOk, IfSome, Result, Ok, Err}
 use Rattle.std.specs.List.{list_all}
 use Rattle.std.proofs.lemmas.Bool.Decides.{nat_tests}
 use Rattle.jm_dest.specs.declared.session.SessionId.{SessionId}
@@ -9,7 +9,6 @@ use Rattle.jm_dest.specs.declared.key.Key.TheVariants.{Own}
 use Rattle.jm_dest.specs.Names.{session_eq}
 use Rattle.jm_dest.specs.Keys.{key_eq}
 use Rattle.jm_header.specs.declared.content.Content.{Content}
-use Rattle.jm_machine.specs.declared.state.ConnectionState.{ConnectionState}
 use Rattle.jm_machine.specs.declared.state.SessionState.{SessionState}
 use Rattle.jm_machine.specs.declared.state.Consumer.{Consumer}
 use Rattle.jm_machine.specs.declared.state.Station.{Station}
@@ -24,7 +23,7 @@ use Rattle.jm_law.proofs.Same.{key_same, session_refl, session_same}
 use Rattle.jm_core.specs.Limits.{AllWithin}
 use Rattle.jm_model.specs.declared.owner.Owner.{Owner}
 use Rattle.jm_model.specs.Owners.{scope}
-use Rattle.jm_model.specs.Parts.{AllNested, IsNested, connection_seen, seen}
+use Rattle.jm_model.specs.Parts.{AllNested, connection_seen, seen}
 use Rattle.jm_model.proofs.Found.{Passes, found_passes}
 
 -- what is found is found in itself

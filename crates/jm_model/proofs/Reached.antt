@@ -1,10 +1,8 @@
 -- In every state that the provider reaches what is open lies within what is.
-use Rattle.std.proofs.Common.{◌≡◌, ℕ, Bool, true, false, cond, List, [], ◌∷◌, ◌++◌, map, refl, sym, subst, Option, Some, None}
+use Rattle.std.proofs.Common.{◌≡◌, ℕ, Bool, true, false, cond, List, [], ◌∷◌, refl, Option, Some, None}
 use Rattle.std.specs.Prelude.{◌&&◌, not, is_some}
-use Rattle.jm_base.specs.declared.mode.Mode.{Mode}
 use Rattle.jm_base.specs.declared.refusal.Refusal.{Refusal}
 use Rattle.jm_base.specs.declared.refusal.Refusal.TheVariants.{IllegalState}
-use Rattle.jm_dest.specs.declared.session.SessionId.{SessionId}
 use Rattle.jm_dest.specs.declared.key.Key.{Key}
 use Rattle.jm_dest.specs.declared.key.Key.TheVariants.{Own}
 use Rattle.jm_header.specs.declared.content.Content.{Content}
@@ -14,12 +12,11 @@ use Rattle.jm_machine.specs.declared.call.Request.{Request}
 use Rattle.jm_machine.specs.declared.call.Request.TheVariants.{Open, Start, Stop, CloseConnection, CreateSession, CloseSession, CreateConsumer, CloseConsumer, Receive, Acknowledge}
 use Rattle.jm_machine.specs.declared.call.Call.{Call}
 use Rattle.jm_machine.specs.declared.call.Call.TheVariants.{Ask, Publish}
-use Rattle.jm_machine.specs.declared.state.Consumer.{Consumer}
 use Rattle.jm_machine.specs.declared.state.Row.{Row}
-use Rattle.jm_machine.specs.Life.{Life, mode_of, is_started, life_after}
+use Rattle.jm_machine.specs.Life.{mode_of, is_started}
 use Rattle.jm_machine.specs.Rows.{left_of}
 use Rattle.jm_machine.specs.Selectors.{selector_refusal}
-use Rattle.jm_machine.specs.Machine.{State, Holding, with_message, published, publish_refusal, consumer_of, key_at, may_begin, new_consumer, unless, first_cause, refusal, held, receive, settled, is_client, of_session, of_connection, of_number, after, moved, step}
+use Rattle.jm_machine.specs.Machine.{State, with_message, published, publish_refusal, consumer_of, key_at, new_consumer, unless, first_cause, refusal, held, receive, settled, is_client, of_session, of_connection, of_number, after, moved, step}
 use Rattle.jm_machine.specs.Isolation.{Reached}
 use Rattle.jm_machine.specs.Isolation.Reached.{New, Stepped}
 use Rattle.jm_model.specs.Parts.{AllNested}

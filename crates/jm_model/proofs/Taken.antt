@@ -1,27 +1,24 @@
 -- What the owner sees after a request was taken up by what is known, asked for and held of its own.
-use Rattle.std.proofs.Common.{◌≡◌, ℕ, Bool, true, false, cond, List, [], ◌∷◌, ◌++◌, map, refl, ap, sym, ◌∙◌, arith, Option, Some, None}
+use Rattle.std.proofs.Common.{◌≡◌, ℕ, Bool, true, false, cond, List, [], ◌∷◌, ◌++◌, map, refl, ap, sym, ◌∙◌, Option, Some, None}
 use Rattle.std.specs.Prelude.{◌&&◌, ◌||◌, ◌==◌, is_err, is_none, is_ok, is_some, option_map, OnOk, Result, Ok, Err}
 use Rattle.std.specs.Option.{option_or}
 use Rattle.std.proofs.lemmas.List.Folds.{find-append}
 use Rattle.jm_dest.specs.declared.session.SessionId.{SessionId}
 use Rattle.jm_dest.specs.declared.key.Key.{Key}
 use Rattle.jm_machine.specs.declared.call.Who.TheVariants.{Connection, Session}
-use Rattle.jm_machine.specs.declared.call.Request.{Request}
-use Rattle.jm_machine.specs.declared.call.Request.TheVariants.{Open, Start, Stop, CloseConnection, CloseSession, CloseConsumer}
+use Rattle.jm_machine.specs.declared.call.Request.TheVariants.{Open, Start, Stop, CloseConnection, CloseSession}
 use Rattle.jm_machine.specs.declared.state.ConnectionState.{ConnectionState}
-use Rattle.jm_machine.specs.declared.state.SessionState.{SessionState}
 use Rattle.jm_machine.specs.declared.state.Consumer.{Consumer}
-use Rattle.jm_machine.specs.Life.{Life, connection_of, session_of, open_mode, is_open_connection, mode_of, with_started, started_if, closed_if, closed_where, life_after}
+use Rattle.jm_machine.specs.Life.{Life, connection_of, session_of, is_open_connection, mode_of, with_started, started_if, closed_if, closed_where, life_after}
 use Rattle.jm_machine.specs.Rows.{given_back}
-use Rattle.jm_machine.specs.Machine.{consumer_of, closed_consumer, ends, is_one_of, may_close_session, may_close_consumer, of_connection, of_session, of_number, refusal}
-use Rattle.jm_machine.specs.Lone.{Lone, lone_did, lone_life, lone_ended, lone_returned, lone_closed, lone_refusal}
+use Rattle.jm_machine.specs.Machine.{consumer_of, closed_consumer, ends, may_close_session, of_connection, of_session, refusal}
+use Rattle.jm_machine.specs.Lone.{Lone, lone_did, lone_ended, lone_refusal}
 use Rattle.jm_session.specs.Known.{Known}
 use Rattle.jm_sub.specs.Subscriptions.{Subscription}
 use Rattle.jm_model.specs.declared.owner.Owner.{Owner}
 use Rattle.jm_model.specs.Owners.{scope}
-use Rattle.jm_model.specs.Parts.{Rows, Seen, AllNested, seen, connection_seen, definition_in}
+use Rattle.jm_model.specs.Parts.{Rows, AllNested, seen, connection_seen, definition_in}
 use Rattle.jm_model.proofs.Found.{found_started, found_closed, found_session, found_consumer, one_of_closed}
-use Rattle.jm_model.proofs.Nested.{nested_opened, nested_started, nested_stopped, nested_session, nested_closed_session, nested_closed_connection, nested_closed_consumer}
 use Rattle.jm_model.proofs.Seen.{ended_if}
 
 -- what is known, asked for and held

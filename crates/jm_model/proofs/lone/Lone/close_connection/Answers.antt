@@ -1,4 +1,4 @@
-use Rattle.std.proofs.Common.{◌≡◌, ◌∙◌, ap, sym, map}
+use Rattle.std.proofs.Common.{◌∙◌, ap, sym, map}
 use Rattle.std.specs.Prelude.{is_ok}
 use Rattle.jm_machine.specs.declared.call.Who.TheVariants.{Connection}
 use Rattle.jm_machine.specs.declared.call.Request.TheVariants.{CloseConnection}

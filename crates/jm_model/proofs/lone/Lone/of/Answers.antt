@@ -4,7 +4,7 @@ use Rattle.jm_machine.specs.Machine.{definition_of, missed_of, rows_of}
 use Rattle.jm_machine.specs.Lone.{lone_accepts}
 use Rattle.jm_law.proofs.Keyed.{reached_keyed}
 use Rattle.jm_model.specs.Owners.{scope}
-use Rattle.jm_model.specs.Parts.{Rows, definition_in}
+use Rattle.jm_model.specs.Parts.{Rows}
 use Rattle.jm_model.proofs.Opening.{nested_found, opened}
 use Rattle.jm_model.proofs.Reached.{reached_nested}
 use Rattle.jm_model.proofs.Taken.{held}

@@ -1,11 +1,11 @@
-use Rattle.std.proofs.Common.{◌≡◌, ◌∙◌, ap, Bool, true, false, cond}
+use Rattle.std.proofs.Common.{◌∙◌, ap}
 use Rattle.std.specs.Prelude.{is_ok}
 use Rattle.jm_machine.specs.declared.call.Who.TheVariants.{Connection}
 use Rattle.jm_machine.specs.declared.call.Request.TheVariants.{Start}
 use Rattle.jm_machine.specs.Life.{life_after}
 use Rattle.jm_machine.specs.Lone.{Lone, lone_did}
 use Rattle.jm_model.specs.Owners.{scope}
-use Rattle.jm_model.specs.Parts.{AllNested, seen}
+use Rattle.jm_model.specs.Parts.{seen}
 use Rattle.jm_model.proofs.Nested.{nested_started, nested_if}
 use Rattle.jm_model.proofs.Taken.{start_seen}
 use Rattle.jm_model.proofs.lone.Lone.start.Goals as goal

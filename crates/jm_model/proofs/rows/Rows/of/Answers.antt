@@ -2,7 +2,6 @@ use Rattle.std.proofs.Common.{rules, refl, subst, ◌≡◌, ◌∙◌, ◌+◌,
 use Rattle.std.specs.Vec.Iter.{into_iter_items}
 use Rattle.jm_machine.specs.declared.state.Row.{Row}
 use Rattle.jm_machine.specs.declared.state.PlacedRow.{PlacedRow}
-use Rattle.jm_machine.specs.Rows.{bare}
 use Rattle.jm_law.proofs.Stations.{bare-append}
 use Rattle.jm_model.specs.Parts.{HasRoom, missed_in, rows_in}
 use Rattle.jm_model.proofs.Loaded.{room_rest, row_loaded, within_rest}

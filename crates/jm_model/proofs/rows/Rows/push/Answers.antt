@@ -1,7 +1,7 @@
 use Rattle.std.proofs.Common.{◌∙◌, ap}
 use Rattle.jm_header.specs.declared.content.Content.{Content}
 use Rattle.jm_machine.specs.Rows.{fresh}
-use Rattle.jm_model.specs.Parts.{Rows, with_row}
+use Rattle.jm_model.specs.Parts.{with_row}
 use Rattle.jm_model.proofs.Loaded.{first_there, row_comes, shown_like}
 use Rattle.jm_model.proofs.rows.Rows.push.Goals as goal
 
