@@ -12,9 +12,8 @@ use Rattle.jm_machine.specs.declared.entry.Entry.TheVariants.{Asked, Sent}
 use Rattle.jm_machine.specs.Life.{Life}
 use Rattle.jm_machine.specs.Machine.{publisher_of}
 use Rattle.jm_machine.specs.Owns.{is_own_connection}
-use Rattle.jm_machine.specs.Rows.{fresh}
 use Rattle.jm_machine.specs.Entries.{committed}
-use Rattle.jm_machine.specs.Lone.{Scope, Lone, came, lone_after, lone_told, placed, is_answered, lone_replies, lone_end, is_own_call, lone_accepts, fed, at_place}
+use Rattle.jm_machine.specs.Lone.{Scope, Lone, came, lone_after, lone_told, placed, is_answered, lone_replies, lone_end, is_own_call, lone_accepts, lone_brought, fed, at_place}
 use Rattle.jm_machine.specs.Lone.Item.{Called}
 use Rattle.jm_model.specs.declared.owner.Owner.{Owner}
 use Rattle.jm_model.specs.Owners.{scope}
@@ -36,11 +35,11 @@ fed_none S life before l place who request r h = rw h (refl, refl)
 -- a publication is answered by nothing, and comes where it is accepted
 pub fed_sent : (S : Scope) (life : Life) (before : List Entry) (l : Lone) (place : ℕ) (m : Content) →
     (lone_replies S l (at_place place (fed S life before l (Sent m))) ≡ [])
-    × (lone_end S l (fed S life before l (Sent m)) ≡ cond (lone_accepts S.key l.definition (publisher_of life m) m) (record l { rows = l.rows ++ fresh m ∷ [] }) l)
+    × (lone_end S l (fed S life before l (Sent m)) ≡ cond (lone_accepts S.key l.definition (publisher_of life m) m) (lone_brought S.key m l) l)
 unfolding committed
 fed_sent S life before l place m = go (lone_accepts S.key l.definition (publisher_of life m) m)
   where
-    go : (b : Bool) → (lone_replies S l (at_place place (came (cond b (m ∷ []) []))) ≡ []) × (lone_end S l (came (cond b (m ∷ []) [])) ≡ cond b (record l { rows = l.rows ++ fresh m ∷ [] }) l)
+    go : (b : Bool) → (lone_replies S l (at_place place (came (cond b (m ∷ []) []))) ≡ []) × (lone_end S l (came (cond b (m ∷ []) [])) ≡ cond b (lone_brought S.key m l) l)
     go true = (refl, refl)
     go false = (refl, refl)
 

@@ -1,6 +1,9 @@
 pub mod Records
 pub mod Owners
 pub mod Fed
+pub mod Found
+pub mod Nested
+pub mod Reached
 pub mod Seen
 pub mod Placing
 pub mod Loaded

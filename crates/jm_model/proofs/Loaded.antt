@@ -1,66 +1,127 @@
--- The rows of the first list, once one more comes, and once one is delivered.
-use Rattle.std.proofs.Common.{◌≡◌, ◌<◌, ◌≤◌, ◌+◌, ◌-◌, ◌^◌, ℕ, cond, List, [], ◌∷◌, ◌++◌, length, min, refl, ap, ◌∙◌, arith, None, Option, Some}
-use Rattle.std.specs.Prelude.{All, slice_index_or}
-use Rattle.jm_base.specs.declared.mode.Mode.TheVariants.{Auto}
+-- The rows of the first list after each change of it.
+use Rattle.std.proofs.Common.{◌≡◌, ◌<◌, ◌≤◌, ◌+◌, ◌-◌, ℕ, Bool, true, false, cond, List, [], ◌∷◌, ◌++◌, length, map, min, refl, ap, sym, ◌∙◌, arith, Option, Some}
+use Rattle.std.specs.Prelude.{All, filter, nat_le, not, slice_index_or}
+use Rattle.std.proofs.lemmas.Bool.Decides.{nat_tests}
+use Rattle.jm_dest.specs.declared.session.SessionId.{SessionId}
 use Rattle.jm_machine.specs.declared.state.Row.{Row}
-use Rattle.jm_machine.specs.Machine.{delivery, places_end}
-use Rattle.jm_machine.specs.Rows.{live, next, left_of, deliver}
+use Rattle.jm_machine.specs.Machine.{delivery, greatest_missed, one_missed, places_end}
+use Rattle.jm_machine.specs.Rows.{bare, live, next, deliver, deliver_placed, is_out, given_back}
 use Rattle.jm_pending.specs.Rows.{is_at_limit}
-use Rattle.jm_stations.specs.Backlogs.{Backlog, HasMoreRoom, joined, received, answered, changed_at}
+use Rattle.jm_stations.specs.Backlogs.{Backlog, HasMoreRoom, joined, answered, changed_at, settled, returned}
 use Rattle.jm_stations.specs.Stations.{Stations}
-use Rattle.jm_law.proofs.Stations.{bare-append, bare-deliver}
-use Rattle.jm_model.specs.Parts.{HasRoom, IsOpen, rows_in}
+use Rattle.jm_law.proofs.Stations.{bare-append, bare-deliver, bare-length, bare-settled, bare-returned}
+use Rattle.jm_model.specs.Parts.{Rows, HasLimit, HasRoom, IsWithin, missed_in, missed_since, rows_in, with_row}
 
 -- there is a first list
-pub first_there : (list : List Backlog) → IsOpen list → 0 < length list
-first_there [] h = absurd h
-first_there (b ∷ list) h = omega arith
+pub first_there : (limit : ℕ) (list : List Backlog) → HasLimit limit list → 0 < length list
+first_there limit [] h = absurd h
+first_there limit (b ∷ list) h = omega arith
+
+-- the first list is another, of the same limit and missed publications
+pub record IsLike (old new : List Backlog) : Type 0 where
+  pub limit : (limit : ℕ) → HasLimit limit old → HasLimit limit new
+  pub missed : missed_in new ≡ missed_in old
 
 -- it holds the same where there is more room
-pub roomy : (old new : List Backlog) → IsOpen old → HasMoreRoom old new → (rows_in new ≡ rows_in old) × IsOpen new
-roomy [] new h r = absurd h
+pub roomy : (old new : List Backlog) → 0 < length old → HasMoreRoom old new → (rows_in new ≡ rows_in old) × IsLike old new
+roomy [] new h r = absurd (omega (arith, h))
 roomy (b ∷ old) [] h r = absurd (let n = r.number in omega arith)
 roomy (b ∷ old) (c ∷ new) h r =
     let same : c ≡ record b { room = c.room } = r.same 0 b (omega arith) in
-    (ap rows_in_one same, ap (λ (x : Backlog). x.limit) same ∙ h)
-  where
-    rows_in_one : Backlog → List Row
-    rows_in_one x = rows_in (x ∷ [])
-
-added_row : (p : ℕ) (row : Row) (b : Backlog) → b.limit ≡ None → joined p row b ≡ record b { rows = b.rows ++ record { place = p; row = row } ∷ []; room = b.room - 1 }
-added_row p row b h =
-    ap (λ (l : Option ℕ). cond (is_at_limit l (length b.rows)) (record b { missed = min (b.missed + 1) (2 ^ 64 - 1) }) (record b { rows = b.rows ++ record { place = p; row = row } ∷ []; room = b.room - 1 })) h
-
--- one row more is loaded behind all others
-pub loaded_rows : (list new : List Backlog) (p : ℕ) (row : Row) → IsOpen list → new ≡ changed_at 0 (joined p row) list → (rows_in new ≡ rows_in list ++ row ∷ []) × IsOpen new
-loaded_rows [] new p row h is = absurd h
-loaded_rows (b ∷ list) new p row h is = rw is (
-  rw (added_row p row b h) (bare-append b.rows (record { place = p; row = row } ∷ [])),
-  rw (added_row p row b h) h,
-)
-
--- the next row is delivered
-pub received_rows : (list new : List Backlog) (now : ℕ) → IsOpen list → new ≡ changed_at 0 (received now) list → (rows_in new ≡ deliver now (left_of (Some Auto)) (rows_in list)) × IsOpen new
-received_rows [] new now h is = absurd h
-received_rows (b ∷ list) new now h is = rw is (bare-deliver now (left_of (Some Auto)) b.rows, h)
-
--- and it is what the first list answers
-pub answered_rows : (list : List Backlog) (now : ℕ) (d : Backlog) → IsOpen list → answered now (slice_index_or list 0 d).rows ≡ delivery (next now (live now (rows_in list)))
-answered_rows [] now d h = absurd h
-answered_rows (b ∷ list) now d h = refl
+    (ap (λ (x : Backlog). bare x.rows) same, record { limit = λ l k. ap (λ (x : Backlog). x.limit) same ∙ k; missed = ap (λ (x : Backlog). x.missed) same })
 
 -- what is reserved is room
 pub reserved_room : (n : ℕ) (new : Stations) → new.next_place + n ≤ places_end → n ≤ new.message_room → All (λ i. (d : Backlog) → n ≤ (slice_index_or new.list i d).room) (0 ∷ []) → HasRoom n new
 reserved_room n new p m r = record { places = p; messages = m; rows = r 0 0 (omega arith) }
 
--- a row that is loaded takes room for one
-pub loaded_room : (n m : ℕ) (old new : Stations) (row : Row) → m ≡ n + 1 → IsOpen old.list → HasRoom m old → new.list ≡ changed_at 0 (joined old.next_place row) old.list → new.next_place ≡ old.next_place + 1 → old.message_room ≤ new.message_room + 1 → HasRoom n new
-loaded_room n m old new row is h r list next room = record {
+-- what comes to the first list
+abbrev pub came : ℕ → Row → Backlog → Bool → Backlog
+came p row b full = cond full (record b { missed = one_missed b.missed }) (record b { rows = b.rows ++ record { place = p; row = row } ∷ []; room = b.room - 1 })
+
+at_limit : (limit p : ℕ) (row : Row) (b : Backlog) → b.limit ≡ Some limit → joined p row b ≡ came p row b (nat_le limit (length (bare b.rows)))
+at_limit limit p row b h =
+    ap (λ (l : Option ℕ). came p row b (is_at_limit l (length b.rows))) h ∙ ap (λ n. came p row b (nat_le limit n)) (sym (bare-length b.rows))
+
+one_more_missed : (a b : ℕ) → min (a + one_missed b) greatest_missed ≡ one_missed (min (a + b) greatest_missed)
+one_more_missed a b = grind (arith, nat_tests)
+
+-- what shows of it
+abbrev pub shown : ℕ → ℕ → List Backlog → Rows
+shown limit before list = record { limit = limit; missed = missed_since before list; rows = rows_in list }
+
+-- a row comes behind all others
+pub row_comes : (limit before p : ℕ) (row : Row) (list new : List Backlog) → HasLimit limit list → new ≡ changed_at 0 (joined p row) list →
+    (shown limit before new ≡ with_row row (shown limit before list)) × HasLimit limit new
+row_comes limit before p row [] new h is = absurd h
+row_comes limit before p row (b ∷ list) new h is = rw is (rw (at_limit limit p row b h) (go (nat_le limit (length (bare b.rows)))))
+  where
+    old : Rows
+    old = shown limit before (b ∷ list)
+
+    go : (full : Bool) → (shown limit before (came p row b full ∷ list) ≡ cond full (record old { missed = one_missed old.missed }) (record old { rows = old.rows ++ row ∷ [] })) × HasLimit limit (came p row b full ∷ list)
+    go true = (ap (λ n. record old { missed = n }) (one_more_missed before b.missed), h)
+    go false = (ap (λ rs. record old { rows = rs }) (bare-append b.rows (record { place = p; row = row } ∷ [])), h)
+
+-- a row that is loaded within the limit comes behind all others
+pub row_loaded : (limit n m p : ℕ) (row : Row) (list new : List Backlog) → m ≡ n + 1 → HasLimit limit list → IsWithin limit m list → new ≡ changed_at 0 (joined p row) list →
+    (rows_in new ≡ rows_in list ++ row ∷ []) × ((missed_in new ≡ missed_in list) × HasLimit limit new)
+row_loaded limit n m p row [] new e h w is = absurd h
+row_loaded limit n m p row (b ∷ list) new e h w is =
+    let full : nat_le limit (length (bare b.rows)) ≡ false = grind (arith, nat_tests) in
+    rw is (rw (at_limit limit p row b h) (rw full (bare-append b.rows (record { place = p; row = row } ∷ []), (refl, h))))
+
+length_append : (xs : List Row) (row : Row) → length (xs ++ row ∷ []) ≡ length xs + 1
+length_append [] row = refl
+length_append (x ∷ xs) row = let e = length_append xs row in omega (arith, e)
+
+-- the rest is still within the limit
+pub within_rest : (limit n m : ℕ) (row : Row) (list new : List Backlog) → m ≡ n + 1 → IsWithin limit m list → rows_in new ≡ rows_in list ++ row ∷ [] → IsWithin limit n new
+within_rest limit n m row list new e w r = let k = ap (λ xs. length xs) r ∙ length_append (rows_in list) row in omega (arith, w, e, k)
+
+-- and there is room for it
+pub room_rest : (limit n m : ℕ) (old new : Stations) (row : Row) → m ≡ n + 1 → HasLimit limit old.list → HasRoom m old → new.list ≡ changed_at 0 (joined old.next_place row) old.list → new.next_place ≡ old.next_place + 1 →
+    old.message_room ≤ new.message_room + 1 → HasRoom n new
+room_rest limit n m old new row is h r list next room = record {
   places = omega (arith, r.places, is, next);
   messages = omega (arith, r.messages, is, room);
   rows = λ d. rw list (left old.list h d (r.rows d));
 }
   where
-    left : (xs : List Backlog) → IsOpen xs → (d : Backlog) → m ≤ (slice_index_or xs 0 d).room → n ≤ (slice_index_or (changed_at 0 (joined old.next_place row) xs) 0 d).room
+    left : (xs : List Backlog) → HasLimit limit xs → (d : Backlog) → m ≤ (slice_index_or xs 0 d).room → n ≤ (slice_index_or (changed_at 0 (joined old.next_place row) xs) 0 d).room
     left [] k d q = absurd k
-    left (b ∷ xs) k d q = rw (added_row old.next_place row b k) (omega (arith, q, is))
+    left (b ∷ xs) k d q = rw (at_limit limit old.next_place row b k) (go (nat_le limit (length (bare b.rows))))
+      where
+        go : (full : Bool) → n ≤ (came old.next_place row b full).room
+        go true = omega (arith, q, is)
+        go false = omega (arith, q, is)
+
+-- it shows the same where the same is held
+pub shown_like : (limit before : ℕ) (list new : List Backlog) → missed_in new ≡ missed_in list → rows_in new ≡ rows_in list → shown limit before new ≡ shown limit before list
+shown_like limit before list new m r = λ i. record { limit = limit; missed = min (before + m i) greatest_missed; rows = r i }
+
+-- the next row of the first list is delivered
+pub rows_delivered : (limit before now : ℕ) (f : Row → List Row) (list new : List Backlog) → HasLimit limit list → new ≡ changed_at 0 (λ (b : Backlog). record b { rows = deliver_placed now f b.rows }) list →
+    shown limit before new ≡ record (shown limit before list) { rows = deliver now f (rows_in list) }
+rows_delivered limit before now f [] new h is = absurd h
+rows_delivered limit before now f (b ∷ list) new h is = rw is (ap (λ rs. record (shown limit before (b ∷ list)) { rows = rs }) (bare-deliver now f b.rows))
+
+-- the rows that are out through consumers that pass are settled, and wait again
+pub rows_settled : (limit before : ℕ) (p : SessionId → ℕ → Bool) (list new : List Backlog) → HasLimit limit list → new ≡ map (settled p) list →
+    shown limit before new ≡ record (shown limit before list) { rows = filter (λ r. not (is_out p r)) (rows_in list) }
+rows_settled limit before p [] new h is = absurd h
+rows_settled limit before p (b ∷ list) new h is = rw is (ap (λ rs. record (shown limit before (b ∷ list)) { rows = rs }) (bare-settled p b.rows))
+
+pub rows_returned : (limit before : ℕ) (p : SessionId → ℕ → Bool) (list new : List Backlog) → HasLimit limit list → new ≡ map (returned p) list →
+    shown limit before new ≡ record (shown limit before list) { rows = map (given_back p) (rows_in list) }
+rows_returned limit before p [] new h is = absurd h
+rows_returned limit before p (b ∷ list) new h is = rw is (ap (λ rs. record (shown limit before (b ∷ list)) { rows = rs }) (bare-returned p b.rows))
+
+-- what a delivery from the first list answers
+pub answered_first : (limit : ℕ) (list : List Backlog) (now : ℕ) (d : Backlog) → HasLimit limit list → answered now (slice_index_or list 0 d).rows ≡ delivery (next now (live now (rows_in list)))
+answered_first limit [] now d h = absurd h
+answered_first limit (b ∷ list) now d h = refl
+
+-- what was missed there
+pub missed_first : (limit : ℕ) (list : List Backlog) (d : Backlog) → HasLimit limit list → (slice_index_or list 0 d).missed ≡ missed_in list
+missed_first limit [] d h = absurd h
+missed_first limit (b ∷ list) d h = refl

@@ -1,10 +1,13 @@
--- What the subscription alone owes to an entry.
-use Rattle.std.specs.Prelude.{◌≡◌, ℕ, List, Option, Result}
+-- What the subscription alone owes to an entry, and to a call.
+use Rattle.std.specs.Prelude.{◌≡◌, ℕ, List, Option, Result, is_none, if◌then◌else◌}
 use Rattle.jm_base.specs.declared.refusal.Refusal.{Refusal}
+use Rattle.jm_dest.specs.declared.session.SessionId.{SessionId}
 use Rattle.jm_machine.specs.declared.answer.Answer.{Answer}
+use Rattle.jm_machine.specs.declared.call.Request.{Request}
+use Rattle.jm_machine.specs.declared.call.Who.TheVariants.{Connection, Session}
 use Rattle.jm_machine.specs.declared.entry.Entry.{Entry}
 use Rattle.jm_machine.specs.Life.{Life}
-use Rattle.jm_machine.specs.Lone.{Lone, lone_replies, lone_end, fed, at_place, placed}
+use Rattle.jm_machine.specs.Lone.{Lone, lone_replies, lone_end, lone_did, lone_reply, lone_refusal, fed, at_place, placed}
 use Rattle.jm_model.specs.declared.owner.Owner.{Owner}
 use Rattle.jm_model.specs.Owners.{scope}
 use Rattle.jm_model.specs.Parts.{seen}
@@ -15,3 +18,20 @@ abbrev pub Answers : Owner → Lone → Entry → Option (Result Answer Refusal)
 Answers owner old e reply new = (life : Life) (before : List Entry) (place : ℕ) →
     (placed place reply ≡ lone_replies (scope owner) old (at_place place (fed (scope owner) life before old e)))
     × (seen owner new ≡ seen owner (lone_end (scope owner) old (fed (scope owner) life before old e)))
+
+-- what is held after a session's request, which may be refused
+abbrev pub after : Owner → Lone → SessionId → Request → Lone
+after owner old s request =
+    if is_none (lone_refusal old (Session s) request)
+    then lone_did (scope owner).key old (Session s) request
+    else old
+
+-- the reply to a request of the owner, and what is held after it
+abbrev pub IsAnswered : Owner → Lone → Request → Result Answer Refusal → Lone → Type 0
+IsAnswered owner old request reply new =
+    (reply ≡ lone_reply old (Session owner.session) request) × (new ≡ after owner old owner.session request)
+
+-- what the owner sees after an accepted request of its connection
+abbrev pub IsTakenUp : Owner → Lone → Request → Lone → Type 0
+IsTakenUp owner old request new =
+    seen owner new ≡ seen owner (lone_did (scope owner).key old (Connection owner.session.connection) request)

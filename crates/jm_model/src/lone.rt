@@ -1,30 +1,32 @@
 //! One subscription alone: what it holds, and what it answers to what it is fed.
 
-ghost use Rattle.std.specs.Prelude.{◌≡◌, ◌&&◌, ◌++◌, [], ◌∷◌, true, is_none, option_to_list, IfOk, OnOk, Some, if◌then◌else◌};
+ghost use Rattle.std.specs.Prelude.{◌≡◌, ◌≤◌, ◌&&◌, ◌++◌, [], ◌∷◌, true, length, option_to_list};
+ghost use Rattle.std.specs.Prelude.{is_none, is_some, IfOk, IfSome, OnOk, if◌then◌else◌};
 ghost use Rattle.std.specs.Option.{option_copied};
-ghost use Rattle.jm_dest.specs.declared.key.Key.{Key};
+ghost use Rattle.jm_dest.specs.declared.key.Key.{Key as OfKey};
+ghost use Rattle.jm_dest.specs.Keys.{key_eq};
 ghost use Rattle.jm_header.specs.declared.content.Content.{Content};
 ghost use Rattle.jm_machine.specs.Owns as owns;
 ghost use Rattle.jm_machine.specs.Life as life;
-ghost use Rattle.jm_machine.specs.Rows.{bare, fresh};
+ghost use Rattle.jm_machine.specs.Rows.{bare};
 ghost use Rattle.jm_machine.specs.Machine as machine;
 ghost use Rattle.jm_machine.specs.Isolation.{is_unshared};
 ghost use Rattle.jm_machine.specs.Lone as spec;
 ghost use Rattle.jm_machine.specs.Lone.Item.{Called};
 ghost use Rattle.jm_core.specs.Provider.{state_of};
 ghost use Rattle.jm_model.specs.Owners.{scope};
-ghost use Rattle.jm_model.specs.Parts.{definition_in, seen};
-ghost use Rattle.jm_model.specs.Answers.{Answers};
+ghost use Rattle.jm_model.specs.Parts.{AllNested, definition_in, seen};
+ghost use Rattle.jm_model.specs.Answers.{Answers, IsAnswered, IsTakenUp, after};
 
 use crate::owner::Owner;
 use crate::rows::Rows;
 use crate::subscription::{accepts, created, restored};
 use jm_base::{Mode, Refusal, Str};
-use jm_core::Core;
-use jm_dest::{ConnectionId, Moment, Name, SessionId};
+use jm_core::{Core, law_core_reached, law_rows_within_limit};
+use jm_dest::{ConnectionId, Key, Moment, Name, SessionId};
 use jm_header::Message;
 use jm_machine::find::{connection_of, consumer_of, session_of};
-use jm_machine::{Answer, Consumer, Entry, Reply, Request, Station, Who};
+use jm_machine::{Answer, Consumer, Consumers, Entry, Reply, Request, Station, Who};
 use jm_session::Sessions;
 use jm_sub::Subs;
 use std::alloc::{AllocError, Global};
@@ -53,16 +55,20 @@ impl Drop for Lone {
 
 impl Model for Lone {
     ghost use Rattle.jm_machine.specs.Lone.{Lone as LoneHeld};
-    ghost use Rattle.jm_model.specs.Parts.{definition_in};
+    ghost use Rattle.jm_model.specs.Parts.{AllNested, definition_in};
 
     ghost Value = { LoneHeld };
 
     ghost view = { λ l. record {
+      limit = l.rows.limit;
       life = l.sessions.life;
       consumers = l.sessions.consumers;
       definition = definition_in l.subs.list;
-      rows = l.rows;
+      missed = l.rows.missed;
+      rows = l.rows.rows;
     } };
+
+    ghost invariant = { λ l. AllNested l.sessions.life l.sessions.consumers };
 }
 
 fn copy_consumer(consumer: Option<&Consumer>) -> Result<Option<Consumer>, AllocError>
@@ -76,9 +82,12 @@ fn copy_consumer(consumer: Option<&Consumer>) -> Result<Option<Consumer>, AllocE
 
 /// The connection of the owner's session, the session and the owner, where they are in the opening.
 fn own_sessions(alloc: Global, opening: &Core, owner: &Owner) -> Result<Sessions, AllocError>
-    ensures connection { IfOk result (λ own. own.life.connections ≡ option_to_list (life.connection_of (state_of opening.now).life.connections owner.now.session.connection)) }
-    ensures session { IfOk result (λ own. own.life.sessions ≡ option_to_list (life.session_of (state_of opening.now).life.sessions owner.now.session)) }
-    ensures consumer { IfOk result (λ own. own.consumers ≡ option_to_list (machine.consumer_of (state_of opening.now).consumers owner.now.session owner.now.consumer)) }
+    ensures connection { IfOk result (λ own. own.life.connections
+        ≡ option_to_list (life.connection_of (state_of opening.now).life.connections owner.now.session.connection)) }
+    ensures session { IfOk result (λ own. own.life.sessions
+        ≡ option_to_list (life.session_of (state_of opening.now).life.sessions owner.now.session)) }
+    ensures consumer { IfOk result (λ own. own.consumers
+        ≡ option_to_list (machine.consumer_of (state_of opening.now).consumers owner.now.session owner.now.consumer)) }
 {
     let connection = connection_of(opening.connections(), owner.session.connection);
     let session = session_of(opening.sessions(), &owner.session);
@@ -88,25 +97,37 @@ fn own_sessions(alloc: Global, opening: &Core, owner: &Owner) -> Result<Sessions
 
 /// What is held under the owner's key in the opening.
 fn own_station(opening: &Core, owner: &Owner) -> Result<Option<Station>, AllocError>
-    ensures { IfOk result (λ station. station ≡ machine.station_of (scope owner.now).key (state_of opening.now).stations) }
+    ensures station { IfOk result (λ station. station
+        ≡ machine.station_of (scope owner.now).key (state_of opening.now).stations) }
+    ensures within { IfOk result (λ station. IfSome station (λ x. length x.rows ≤ (state_of opening.now).limit)) }
 {
+    law_rows_within_limit(opening);
     let key = owner.key();
     opening.station(&key)
 }
 
 /// The subscription that stands there, and its rows.
-fn parts_of(alloc: Global, owner: &Owner, station: Station) -> Result<(Subs, Rows), AllocError>
-    ensures accepts { (key : Key) (publisher : machine.Publisher) (m : Content) →
-        IfOk result (λ parts. spec.lone_accepts key (definition_in parts.0.list) publisher m ≡ machine.accepts key station.definition publisher m) }
-    ensures rows { IfOk result (λ parts. parts.1 ≡ bare station.rows) }
+fn parts_of(
+    alloc: Global,
+    owner: &Owner,
+    limit: u32,
+    station: Station,
+) -> Result<(Subs, Rows), AllocError>
+    requires { length station.rows ≤ limit }
+    ensures accepts { (key : OfKey) (publisher : machine.Publisher) (m : Content) →
+        IfOk result (λ parts. spec.lone_accepts key (definition_in parts.0.list) publisher m
+        ≡ machine.accepts key station.definition publisher m) }
+    ensures rows { IfOk result (λ parts. parts.1
+        ≡ record { limit = limit; missed = station.missed; rows = bare station.rows }) }
 {
     let Station {
         key,
         definition,
+        missed,
         rows,
     } = station;
     let subs = restored(alloc, key, &definition)?;
-    let rows = Rows::of(alloc, owner.key(), rows.into_inner())?;
+    let rows = Rows::of(alloc, owner.key(), limit, missed, rows.into_inner())?;
     Ok((subs, rows))
 }
 
@@ -114,15 +135,19 @@ fn parts_of(alloc: Global, owner: &Owner, station: Station) -> Result<(Subs, Row
 fn own_parts(
     alloc: Global,
     owner: &Owner,
+    limit: u32,
     station: Option<Station>,
 ) -> Result<(Subs, Rows), AllocError>
-    ensures accepts { (key : Key) (publisher : machine.Publisher) (m : Content) →
-        IfOk result (λ parts. spec.lone_accepts key (definition_in parts.0.list) publisher m ≡ spec.lone_accepts key (machine.definition_of station) publisher m) }
-    ensures rows { IfOk result (λ parts. parts.1 ≡ machine.rows_of station) }
+    requires { IfSome station (λ x. length x.rows ≤ limit) }
+    ensures accepts { (key : OfKey) (publisher : machine.Publisher) (m : Content) →
+        IfOk result (λ parts. spec.lone_accepts key (definition_in parts.0.list) publisher m
+        ≡ spec.lone_accepts key (machine.definition_of station) publisher m) }
+    ensures rows { IfOk result (λ parts. parts.1
+        ≡ record { limit = limit; missed = machine.missed_of station; rows = machine.rows_of station }) }
 {
     match station {
-        None => Ok((Subs::new(alloc), Rows::new(alloc, owner.key())?)),
-        Some(station) => parts_of(alloc, owner, station),
+        None => Ok((Subs::new(alloc), Rows::new(alloc, owner.key(), limit)?)),
+        Some(station) => parts_of(alloc, owner, limit, station),
     }
 }
 
@@ -130,10 +155,12 @@ impl Lone {
     /// What the opening holds of the owner's subscription.
     pub(crate) fn of(alloc: Global, opening: &Core, owner: &Owner) -> Result<Lone, AllocError>
         requires { is_unshared (scope owner.now).key (state_of opening.now) ≡ true }
-        ensures { IfOk result (λ lone. seen owner.now lone ≡ seen owner.now (spec.lone_of (scope owner.now) (state_of opening.now))) }
+        ensures { IfOk result (λ lone. seen owner.now lone
+            ≡ seen owner.now (spec.lone_of (scope owner.now) (state_of opening.now))) }
     {
+        law_core_reached(opening);
         let station = own_station(opening, owner)?;
-        let (subs, rows) = own_parts(alloc, owner, station)?;
+        let (subs, rows) = own_parts(alloc, owner, opening.held_limit(), station)?;
         let sessions = own_sessions(alloc, opening, owner)?;
         Ok(Lone {
             sessions,
@@ -143,27 +170,85 @@ impl Lone {
     }
 }
 
+/// Whether the consumer is one of those, and receives from the key.
+fn is_one(x: &Consumer, key: &Key, which: &Consumers) -> bool
+    ensures { result ≡ (key_eq x.now.key key.now && machine.are_meant which.now x.now.session x.now.id) }
+{
+    x.key.is(key) && which.include(&x.session, x.id)
+}
+
 impl Lone {
-    /// Takes up a connection's request that was accepted. One that opens a connection that is open is taken up too,
-    /// and nothing is seen of it.
-    #[tactic(auto, using(crate::proofs::Taken::taking_up), unfolding(jm_machine::specs::Life::life_after))]
-    fn take_up(&mut self, id: ConnectionId, request: &Request) -> Result<(), AllocError>
-        ensures connection { OnOk result (life.connection_of self.new.life.connections id
-            ≡ life.connection_of (life.life_after self.old.life (Who.Connection id) request.now).connections id) }
-        ensures others { self.new ≡ record self.old { life = record self.old.life { connections = self.new.life.connections } } }
+    /// Whether the subscription ends as those consumers close: the owner is one of them.
+    fn ends(&self, owner: &Owner, which: &Consumers) -> bool
+        ensures { result ≡ machine.ends (machine.are_meant which.now) self.now.consumers (scope owner.now).key }
+    {
+        let key = owner.key();
+        self.sessions
+            .consumers()
+            .iter()
+            .any(|x| is_one(x, &key, which))
+    }
+
+    /// The subscription ends, where it is to end.
+    fn end_if(&mut self, alloc: Global, owner: &Owner, ends: bool) -> Result<(), AllocError>
+        ensures { OnOk result (self.new ≡ (if ends then spec.lone_ended self.old else self.old)) }
+    {
+        if ends {
+            self.rows = Rows::new(alloc, owner.key(), self.rows.limit())?;
+            self.subs = Subs::new(alloc);
+        }
+        Ok(())
+    }
+
+    /// The owner's connection is opened. One that was opened before is as it was, and nothing is seen of it.
+    fn open(&mut self, owner: &Owner) -> Result<(), AllocError>
+        ensures { OnOk result (IsTakenUp owner.now self.old Request.Open self.new) }
+    {
+        if self.sessions.is_used(owner.session.connection) {
+            return Ok(());
+        }
+        let Ok(_) = self.sessions.open(owner.session.connection) else {
+            return Err(AllocError);
+        };
+        Ok(())
+    }
+
+    /// The owner's connection is started. One that is not open is as it was, and nothing is seen of it.
+    fn start(&mut self, owner: &Owner)
+        ensures { IsTakenUp owner.now self.old Request.Start self.new }
+    {
+        let _ = self.sessions.start(owner.session.connection);
+    }
+
+    /// The owner's connection is stopped. One that is not open is as it was, and nothing is seen of it.
+    fn stop(&mut self, owner: &Owner)
+        ensures { IsTakenUp owner.now self.old Request.Stop self.new }
+    {
+        let _ = self.sessions.stop(owner.session.connection);
+    }
+
+    /// The owner's connection closes with its session and the owner: what is out waits again, and the subscription
+    /// ends. Of one that was never opened nothing is seen.
+    fn close_connection(&mut self, alloc: Global, owner: &Owner) -> Result<(), AllocError>
+        ensures { OnOk result (IsTakenUp owner.now self.old Request.CloseConnection self.new) }
+    {
+        let which = Consumers::OfConnection(owner.session.connection);
+        let ends = self.ends(owner, &which);
+        self.rows.give_back(&which);
+        let _ = self.sessions.close_connection(owner.session.connection);
+        self.end_if(alloc, owner, ends)
+    }
+
+    /// Takes up a request of the owner's connection that was accepted.
+    #[tactic(auto, unfolding(jm_machine::specs::Lone::lone_did, jm_machine::specs::Life::life_after))]
+    fn take_up(&mut self, alloc: Global, owner: &Owner, request: &Request) -> Result<(), AllocError>
+        ensures { OnOk result (IsTakenUp owner.now self.old request.now self.new) }
     {
         match request {
-            Request::Open => {
-                if let Err(Refusal::Memory) = self.sessions.open(id) {
-                    return Err(AllocError);
-                }
-            }
-            Request::Start => {
-                let _ = self.sessions.start(id);
-            }
-            Request::Stop => {
-                let _ = self.sessions.stop(id);
-            }
+            Request::Open => self.open(owner)?,
+            Request::Start => self.start(owner),
+            Request::Stop => self.stop(owner),
+            Request::CloseConnection => self.close_connection(alloc, owner)?,
             _ => {}
         }
         Ok(())
@@ -172,7 +257,8 @@ impl Lone {
     /// Opens the session, where it may be opened.
     #[tactic(auto, unfolding(jm_machine::specs::Life::life_after))]
     fn create_session(&mut self, id: &SessionId, mode: Mode) -> Result<(), AllocError>
-        ensures { OnOk result (self.new ≡ record self.old { life = life.life_after self.old.life (Who.Session id.now) (Request.CreateSession mode) }) }
+        ensures { OnOk result (self.new
+            ≡ spec.lone_life (Who.Session id.now) (Request.CreateSession mode) self.old) }
     {
         match self.sessions.session(id, mode) {
             Err(Refusal::Memory) => Err(AllocError),
@@ -180,16 +266,37 @@ impl Lone {
         }
     }
 
+    /// Closes the session with its consumers, where it may be closed: what is out to it waits again, and the
+    /// subscription ends with the owner.
+    fn close_session(
+        &mut self,
+        alloc: Global,
+        owner: &Owner,
+        id: &SessionId,
+    ) -> Result<(), AllocError>
+        ensures { OnOk result (self.new ≡ after owner.now self.old id.now Request.CloseSession) }
+    {
+        let which = Consumers::OfSession(*id);
+        let ends = self.ends(owner, &which);
+        if self.sessions.close_session(id).is_err() {
+            return Ok(());
+        }
+        self.rows.give_back(&which);
+        self.end_if(alloc, owner, ends)
+    }
+
     /// Adds the owner with that subscription, empty, in place of any other.
     fn join(&mut self, alloc: Global, owner: &Owner, subs: Subs) -> Result<(), AllocError>
         requires { machine.may_begin self.old.life self.old.consumers owner.now.session owner.now.consumer ≡ true }
         ensures { OnOk result (self.new ≡ record self.old {
-          consumers = self.old.consumers ++ machine.new_consumer owner.now.session owner.now.consumer (scope owner.now).key ∷ [];
+          consumers = self.old.consumers
+              ++ machine.new_consumer owner.now.session owner.now.consumer (scope owner.now).key ∷ [];
           definition = definition_in subs.list;
+          missed = 0;
           rows = [];
         }) }
     {
-        let rows = Rows::new(alloc, owner.key())?;
+        let rows = Rows::new(alloc, owner.key(), self.rows.limit())?;
         let Ok(_) = self
             .sessions
             .consumer(&owner.session, owner.consumer, owner.key())
@@ -212,9 +319,7 @@ impl Lone {
     ) -> Result<Reply, AllocError>
         ensures { IfOk result (λ reply.
             let request = Request.CreateConsumer owner.now.consumer topic.now selector.now in
-            (reply ≡ spec.lone_reply self.old (Who.Session owner.now.session) request)
-            × (self.new ≡ (if is_none (spec.lone_refusal self.old (Who.Session owner.now.session) request)
-            then spec.lone_did (scope owner.now).key self.old (Who.Session owner.now.session) request else self.old))) }
+            IsAnswered owner.now self.old request reply self.new) }
     {
         if !self.sessions.may_begin(&owner.session, owner.consumer) {
             return Ok(Err(Refusal::IllegalState));
@@ -229,22 +334,99 @@ impl Lone {
         }
     }
 
-    /// Delivers the next message to the owner, where it may receive.
+    /// Closes the owner, where it may be closed, and its subscription ends with it.
+    #[tactic(auto, unfolding(jm_machine::specs::Machine::refusal, jm_machine::specs::Machine::answer, jm_machine::specs::Lone::lone_did))]
+    fn close_consumer(&mut self, alloc: Global, owner: &Owner) -> Result<Reply, AllocError>
+        ensures { IfOk result (λ reply.
+            IsAnswered owner.now self.old (Request.CloseConsumer owner.now.consumer) reply self.new) }
+    {
+        let which = Consumers::One(owner.session, owner.consumer);
+        let ends = self.ends(owner, &which);
+        if self
+            .sessions
+            .close_consumer(&owner.session, owner.consumer)
+            .is_err()
+        {
+            return Ok(Err(Refusal::IllegalState));
+        }
+        self.end_if(alloc, owner, ends)?;
+        Ok(Ok(Answer::Done))
+    }
+
+    /// Delivers the next message to the owner, where it may receive, as the mode of its session says.
     #[tactic(auto, unfolding(jm_machine::specs::Machine::refusal, jm_machine::specs::Machine::answer, jm_machine::specs::Lone::lone_did))]
     fn receive(&mut self, owner: &Owner, now: Moment) -> Result<Reply, AllocError>
         ensures { IfOk result (λ reply.
-            let request = Request.Receive owner.now.consumer now in
-            (reply ≡ spec.lone_reply self.old (Who.Session owner.now.session) request)
-            × (self.new ≡ (if is_none (spec.lone_refusal self.old (Who.Session owner.now.session) request)
-            then spec.lone_did (scope owner.now).key self.old (Who.Session owner.now.session) request else self.old))) }
+            IsAnswered owner.now self.old (Request.Receive owner.now.consumer now) reply self.new) }
     {
-        if !self.sessions.may_receive(&owner.session, owner.consumer) {
+        let Some(mode) = self.sessions.mode_of(&owner.session) else {
+            return Ok(Err(Refusal::IllegalState));
+        };
+        if !self.sessions.is_active(&owner.session, owner.consumer) {
             return Ok(Err(Refusal::IllegalState));
         }
         if !self.sessions.is_started(owner.session.connection) {
             return Ok(Ok(Answer::Nothing));
         }
-        Ok(Ok(self.rows.receive(now)?))
+        let answer = self
+            .rows
+            .receive(mode, &owner.session, owner.consumer, now)?;
+        Ok(Ok(answer))
+    }
+
+    /// Settles what is out to the session, where it is open and its mode lets the client acknowledge.
+    fn acknowledge(&mut self, id: &SessionId)
+        ensures { self.new ≡ (if machine.is_client (life.mode_of self.old.life id.now)
+            then spec.lone_settled (machine.of_session id.now) self.old else self.old) }
+    {
+        if let Some(Mode::Client) = self.sessions.mode_of(id) {
+            self.rows.settle(&Consumers::OfSession(*id));
+        }
+    }
+
+    /// Lets what is out to the session wait again, where it is open.
+    fn recover(&mut self, id: &SessionId)
+        ensures { self.new ≡ (if is_some (life.mode_of self.old.life id.now)
+            then spec.lone_returned (machine.of_session id.now) self.old else self.old) }
+    {
+        if self.sessions.is_open(id) {
+            self.rows.give_back(&Consumers::OfSession(*id));
+        }
+    }
+
+    /// How many publications the owner's subscription missed, where the owner may ask.
+    #[tactic(auto, unfolding(jm_machine::specs::Machine::refusal, jm_machine::specs::Machine::answer))]
+    fn missed(&self, owner: &Owner) -> Reply
+        ensures { result
+            ≡ spec.lone_reply self.now (Who.Session owner.now.session) (Request.Missed owner.now.consumer) }
+    {
+        if !self.sessions.may_receive(&owner.session, owner.consumer) {
+            return Err(Refusal::IllegalState);
+        }
+        Ok(Answer::Missed(self.rows.missed()))
+    }
+
+    /// Takes up a request that is about the whole session, where it is not refused.
+    #[tactic(auto, unfolding(jm_machine::specs::Machine::refusal, jm_machine::specs::Lone::lone_did, jm_machine::specs::Life::life_after))]
+    fn ask_session(
+        &mut self,
+        alloc: Global,
+        owner: &Owner,
+        session: &SessionId,
+        request: &Request,
+    ) -> Result<(), AllocError>
+        ensures { OnOk result (self.new ≡ (if is_none (spec.about (scope owner.now) session.now request.now)
+            then spec.lone_after (scope owner.now) self.old (Called (Who.Session session.now) request.now)
+            else self.old)) }
+    {
+        match request {
+            Request::CreateSession { mode } => self.create_session(session, *mode)?,
+            Request::CloseSession => self.close_session(alloc, owner, session)?,
+            Request::Acknowledge => self.acknowledge(session),
+            Request::Recover => self.recover(session),
+            _ => {}
+        }
+        Ok(())
     }
 
     /// What is answered to a session's request, and taken up of it.
@@ -258,13 +440,10 @@ impl Lone {
     ) -> Result<Option<Reply>, AllocError>
         ensures { IfOk result (λ reply.
             let item = Called (Who.Session session.now) request.now in
-            (reply ≡ spec.lone_told (scope owner.now) self.old item) × (self.new ≡ spec.lone_after (scope owner.now) self.old item)) }
+            (reply ≡ spec.lone_told (scope owner.now) self.old item)
+            × (self.new ≡ spec.lone_after (scope owner.now) self.old item)) }
     {
         match request {
-            Request::CreateSession { mode } => {
-                self.create_session(session, *mode)?;
-                Ok(None)
-            }
             Request::CreateConsumer {
                 consumer,
                 topic,
@@ -272,17 +451,27 @@ impl Lone {
             } if owner.names(session, *consumer) => {
                 Ok(Some(self.create_consumer(alloc, owner, topic, selector)?))
             }
+            Request::CloseConsumer { consumer } if owner.is(session, *consumer) => {
+                Ok(Some(self.close_consumer(alloc, owner)?))
+            }
             Request::Receive { consumer, now } if owner.is(session, *consumer) => {
                 Ok(Some(self.receive(owner, *now)?))
             }
-            _ => Ok(None),
+            Request::Missed { consumer } if owner.is(session, *consumer) => {
+                Ok(Some(self.missed(owner)))
+            }
+            _ => {
+                self.ask_session(alloc, owner, session, request)?;
+                Ok(None)
+            }
         }
     }
 
-    /// A publication comes, where it is accepted.
+    /// A publication comes, where it is accepted; at the limit it is missed.
     fn publish(&mut self, owner: &Owner, message: &Message) -> Result<(), AllocError>
-        ensures { (publisher : machine.Publisher) → OnOk result (self.new ≡ (if spec.lone_accepts (scope owner.now).key self.old.definition publisher message.now
-            then record self.old { rows = self.old.rows ++ fresh message.now ∷ [] } else self.old)) }
+        ensures { (publisher : machine.Publisher) → OnOk result (self.new
+            ≡ (if spec.lone_accepts (scope owner.now).key self.old.definition publisher message.now
+            then spec.lone_brought (scope owner.now).key message.now self.old else self.old)) }
     {
         if accepts(&self.subs, message) {
             self.rows.push(message)?;
@@ -294,16 +483,18 @@ impl Lone {
     /// the owner's connection.
     fn ask_connection(
         &mut self,
+        alloc: Global,
         owner: &Owner,
         id: ConnectionId,
         request: &Request,
         is_accepted: bool,
     ) -> Result<(), AllocError>
-        ensures { OnOk result (seen owner.now self.new ≡ seen owner.now (if owns.is_own_connection (scope owner.now).sessions id && is_accepted
+        ensures { OnOk result (seen owner.now self.new
+            ≡ seen owner.now (if owns.is_own_connection (scope owner.now).sessions id && is_accepted
             then spec.lone_after (scope owner.now) self.old (Called (Who.Connection id) request.now) else self.old)) }
     {
         if is_accepted && owner.is_own_connection(id) {
-            self.take_up(id, request)?;
+            self.take_up(alloc, owner, request)?;
         }
         Ok(())
     }
@@ -317,11 +508,12 @@ impl Lone {
         request: &Request,
         reply: &Reply,
     ) -> Result<Option<Reply>, AllocError>
-        ensures { IfOk result (λ answer. Answers owner.now self.old (Entry.Asked who request.now reply.now) answer self.new) }
+        ensures { IfOk result (λ answer.
+            Answers owner.now self.old (Entry.Asked who request.now reply.now) answer self.new) }
     {
         match who {
             Who::Connection(id) => {
-                self.ask_connection(owner, id, request, reply.is_ok())?;
+                self.ask_connection(alloc, owner, id, request, reply.is_ok())?;
                 Ok(None)
             }
             Who::Session(session) => {

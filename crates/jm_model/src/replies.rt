@@ -145,7 +145,8 @@ fn is_unshared(key: &Key, opening: &Core) -> bool
 /// the replies in the entries nothing is read but whether a connection's call was accepted.
 ///
 /// `NotUnshared` exactly where the key is not that of an unshared topic subscription, or its consumer's
-/// number names another consumer of the opening; else `Memory` where a request for memory was refused.
+/// number names another consumer of the opening; else `Memory` where a request for memory was refused, or
+/// where the places of its rows, counted from 1, would pass 2^63-1, as no memory would hold so many.
 pub fn lone_replies(
     alloc: Global,
     opening: &Core,

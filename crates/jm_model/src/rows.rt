@@ -1,14 +1,15 @@
 //! The rows of one subscription.
 
-ghost use Rattle.std.specs.Prelude.{◌≡◌, [], ◌∷◌, ◌++◌, length, IfOk, OnOk, Some};
-ghost use Rattle.jm_base.specs.declared.mode.Mode.TheVariants.{Auto};
+ghost use Rattle.std.specs.Prelude.{◌≡◌, ◌≤◌, ◌<◌, ℕ, [], ◌∷◌, filter, length, map, not, IfOk, OnOk, Some};
 ghost use Rattle.jm_machine.specs.Machine as machine;
 ghost use Rattle.jm_machine.specs.Rows as spec;
-ghost use Rattle.jm_model.specs.Parts.{HasRoom, IsOpen, rows_in};
+ghost use Rattle.jm_stations.specs.Backlogs.{empty, gone, out_row};
+ghost use Rattle.jm_model.specs.Parts.{HasLimit, HasRoom, missed_in, rows_in, with_row};
 
-use jm_dest::{Key, Moment};
+use jm_base::Mode;
+use jm_dest::{ConsumerId, Key, Moment, SessionId};
 use jm_header::Message;
-use jm_machine::{Answer, PlacedRow, Row};
+use jm_machine::{Answer, Consumers, PlacedRow, Row, RowState};
 use jm_stations::Stations;
 use std::alloc::{AllocError, Global};
 use std::marker::Model;
@@ -16,37 +17,59 @@ use std::marker::Model;
 /// The first number that is no place.
 const PLACES_END: u64 = 9_223_372_036_854_775_808;
 
-/// The rows under one key, in order. Contracts see them without their places. Its drop is its own, so that a function
-/// with several ways out does not drop part by part on each.
+/// The rows under one key, in order, of which there may be at most so many, and how many publications were missed at
+/// that limit. Contracts see the rows without their places. Its drop is its own, so that a function with several ways
+/// out does not drop part by part on each.
 pub(crate) struct Rows {
     stations: Stations,
+    limit: u32,
+    /// How many were missed before these rows were taken up.
+    missed_before: u64,
 }
 
 impl Drop for Rows {
     fn drop(self) {
-        let Rows { stations } = self;
+        let Rows {
+            stations,
+            limit: _,
+            missed_before: _,
+        } = self;
         drop(stations);
     }
 }
 
 impl Model for Rows {
-    ghost use Rattle.std.specs.Prelude.{List};
-    ghost use Rattle.jm_machine.specs.declared.state.Row.{Row as Held};
-    ghost use Rattle.jm_model.specs.Parts.{IsOpen, rows_in};
+    ghost use Rattle.jm_model.specs.Parts.{HasLimit, missed_since, rows_in};
+    ghost use Rattle.jm_model.specs.Parts.{Rows as RowsShown};
 
-    ghost Value = { List Held };
+    ghost Value = { RowsShown };
 
-    ghost view = { λ r. rows_in r.stations.list };
+    ghost view = { λ r. record {
+      limit = r.limit;
+      missed = missed_since r.missed_before r.stations.list;
+      rows = rows_in r.stations.list;
+    } };
 
-    ghost invariant = { λ r. IsOpen r.stations.list };
+    ghost invariant = { λ r. HasLimit r.limit r.stations.list };
+}
+
+/// The key, under which nothing is held, of which there may be at most so many rows.
+fn opened(alloc: Global, key: Key, limit: u32) -> Result<Stations, AllocError>
+    ensures { IfOk result (λ stations. stations.list ≡ empty (Some limit) ∷ []) }
+{
+    let mut stations = Stations::new(alloc);
+    stations.reserve_key()?;
+    stations.create(key, Some(limit));
+    Ok(stations)
 }
 
 /// Makes room for that many more rows under the first key. `AllocError` where a request for memory was refused, or where
 /// no place is left, as no memory would hold so many rows. Either way the rows are as before.
 fn reserve(stations: &mut Stations, additional: usize) -> Result<(), AllocError>
-    requires { IsOpen stations.old.list }
+    requires { 0 < length stations.old.list }
     ensures room { OnOk result (HasRoom additional stations.new) }
-    ensures open { IsOpen stations.new.list }
+    ensures limit { (limit : ℕ) → HasLimit limit stations.old.list → HasLimit limit stations.new.list }
+    ensures missed { missed_in stations.new.list ≡ missed_in stations.old.list }
     ensures rows { rows_in stations.new.list ≡ rows_in stations.old.list }
 {
     if PLACES_END - stations.next_place() < additional as u64 {
@@ -55,63 +78,122 @@ fn reserve(stations: &mut Stations, additional: usize) -> Result<(), AllocError>
     stations.reserve(&[0], additional)
 }
 
-/// Adds the rows behind all others under the first key. Takes no memory, since room was reserved.
-fn load_all(stations: &mut Stations, rows: Vec<PlacedRow>)
-    requires open { IsOpen stations.old.list }
-    requires room { HasRoom (length rows.items) stations.old }
-    ensures open { IsOpen stations.new.list }
-    ensures rows { rows_in stations.new.list ≡ rows_in stations.old.list ++ spec.bare rows.items }
-{
-    for placed in rows {
-        stations.load(0, placed.row);
-    }
-}
-
 impl Rows {
-    /// No rows under the key.
-    pub(crate) fn new(alloc: Global, key: Key) -> Result<Rows, AllocError>
-        ensures { IfOk result (λ rows. rows ≡ []) }
+    /// No rows under the key, of which there may be at most so many.
+    pub(crate) fn new(alloc: Global, key: Key, limit: u32) -> Result<Rows, AllocError>
+        ensures { IfOk result (λ rows. rows ≡ record { limit = limit; missed = 0; rows = [] }) }
     {
-        let mut stations = Stations::new(alloc);
-        stations.reserve_key()?;
-        stations.create(key, None);
-        Ok(Rows { stations })
+        Ok(Rows {
+            stations: opened(alloc, key, limit)?,
+            limit,
+            missed_before: 0,
+        })
     }
 
-    /// Those rows under the key, in their order.
-    pub(crate) fn of(alloc: Global, key: Key, rows: Vec<PlacedRow>) -> Result<Rows, AllocError>
-        ensures { IfOk result (λ loaded. loaded ≡ spec.bare rows.items) }
+    /// Those rows under the key, in their order, after so many publications were missed.
+    pub(crate) fn of(
+        alloc: Global,
+        key: Key,
+        limit: u32,
+        missed: u64,
+        rows: Vec<PlacedRow>,
+    ) -> Result<Rows, AllocError>
+        requires { length rows.items ≤ limit }
+        ensures { IfOk result (λ loaded. loaded ≡ record { limit = limit; missed = missed; rows = spec.bare rows.items }) }
     {
-        let mut loaded = Rows::new(alloc, key)?;
-        loaded.load(rows)?;
-        Ok(loaded)
+        let mut stations = opened(alloc, key, limit)?;
+        reserve(&mut stations, rows.len())?;
+        for placed in rows {
+            stations.load(0, placed.row);
+        }
+        Ok(Rows {
+            stations,
+            limit,
+            missed_before: missed,
+        })
     }
 
-    /// Adds those rows behind all others, in their order.
-    fn load(&mut self, rows: Vec<PlacedRow>) -> Result<(), AllocError>
-        ensures { OnOk result (self.new ≡ self.old ++ spec.bare rows.items) }
-    {
-        reserve(&mut self.stations, rows.len())?;
-        load_all(&mut self.stations, rows);
-        Ok(())
-    }
-
-    /// Adds the row of a message that comes behind all others.
+    /// Adds the row of a message that comes behind all others; at the limit it is missed.
     pub(crate) fn push(&mut self, message: &Message) -> Result<(), AllocError>
-        ensures { OnOk result (self.new ≡ self.old ++ spec.fresh message.now ∷ []) }
+        ensures { OnOk result (self.new ≡ with_row (spec.fresh message.now) self.old) }
     {
         reserve(&mut self.stations, 1)?;
-        let message = message.copy()?;
-        self.stations.load(0, Row { message, count: 0 });
+        let row = Row {
+            message: message.copy()?,
+            count: 0,
+            state: RowState::Waiting,
+        };
+        self.stations.load(0, row);
         Ok(())
     }
 
-    /// Drops the rows that have lapsed, and delivers and settles the next one.
-    pub(crate) fn receive(&mut self, now: Moment) -> Result<Answer, AllocError>
-        ensures answer { IfOk result (λ answer. answer ≡ machine.delivery (spec.next now (spec.live now self.old))) }
-        ensures rows { OnOk result (self.new ≡ spec.deliver now (spec.left_of (Some Auto)) self.old) }
+    /// How many rows there may be.
+    pub(crate) fn limit(&self) -> u32
+        ensures { result ≡ self.now.limit }
     {
-        let copy = self.stations.copy_for(0, now)?;
+        self.limit
+    }
+
+    /// How many publications were missed; at 18,446,744,073,709,551,615 it stays.
+    pub(crate) fn missed(&self) -> u64
+        ensures { result ≡ self.now.missed }
+    {
+        self.missed_before.saturating_add(self.stations.missed(0))
+    }
+
+    /// Drops the rows that have lapsed, and delivers the next one to the session through its consumer, as the mode
+    /// says: it is settled at once, or goes out.
+    #[tactic(auto, unfolding(jm_machine::specs::Rows::left_of))]
+    pub(crate) fn receive(
+        &mut self,
+        mode: Mode,
+        session: &SessionId,
+        consumer: ConsumerId,
+        now: Moment,
+    ) -> Result<Answer, AllocError>
+        ensures answer { IfOk result (λ answer. answer ≡ machine.delivery (spec.next now (spec.live now self.old.rows))) }
+        ensures rows { OnOk result (self.new ≡ record self.old { rows = spec.deliver now (spec.left_of (Some mode) session.now consumer) self.old.rows }) }
+    {
+        match mode {
+            Mode::Auto | Mode::Dups => self.settle_next(now),
+            Mode::Client => self.send_next(session, consumer, now),
+        }
+    }
+
+    /// Drops the rows that have lapsed, and delivers the next one, which is settled.
+    fn settle_next(&mut self, now: Moment) -> Result<Answer, AllocError>
+        ensures answer { IfOk result (λ answer. answer ≡ machine.delivery (spec.next now (spec.live now self.old.rows))) }
+        ensures rows { OnOk result (self.new ≡ record self.old { rows = spec.deliver now gone self.old.rows }) }
+    {
+        let copy = self.stations.copy_for(0, now, true)?;
         Ok(self.stations.receive(0, now, copy))
+    }
+
+    /// Drops the rows that have lapsed, and delivers the next one, which goes out.
+    fn send_next(
+        &mut self,
+        session: &SessionId,
+        consumer: ConsumerId,
+        now: Moment,
+    ) -> Result<Answer, AllocError>
+        ensures answer { IfOk result (λ answer. answer ≡ machine.delivery (spec.next now (spec.live now self.old.rows))) }
+        ensures rows { OnOk result (self.new ≡ record self.old { rows = spec.deliver now (out_row session.now consumer) self.old.rows }) }
+    {
+        let copy = self.stations.copy_for(0, now, false)?;
+        Ok(self.stations.deliver(0, now, copy, *session, consumer))
+    }
+
+    /// The rows that are out through one of those consumers go.
+    pub(crate) fn settle(&mut self, which: &Consumers)
+        ensures { self.new ≡ record self.old { rows = filter (λ r. not (spec.is_out (machine.are_meant which.now) r)) self.old.rows } }
+    {
+        self.stations.settle(which);
+    }
+
+    /// The rows that are out through one of those consumers wait again, at their places and with their counts.
+    pub(crate) fn give_back(&mut self, which: &Consumers)
+        ensures { self.new ≡ record self.old { rows = map (spec.given_back (machine.are_meant which.now)) self.old.rows } }
+    {
+        self.stations.give_back(which);
     }
 }
