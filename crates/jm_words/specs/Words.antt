@@ -1,5 +1,5 @@
 -- What the words of the command line ask for (ours).
-use Rattle.std.specs.Prelude.{◌≡◌, ◌==◌, ◌≤◌, ◌&&◌, ◌||◌, ℕ, not, Bool, true, false, List, [], ◌∷◌, Option, Some, None, MatchOption, option_and_then, unwrap_or, if◌then◌else◌, slice_get, codes}
+use Rattle.std.specs.Prelude.{◌≡◌, ◌==◌, ◌≤◌, ◌&&◌, ◌||◌, ℕ, not, Bool, true, false, List, [], ◌∷◌, Option, Some, None, IfSome, option_and_then, unwrap_or, if◌then◌else◌, slice_get, codes}
 use Rattle.std.specs.Option.{option_map_or}
 use Rattle.std.specs.Str.{bytes_eq}
 use Rattle.std.specs.Str.Parse.{digits_value, without_leading_plus}
@@ -108,7 +108,7 @@ IsLimit limit = (1 ≤ limit) × (limit ≤ 1000000)
 
 -- where words give a limit of held rows, it is one
 abbrev pub HasLimit : Words → Type 0
-HasLimit (Run file held) = MatchOption held (Unit {0}) IsLimit
+HasLimit (Run file held) = IfSome held IsLimit
 HasLimit _ = Unit {0}
 
 -- the fault is one that clap finds, or a want of memory
