@@ -1,3 +1,4 @@
 pub mod Consumed
 pub mod Faults
+pub mod Limits
 pub mod Written

@@ -9,7 +9,8 @@ use Rattle.jm_machine.specs.declared.answer.Answer.{Answer}
 use Rattle.jm_machine.specs.declared.call.ClientCall.{ClientCall}
 use Rattle.jm_scenario.specs.Key.{key_of_text}
 use Rattle.jm_scenario.specs.Lines.{line}
-use Rattle.jm_runner.specs.Play.{GivesCalls, IsRun, RefusesScenario, held_limit, status_of}
+use Rattle.jm_scenario.specs.declared.scenario.Scenario.{Scenario}
+use Rattle.jm_runner.specs.Play.{GivesScenario, IsRun, RefusesScenario, held_limit, status_of}
 use Rattle.jm_runner.specs.declared.fault.KeyFault.{KeyFault}
 use Rattle.jm_runner.specs.declared.fault.KeyFault.TheVariants as cause
 use Rattle.jm_runner.specs.declared.fault.Fault.{Fault}
@@ -40,20 +41,24 @@ abbrev pub lines_at : List ℕ → List (ℕ × Result Answer Refusal) → List 
 lines_at numbers [] = []
 lines_at numbers (placed ∷ replies) = line_at numbers placed ++ lines_at numbers replies
 
--- the lines of what the key's subscription answers alone, over the record of the run in opening 1
-abbrev pub lines_alone : Key → List ClientCall → List (Result Answer Refusal) → List ℕ
-lines_alone key calls replies = lines_at (numbers_from 1 1 calls replies) (alone key (new_core 1 held_limit) (entries_of 1 calls replies))
+-- the lines of what the key's subscription answers alone, over the record of the run in opening 1 with that limit of held rows
+abbrev pub lines_alone : ℕ → Key → List ClientCall → List (Result Answer Refusal) → List ℕ
+lines_alone limit key calls replies = lines_at (numbers_from 1 1 calls replies) (alone key (new_core 1 limit) (entries_of 1 calls replies))
 
 -- the text spells the key of an unshared subscription
-abbrev pub IsKey : List ℕ → Key → Type 0
-IsKey text key = (key_of_text text ≡ Some key) × (is_unshared key (new_core 1 held_limit) ≡ true)
+abbrev pub IsKey : ℕ → List ℕ → Key → Type 0
+IsKey limit text key = (key_of_text text ≡ Some key) × (is_unshared key (new_core 1 limit) ≡ true)
 
--- what is printed is the lines of the key's subscription alone, over a run of the calls that a source gives, and the exit status is that of the run
+-- the replies are those of a run of the scenario, with its own limit
+abbrev pub IsRunOf : Scenario → List (Result Answer Refusal) → Type 0
+IsRunOf scenario replies = IsRun (held_limit None scenario.held) scenario.calls replies
+
+-- what is printed is the lines of the key's subscription alone, over a run of the scenario that a source gives, and the exit status is that of the run
 abbrev pub TellsLone : {R : Type 0} → (R → Option (List ℕ)) → List ℕ → Source R → Source R → List ℕ → ℕ → Type 0
 TellsLone remaining spelled old new text status =
-    (calls : List ClientCall) × (replies : List (Result Answer Refusal)) × (key : Key)
-    × GivesCalls remaining old new calls × IsRun calls replies × IsKey spelled key
-    × (text ≡ lines_alone key calls replies) × (status ≡ status_of replies)
+    (scenario : Scenario) × (replies : List (Result Answer Refusal)) × (key : Key)
+    × GivesScenario remaining old new scenario × IsRunOf scenario replies × IsKey (held_limit None scenario.held) spelled key
+    × (text ≡ lines_alone (held_limit None scenario.held) key scenario.calls replies) × (status ≡ status_of replies)
 
 -- why a text gives no key: it spells none, or memory is refused
 abbrev pub RefusesText : List ℕ → Fault → Type 0
@@ -62,17 +67,18 @@ RefusesText text fault.Memory = Unit {0}
 RefusesText text _ = ⊥
 
 -- why a key gives no lines: it is none of an unshared subscription, or memory is refused
-abbrev pub RefusesKey : Key → Fault → Type 0
-RefusesKey key (fault.Key cause.NotUnshared) = is_unshared key (new_core 1 held_limit) ≡ false
-RefusesKey key fault.Memory = Unit {0}
-RefusesKey key _ = ⊥
+abbrev pub RefusesKey : ℕ → Key → Fault → Type 0
+RefusesKey limit key (fault.Key cause.NotUnshared) = is_unshared key (new_core 1 limit) ≡ false
+RefusesKey limit key fault.Memory = Unit {0}
+RefusesKey limit key _ = ⊥
 
 -- the text spells no key, or the key that it spells is none of an unshared subscription
-abbrev pub HasKeyFault : List ℕ → KeyFault → Type 0
-HasKeyFault text cause.Syntax = key_of_text text ≡ None
-HasKeyFault text cause.NotUnshared = (key : Key) × (key_of_text text ≡ Some key) × (is_unshared key (new_core 1 held_limit) ≡ false)
+abbrev pub HasKeyFault : ℕ → List ℕ → KeyFault → Type 0
+HasKeyFault limit text cause.Syntax = key_of_text text ≡ None
+HasKeyFault limit text cause.NotUnshared = (key : Key) × (key_of_text text ≡ Some key) × (is_unshared key (new_core 1 limit) ≡ false)
 
--- why nothing is told of a subscription: why the source gives no calls, or why memory is refused; and where it gives some, the fault of the key
+-- why nothing is told of a subscription: why the source gives no scenario, or why memory is refused; and where it gives one, the fault of the key
 abbrev pub RefusesLone : {R : Type 0} → (R → Option (List ℕ)) → List ℕ → Source R → Source R → Fault → Type 0
-RefusesLone remaining spelled old new (fault.Key cause) = HasKeyFault spelled cause × (calls : List ClientCall) × GivesCalls remaining old new calls
+RefusesLone remaining spelled old new (fault.Key cause) =
+    (scenario : Scenario) × GivesScenario remaining old new scenario × HasKeyFault (held_limit None scenario.held) spelled cause
 RefusesLone remaining spelled old new other = RefusesScenario remaining old new other

@@ -18,7 +18,8 @@ use Rattle.jm_lexer.specs.declared.fault.SyntaxFault.{SyntaxFault}
 use Rattle.jm_tree.specs.Parse.{parsed}
 use Rattle.jm_tree.specs.declared.tree.Tree.{Tree}
 use Rattle.jm_base.specs.Shown.{refusal_name}
-use Rattle.jm_runner.specs.Play.{GivesCalls, RefusesScenario}
+use Rattle.jm_runner.specs.Play.{GivesScenario, RefusesScenario}
+use Rattle.jm_scenario.specs.declared.scenario.Scenario.{Scenario}
 use Rattle.jm_runner.specs.declared.fault.Fault.{Fault}
 use Rattle.jm_runner.specs.declared.fault.Fault.TheVariants as faults
 use Rattle.jm_runner.specs.declared.source.Source.{Source}
@@ -82,17 +83,17 @@ lines_from selector sent number (call ∷ calls) =
 abbrev pub lines : Option Tree → List ClientCall → List ℕ
 lines selector calls = lines_from selector (λ session. 0) 1 calls
 
--- the text is read as a selector, and what is printed is the lines of the sends among the calls that a source gives, with exit status 0
+-- the text is read as a selector, and what is printed is the lines of the sends of the scenario that a source gives, with exit status 0
 abbrev pub Picks : {R : Type 0} → (R → Option (List ℕ)) → List ℕ → Source R → Source R → List ℕ → ℕ → Type 0
 Picks remaining selector old new text status =
-    (tree : Option Tree) × (calls : List ClientCall)
-    × (parsed selector ≡ Ok tree) × GivesCalls remaining old new calls × (text ≡ lines tree calls) × (status ≡ 0)
+    (tree : Option Tree) × (scenario : Scenario)
+    × (parsed selector ≡ Ok tree) × GivesScenario remaining old new scenario × (text ≡ lines tree scenario.calls) × (status ≡ 0)
 
 -- why a selector is refused: the fault that its text has, or memory is refused
 abbrev pub RefusesSelector : SyntaxFault → Fault → Type 0
 RefusesSelector refused fault = (fault ≡ faults.Memory) ⊎ (fault ≡ faults.Selector refused.cause refused.at)
 
--- why nothing is picked: the fault of the selector's text, of which nothing is read; and where it has none, why the source gives no calls
+-- why nothing is picked: the fault of the selector's text, of which nothing is read; and where it has none, why the source gives no scenario
 abbrev pub RefusesPick : {R : Type 0} → (R → Option (List ℕ)) → List ℕ → Source R → Source R → Fault → Type 0
 RefusesPick remaining selector old new fault =
     MatchResult (parsed selector) (λ _. RefusesScenario remaining old new fault) (λ refused. (new ≡ old) × RefusesSelector refused fault)

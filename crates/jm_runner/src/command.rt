@@ -1,4 +1,5 @@
 ghost use Rattle.std.specs.Prelude.{◌≤◌, ◌+◌};
+ghost use Rattle.jm_words.specs.Words.{HasLimit};
 ghost use Rattle.jm_runner.specs.Ending.{Ends};
 ghost use Rattle.jm_runner.specs.Perform.{Performs, Refuses};
 ghost use Rattle.jm_runner.specs.Source.{reads, reads_max};
@@ -20,12 +21,14 @@ pub fn perform<R: Read, W: Write>(
     source: &mut Source<R>,
     sink: &mut Sink<W>,
 ) -> Ending
+    requires { HasLimit words.now }
     ensures ends { Ends (Performs R.remaining words.now source.old source.new) (Refuses R.remaining words.now source.old source.new)
         W.contents sink.old sink.new result }
     ensures reads { reads source.new ≤ reads source.old + reads_max }
 {
     match words {
-        Words::Input | Words::Run { .. } => play(alloc, source, sink),
+        Words::Input => play(alloc, None, source, sink),
+        Words::Run { held, .. } => play(alloc, *held, source, sink),
         Words::Select { selector, .. } => pick(alloc, selector.as_str(), source, sink),
         Words::Lone { key, .. } => lone(alloc, source, key.as_str(), sink),
     }

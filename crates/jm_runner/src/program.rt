@@ -1,6 +1,7 @@
-ghost use Rattle.std.specs.Prelude.{◌≡◌, OnOk, MatchOption};
+ghost use Rattle.std.specs.Prelude.{◌≡◌, IfOk, OnOk, MatchOption};
 ghost use Rattle.std.specs.Io.KnownBytes.{Appends};
 ghost use Rattle.std.specs.Process.{exit_status};
+ghost use Rattle.jm_words.specs.Words.{HasLimit};
 ghost use Rattle.jm_runner.specs.Faults.{fault_line};
 ghost use Rattle.jm_runner.specs.Program as spec;
 
@@ -18,7 +19,9 @@ use std::rt::Files;
 use std::{env, fs, io};
 
 /// What the program's words ask for.
-fn asked(rt: &(impl Env + AllocGlobal)) -> Result<Words, WordsFault> {
+fn asked(rt: &(impl Env + AllocGlobal)) -> Result<Words, WordsFault>
+    ensures { IfOk result HasLimit }
+{
     let alloc = rt.alloc();
     let words: Vec<String> = match env::args(rt) {
         Ok(words) => words.collect(alloc)?,
@@ -30,12 +33,14 @@ fn asked(rt: &(impl Env + AllocGlobal)) -> Result<Words, WordsFault> {
 }
 
 /// Does what the words ask for, with the scenario of their file or of standard input.
-fn answer(rt: &(impl Files + Input + Print + AllocGlobal), words: &Words) -> Ending {
+fn answer(rt: &(impl Files + Input + Print + AllocGlobal), words: &Words) -> Ending
+    requires { HasLimit words.now }
+{
     let alloc = rt.alloc();
     let sink = &mut Sink::new(io::writer(rt));
     match words {
         Words::Input => perform(alloc, words, &mut Source::new(Ok(rt.reader())), sink),
-        Words::Run { file } | Words::Select { file, .. } | Words::Lone { file, .. } => {
+        Words::Run { file, .. } | Words::Select { file, .. } | Words::Lone { file, .. } => {
             let mut source = Source::new(fs::open(rt, file.as_str()));
             perform(alloc, words, &mut source, sink)
         }

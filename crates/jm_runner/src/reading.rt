@@ -1,13 +1,13 @@
-//! Reads the calls of a scenario from a source.
+//! Reads a scenario from a source.
 
-ghost use Rattle.std.specs.Prelude.{◌≤◌, ◌+◌, MatchResult};
-ghost use Rattle.jm_runner.specs.Play.{GivesCalls, RefusesCalls, RefusesScenario, SpellsCalls};
+ghost use Rattle.std.specs.Prelude.{◌≤◌, ◌+◌, IfOk, IfSome, MatchResult};
+ghost use Rattle.jm_runner.specs.Play.{GivesScenario, RefusesScenario, RefusesSpelled, SpellsScenario};
+ghost use Rattle.jm_words.specs.Words.{IsLimit};
 ghost use Rattle.jm_runner.specs.Source.{GivesAll, IsFaultOfReading, reads, reads_max};
 
 use crate::fault::Fault;
 use crate::source::Source;
-use jm_machine::ClientCall;
-use jm_scenario::{ScenarioFault, read_scenario};
+use jm_scenario::{Scenario, ScenarioFault, read_scenario};
 use std::alloc::Global;
 use std::io::Read;
 
@@ -43,30 +43,30 @@ fn read_all<R: Read>(alloc: Global, source: &mut Source<R>) -> Result<Vec<u8>, F
     Err(Fault::File)
 }
 
-/// The calls that the bytes spell. `Scenario` where they spell none; `Memory` where a request for memory
+/// The scenario that the bytes spell. `Scenario` where they spell none; `Memory` where a request for memory
 /// was refused.
-fn calls_in(alloc: Global, bytes: &[u8]) -> Result<Vec<ClientCall>, Fault>
-    ensures { MatchResult result (λ calls. SpellsCalls bytes.now calls.items) (RefusesCalls bytes.now) }
+#[tactic(auto, using(crate::proofs::Limits::scenario_limit))]
+fn scenario_in(alloc: Global, bytes: &[u8]) -> Result<Scenario, Fault>
+    ensures scenario { MatchResult result (SpellsScenario bytes.now) (RefusesSpelled bytes.now) }
+    ensures limit { IfOk result (λ scenario. IfSome scenario.held IsLimit) }
 {
     match read_scenario(alloc, bytes) {
-        Ok(calls) => Ok(calls),
+        Ok(scenario) => Ok(scenario),
         Err(ScenarioFault::Memory) => Err(Fault::Memory),
         Err(fault) => Err(Fault::Scenario(fault)),
     }
 }
 
-/// The calls of the scenario that the source gives, in at most 16,777,217 reads. `File` where it cannot be
+/// The scenario that the source gives, in at most 16,777,217 reads. `File` where it cannot be
 /// read, `Scenario` where what it gives is no scenario, `Memory` where a request for memory was refused.
 #[tactic(auto, using(crate::proofs::Faults::reading_refuses))]
-pub(crate) fn calls_of<R: Read>(
-    alloc: Global,
-    source: &mut Source<R>,
-) -> Result<Vec<ClientCall>, Fault>
-    ensures calls { MatchResult result
-        (λ calls. GivesCalls R.remaining source.old source.new calls.items)
+pub(crate) fn scenario_of<R: Read>(alloc: Global, source: &mut Source<R>) -> Result<Scenario, Fault>
+    ensures scenario { MatchResult result
+        (GivesScenario R.remaining source.old source.new)
         (RefusesScenario R.remaining source.old source.new) }
+    ensures limit { IfOk result (λ scenario. IfSome scenario.held IsLimit) }
     ensures reads { reads source.new ≤ reads source.old + reads_max }
 {
     let bytes = read_all(alloc, source)?;
-    calls_in(alloc, &bytes)
+    scenario_in(alloc, &bytes)
 }

@@ -1,5 +1,8 @@
-ghost use Rattle.std.specs.Prelude.{◌≡◌, ◌≤◌, ◌+◌, IfOk, string_bytes};
+ghost use Rattle.std.specs.Prelude.{◌≡◌, ◌≤◌, ◌+◌, IfOk, IfSome, string_bytes};
 ghost use Rattle.std.specs.List.{list_any};
+ghost use Rattle.jm_core.specs.Provider.{state_of};
+ghost use Rattle.jm_machine.specs.Machine as machine;
+ghost use Rattle.jm_words.specs.Words.{IsLimit};
 ghost use Rattle.jm_runner.specs.Ending.{Ends, ToldBy};
 ghost use Rattle.jm_runner.specs.Play as spec;
 ghost use Rattle.jm_runner.specs.Play.{IsRun, Plays, RefusesScenario, Replies};
@@ -7,7 +10,7 @@ ghost use Rattle.jm_runner.specs.Source.{reads, reads_max};
 
 use crate::ending::{Ending, Printout, ended};
 use crate::fault::Fault;
-use crate::reading::calls_of;
+use crate::reading::scenario_of;
 use crate::sink::Sink;
 use crate::source::Source;
 use jm_base::Refusal;
@@ -20,18 +23,42 @@ use std::io::{Read, Write};
 /// The number of the only opening of a provider that keeps nothing.
 pub(crate) const OPENING: u32 = 1;
 
-/// How many rows a subscription may hold that is not durable (ours).
-pub(crate) const HELD_LIMIT: u32 = 100_000;
+/// How many rows a subscription may hold that is not durable, where nothing says it (ours).
+const HELD_LIMIT: u32 = 100_000;
 
-/// The replies to the calls, made in turn on a new provider. `AllocError` where a request for memory
-/// was refused.
-pub(crate) fn run(alloc: Global, calls: Vec<ClientCall>) -> Result<Vec<Reply>, AllocError>
-    ensures { IfOk result (λ replies. IsRun calls.items replies.items) }
+/// How many rows a subscription may hold that is not durable: as many as are given, else as many as the scenario says,
+/// else 100,000.
+pub(crate) fn held_limit(given: Option<u32>, own: Option<u32>) -> u32
+    requires given { IfSome given IsLimit }
+    requires own { IfSome own IsLimit }
+    ensures limit { result ≡ spec.held_limit given own }
+    ensures bounds { IsLimit result }
 {
-    match Core::new(alloc, OPENING, HELD_LIMIT) {
-        Ok(mut core) => core.run(calls),
-        Err(_) => Err(AllocError),
+    given.or(own).unwrap_or(HELD_LIMIT)
+}
+
+/// A new provider, whose subscriptions hold at most so many rows, if they are not durable.
+pub(crate) fn new_core(alloc: Global, limit: u32) -> Core
+    requires { IsLimit limit }
+    ensures { state_of result ≡ machine.new_core 1 limit }
+{
+    match Core::new(alloc, OPENING, limit) {
+        Ok(core) => core,
+        Err(_) => unreachable!(),
     }
+}
+
+/// The replies to the calls, made in turn on a new provider with that limit of held rows. `AllocError` where a request for
+/// memory was refused.
+pub(crate) fn run(
+    alloc: Global,
+    limit: u32,
+    calls: Vec<ClientCall>,
+) -> Result<Vec<Reply>, AllocError>
+    requires { IsLimit limit }
+    ensures { IfOk result (λ replies. IsRun limit calls.items replies.items) }
+{
+    new_core(alloc, limit).run(calls)
 }
 
 /// Whether the provider found no memory for a call, or its store failed.
@@ -54,33 +81,48 @@ pub(crate) fn status_of(replies: &[Reply]) -> u8
     if has_shortage(replies) { 3 } else { 0 }
 }
 
-/// The lines of the replies to the calls, made in turn on a new provider. `AllocError` where a request for
-/// memory was refused.
-fn lines_of(alloc: Global, calls: Vec<ClientCall>) -> Result<Printout, AllocError>
-    ensures { IfOk result (λ printout. Replies calls.items (string_bytes printout.text) printout.status) }
+/// The lines of the replies to the calls, made in turn on a new provider with that limit of held rows. `AllocError` where
+/// a request for memory was refused.
+fn lines_of(alloc: Global, limit: u32, calls: Vec<ClientCall>) -> Result<Printout, AllocError>
+    requires { IsLimit limit }
+    ensures { IfOk result (λ printout. Replies limit calls.items (string_bytes printout.text) printout.status) }
 {
-    let replies = run(alloc, calls)?;
+    let replies = run(alloc, limit, calls)?;
     Ok(Printout {
         text: write_replies(alloc, &replies)?,
         status: status_of(&replies),
     })
 }
 
-/// The lines of the replies to the calls of the scenario that the source gives.
-fn told<R: Read>(alloc: Global, source: &mut Source<R>) -> Result<Printout, Fault>
-    ensures told { ToldBy (Plays R.remaining source.old source.new) (RefusesScenario R.remaining source.old source.new) result }
+/// The lines of the replies to the calls of the scenario that the source gives, with the limit that is given, if one is.
+fn told<R: Read>(
+    alloc: Global,
+    held: Option<u32>,
+    source: &mut Source<R>,
+) -> Result<Printout, Fault>
+    requires { IfSome held IsLimit }
+    ensures told { ToldBy (Plays R.remaining held source.old source.new)
+        (RefusesScenario R.remaining source.old source.new) result }
     ensures reads { reads source.new ≤ reads source.old + reads_max }
 {
-    let calls = calls_of(alloc, source)?;
-    Ok(lines_of(alloc, calls)?)
+    let scenario = scenario_of(alloc, source)?;
+    let limit = held_limit(held, scenario.held);
+    Ok(lines_of(alloc, limit, scenario.calls.into_inner())?)
 }
 
-/// Reads a scenario, in at most 16,777,217 reads, makes its calls on a new provider, and prints the line
-/// of each reply.
-pub fn play<R: Read, W: Write>(alloc: Global, source: &mut Source<R>, sink: &mut Sink<W>) -> Ending
-    ensures ends { Ends (Plays R.remaining source.old source.new) (RefusesScenario R.remaining source.old source.new)
+/// Reads a scenario, in at most 16,777,217 reads, makes its calls on a new provider, and prints the line of each reply. A
+/// subscription that is not durable holds at most `held` rows, 1 to 1,000,000; where none is given, as many as the
+/// scenario says, and where that says none, 100,000.
+pub fn play<R: Read, W: Write>(
+    alloc: Global,
+    held: Option<u32>,
+    source: &mut Source<R>,
+    sink: &mut Sink<W>,
+) -> Ending
+    requires { IfSome held IsLimit }
+    ensures ends { Ends (Plays R.remaining held source.old source.new) (RefusesScenario R.remaining source.old source.new)
         W.contents sink.old sink.new result }
     ensures reads { reads source.new ≤ reads source.old + reads_max }
 {
-    ended(sink, told(alloc, source))
+    ended(sink, told(alloc, held, source))
 }

@@ -9,7 +9,7 @@ ghost use Rattle.jm_runner.specs.Source.{reads, reads_max};
 
 use crate::ending::{Ending, Printout, ended};
 use crate::fault::Fault;
-use crate::reading::calls_of;
+use crate::reading::scenario_of;
 use crate::scenario::OPENING;
 use crate::sink::Sink;
 use crate::source::Source;
@@ -178,9 +178,9 @@ fn told<R: Read>(alloc: Global, selector: &str, source: &mut Source<R>) -> Resul
     ensures reads { reads source.new ≤ reads source.old + reads_max }
 {
     let tree = tree_of(alloc, selector)?;
-    let calls = calls_of(alloc, source)?;
+    let scenario = scenario_of(alloc, source)?;
     Ok(Printout {
-        text: call_lines(alloc, &tree, calls)?,
+        text: call_lines(alloc, &tree, scenario.calls.into_inner())?,
         status: 0,
     })
 }

@@ -1,25 +1,26 @@
-ghost use Rattle.std.specs.Prelude.{◌≡◌, ◌≤◌, ◌+◌, Some, true, string_bytes, IfOk, IfErr, MatchResult};
+ghost use Rattle.std.specs.Prelude.{◌≡◌, ◌≤◌, ◌+◌, Some, None, true, string_bytes, IfOk, IfErr, IfSome, MatchResult};
 ghost use Rattle.jm_core.specs.Provider.{state_of};
 ghost use Rattle.jm_machine.specs.Isolation.{is_unshared};
 ghost use Rattle.jm_machine.specs.Machine.{new_core};
 ghost use Rattle.jm_scenario.specs.Key.{key_of_text};
+ghost use Rattle.jm_words.specs.Words.{IsLimit};
 ghost use Rattle.jm_runner.specs.Ending.{Ends, ToldBy};
 ghost use Rattle.jm_runner.specs.Lone as spec;
-ghost use Rattle.jm_runner.specs.Lone.{RefusesLone, TellsLone};
-ghost use Rattle.jm_runner.specs.Play.{GivesCalls, IsRun, RefusesScenario, held_limit};
+ghost use Rattle.jm_runner.specs.Lone.{IsRunOf, RefusesLone, TellsLone};
+ghost use Rattle.jm_runner.specs.Play.{GivesScenario, RefusesScenario};
 ghost use Rattle.jm_runner.specs.Source.{reads, reads_max};
 
 use crate::ending::{Ending, Printout, ended};
 use crate::fault::{Fault, KeyFault};
-use crate::reading::calls_of;
-use crate::scenario::{HELD_LIMIT, OPENING, run, status_of};
+use crate::reading::scenario_of;
+use crate::scenario::{held_limit, new_core, run, status_of};
 use crate::sink::Sink;
 use crate::source::Source;
 use jm_core::Core;
 use jm_dest::{Key, Number};
 use jm_machine::{ClientCall, Reply};
 use jm_model::{LoneFault, entries, lone_replies};
-use jm_scenario::{read_key, write_reply};
+use jm_scenario::{Scenario, read_key, write_reply};
 use std::alloc::{AllocError, Global};
 use std::io::{Read, Write};
 use std::slice;
@@ -102,20 +103,20 @@ fn lines_at(
     Ok(lines)
 }
 
-/// The calls of the scenario that the source gives, and the replies to them, made in turn on a new
-/// provider.
-fn ran<R: Read>(
-    alloc: Global,
-    source: &mut Source<R>,
-) -> Result<(Vec<ClientCall>, Vec<Reply>), Fault>
+/// The scenario that the source gives, and the replies to its calls, made in turn on a new provider with the
+/// scenario's own limit.
+fn ran<R: Read>(alloc: Global, source: &mut Source<R>) -> Result<(Scenario, Vec<Reply>), Fault>
     ensures ran { MatchResult result
-        (λ ran. GivesCalls R.remaining source.old source.new ran.0.items × IsRun ran.0.items ran.1.items)
+        (λ ran. GivesScenario R.remaining source.old source.new ran.0 × IsRunOf ran.0 ran.1.items)
         (RefusesScenario R.remaining source.old source.new) }
+    ensures limit { IfOk result (λ ran. IfSome ran.0.held IsLimit) }
     ensures reads { reads source.new ≤ reads source.old + reads_max }
 {
-    let calls = calls_of(alloc, source)?;
-    let replies = run(alloc, copy_calls(alloc, &calls)?)?;
-    Ok((calls, replies))
+    let scenario = scenario_of(alloc, source)?;
+    let limit = held_limit(None, scenario.held);
+    let calls = copy_calls(alloc, scenario.calls.as_slice())?;
+    let replies = run(alloc, limit, calls)?;
+    Ok((scenario, replies))
 }
 
 /// The key that the text spells.
@@ -137,10 +138,10 @@ fn lines_from(
     calls: &[ClientCall],
     replies: &[Reply],
 ) -> Result<String, Fault>
-    requires { state_of opening.now ≡ new_core 1 held_limit }
-    ensures ok { IfOk result (λ lines. (string_bytes lines ≡ spec.lines_alone key.now calls.now replies.now)
-        × (is_unshared key.now (new_core 1 held_limit) ≡ true)) }
-    ensures err { IfErr result (spec.RefusesKey key.now) }
+    requires { state_of opening.now ≡ new_core 1 (state_of opening.now).limit }
+    ensures ok { IfOk result (λ lines. (string_bytes lines ≡ spec.lines_alone (state_of opening.now).limit key.now calls.now replies.now)
+        × (is_unshared key.now (new_core 1 (state_of opening.now).limit) ≡ true)) }
+    ensures err { IfErr result (spec.RefusesKey (state_of opening.now).limit key.now) }
 {
     let numbers = numbers(opening.opening(), alloc, calls, replies)?;
     let entries = entries(alloc, opening.opening(), calls, replies)?;
@@ -151,20 +152,20 @@ fn lines_from(
     }
 }
 
-/// The same from the opening of a run.
+/// The same from the opening of a run with that limit of held rows.
 fn lines_alone(
     alloc: Global,
+    limit: u32,
     key: &Key,
     calls: &[ClientCall],
     replies: &[Reply],
 ) -> Result<String, Fault>
-    ensures ok { IfOk result (λ lines. (string_bytes lines ≡ spec.lines_alone key.now calls.now replies.now)
-        × (is_unshared key.now (new_core 1 held_limit) ≡ true)) }
-    ensures err { IfErr result (spec.RefusesKey key.now) }
+    requires { IsLimit limit }
+    ensures ok { IfOk result (λ lines. (string_bytes lines ≡ spec.lines_alone limit key.now calls.now replies.now)
+        × (is_unshared key.now (new_core 1 limit) ≡ true)) }
+    ensures err { IfErr result (spec.RefusesKey limit key.now) }
 {
-    let Ok(opening) = Core::new(alloc, OPENING, HELD_LIMIT) else {
-        return Err(Fault::Memory);
-    };
+    let opening = new_core(alloc, limit);
     lines_from(alloc, &opening, key, calls, replies)
 }
 
@@ -175,10 +176,11 @@ fn told<R: Read>(alloc: Global, source: &mut Source<R>, key: &str) -> Result<Pri
         (RefusesLone R.remaining key.now source.old source.new) result }
     ensures reads { reads source.new ≤ reads source.old + reads_max }
 {
-    let (calls, replies) = ran(alloc, source)?;
+    let (scenario, replies) = ran(alloc, source)?;
     let key = key_of(alloc, key)?;
+    let limit = held_limit(None, scenario.held);
     Ok(Printout {
-        text: lines_alone(alloc, &key, &calls, &replies)?,
+        text: lines_alone(alloc, limit, &key, scenario.calls.as_slice(), &replies)?,
         status: status_of(&replies),
     })
 }

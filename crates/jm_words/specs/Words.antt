@@ -1,9 +1,12 @@
 -- What the words of the command line ask for (ours).
-use Rattle.std.specs.Prelude.{◌≡◌, ◌==◌, ◌&&◌, ◌||◌, not, Bool, true, false, List, [], ◌∷◌, Option, Some, None, unwrap_or, if◌then◌else◌, slice_get, codes}
+use Rattle.std.specs.Prelude.{◌≡◌, ◌==◌, ◌≤◌, ◌&&◌, ◌||◌, ℕ, not, Bool, true, false, List, [], ◌∷◌, Option, Some, None, IfSome, option_and_then, unwrap_or, if◌then◌else◌, slice_get, codes}
 use Rattle.std.specs.Option.{option_map_or}
 use Rattle.std.specs.Str.{bytes_eq}
+use Rattle.std.specs.Str.Parse.{digits_value, without_leading_plus}
 use Rattle.clap.specs.Words.{App, Kinds, IsAmong, Row, Rule, Shape, Text, app_of, fault_of, first_of, kind_of, new_app, new_rule, subcommand_of, with_rule, with_subcommand}
 use Rattle.clap.specs.Simple.{on_top}
+use Rattle.clap.specs.ValueTests.{is_unsigned_in}
+use Rattle.clap.specs.declared.builder.value_parser.ValueParser.TheVariants.{Unsigned}
 use Rattle.clap.specs.declared.error.ErrorKind.TheVariants as kinds
 use Rattle.clap.specs.declared.builder.Command.{Command}
 use Rattle.clap.specs.declared.builder.Command.TheViews.{out-Command}
@@ -16,9 +19,13 @@ use Rattle.jm_words.specs.declared.words.WordsFault.TheVariants.{Refused, Memory
 abbrev pub argument : Text → Rule
 argument id = record (new_rule id) { required = true }
 
--- the command `run FILE`
+-- the option `--held N`, whose value is a number from 1 to 1,000,000
+abbrev pub held_option : Rule
+held_option = record (new_rule (codes "held")) { long = Some (codes "held"); value_names = 1; parser = Some (Unsigned 1 1000000) }
+
+-- the command `run FILE [--held N]`
 abbrev pub run_command : App
-run_command = with_rule (new_app (codes "run")) (argument (codes "FILE"))
+run_command = with_rule (with_rule (new_app (codes "run")) (argument (codes "FILE"))) held_option
 
 -- the command `select SELECTOR FILE`
 abbrev pub select_command : App
@@ -67,10 +74,18 @@ marked words = if has_dashed_selector words then with_mark words else words
 abbrev pub value : Text → List Row → Text
 value id rows = unwrap_or (first_of id rows) []
 
+-- the limit that a text spells in decimal digits, where it is from 1 to 1,000,000
+abbrev pub limit_of : Text → Option ℕ
+limit_of text = if is_unsigned_in 1 1000000 text then Some (digits_value 10 (without_leading_plus text)) else None
+
+-- the limit of held rows that is given, if one is
+abbrev pub held : List Row → Option ℕ
+held rows = option_and_then limit_of (first_of (codes "held") rows)
+
 -- what a command asks for, by its name and its matches
 abbrev pub asked : Text → List Row → Words
 asked name rows =
-    if bytes_eq name (codes "run") then Run (value (codes "FILE") rows) else
+    if bytes_eq name (codes "run") then Run (value (codes "FILE") rows) (held rows) else
     (if bytes_eq name (codes "select") then Select (value (codes "SELECTOR") rows) (value (codes "FILE") rows) else
     (if bytes_eq name (codes "lone") then Lone (value (codes "FILE") rows) (value (codes "KEY") rows) else Input))
 
@@ -86,6 +101,15 @@ read words = words_of (subcommand_of program (marked words))
 -- the kinds of fault that clap finds in the words; none where it takes them
 abbrev pub faults : List Text → Kinds
 faults words = fault_of program (marked words)
+
+-- a limit of held rows is from 1 to 1,000,000
+abbrev pub IsLimit : ℕ → Type 0
+IsLimit limit = (1 ≤ limit) × (limit ≤ 1000000)
+
+-- where words give a limit of held rows, it is one
+abbrev pub HasLimit : Words → Type 0
+HasLimit (Run file held) = IfSome held IsLimit
+HasLimit _ = Unit {0}
 
 -- the fault is one that clap finds, or a want of memory
 abbrev pub IsFaultOf : List Text → WordsFault → Type 0

@@ -2,18 +2,23 @@ ghost use Rattle.std.specs.Prelude.{◌≡◌, ◌++◌, ◌∷◌, [], map, cod
 ghost use Rattle.clap.specs.Words.{app_of, found_of, rows_of, rule_of};
 ghost use Rattle.jm_words.specs.Words as spec;
 
+use clap::builder::ValueParser;
 use clap::error::ErrorKind;
 use clap::{Arg, ArgMatches, Command, Error};
 use jm_base::Str;
 use std::alloc::{AllocError, Global};
+
+/// The greatest limit of held rows (ours).
+const GREATEST_LIMIT: u32 = 1_000_000;
 
 /// What the program is asked for.
 #[derive(Debug, PartialEq, Drop)]
 pub enum Words {
     /// To run the scenario on standard input.
     Input,
-    /// To run the scenario of a file.
-    Run { file: Str },
+    /// To run the scenario of a file; where `held` is given, each subscription that is not durable holds at most so many
+    /// rows: 1 to 1,000,000.
+    Run { file: Str, held: Option<u32> },
     /// To print the value of a selector over each send of the scenario of a file.
     Select { selector: Str, file: Str },
     /// To print what the subscription of that key answers alone, over the scenario of a file.
@@ -48,13 +53,26 @@ fn argument<'a>(alloc: Global, id: &'a str, help: &'a str) -> Arg<'a>
     Arg::new(alloc, id).required(true).help(help)
 }
 
-/// The command `run FILE`. `AllocError` where a request for memory was refused.
+/// The option `--held N`, whose value is a whole number from 1 to 1,000,000.
+fn held_option<'a>(alloc: Global) -> Arg<'a>
+    ensures rule { rule_of result ≡ spec.held_option }
+    ensures local { result.global ≡ false }
+{
+    Arg::new(alloc, "held")
+        .long("held")
+        .value_name("N")
+        .value_parser(ValueParser::unsigned(1, GREATEST_LIMIT as u64))
+        .help("How many rows a subscription holds: in place of the scenario's own limit")
+}
+
+/// The command `run FILE [--held N]`. `AllocError` where a request for memory was refused.
 fn run_command<'a>(alloc: Global) -> Result<Command<'a>, AllocError>
     ensures { IfOk result (spec.IsCommand spec.run_command) }
 {
     Command::new(alloc, "run")
         .about("Runs a scenario, and prints the reply of each call")
-        .arg(argument(alloc, "FILE", "The scenario: a JSON file"))
+        .arg(argument(alloc, "FILE", "The scenario: a JSON file"))?
+        .arg(held_option(alloc))
 }
 
 /// The command `select SELECTOR FILE`. `AllocError` where a request for memory was refused.
@@ -139,6 +157,28 @@ fn value(alloc: Global, matches: &ArgMatches<'_>, id: &str) -> Result<Str, Alloc
     Ok(Str::new(String::from_str(alloc, text)?))
 }
 
+/// The limit that the text spells, from 1 to 1,000,000; none where it spells another number, or none.
+#[tactic(auto, using(crate::proofs::CommandLine::limit_of_none))]
+fn limit_of(text: &str) -> Option<u32>
+    ensures { result ≡ spec.limit_of text.now }
+{
+    match text.parse::<u32>() {
+        Ok(number) if 1 <= number && number <= GREATEST_LIMIT => Some(number),
+        _ => None,
+    }
+}
+
+/// The limit of held rows that is given, if one is.
+#[tactic(auto, using(crate::proofs::CommandLine::held_some, crate::proofs::CommandLine::held_none))]
+fn held(matches: &ArgMatches<'_>) -> Option<u32>
+    ensures { result ≡ spec.held (rows_of (found_of matches.now)) }
+{
+    match matches.get_str("held") {
+        Some(text) => limit_of(text),
+        None => None,
+    }
+}
+
 /// What the command of that name asks for. `AllocError` where a request for memory was refused.
 fn asked(alloc: Global, name: &str, matches: &ArgMatches<'_>) -> Result<Words, AllocError>
     ensures { IfOk result (λ asked. asked ≡ spec.asked name.now (rows_of (found_of matches.now))) }
@@ -146,6 +186,7 @@ fn asked(alloc: Global, name: &str, matches: &ArgMatches<'_>) -> Result<Words, A
     match name {
         "run" => Ok(Words::Run {
             file: value(alloc, matches, "FILE")?,
+            held: held(matches),
         }),
         "select" => Ok(Words::Select {
             selector: value(alloc, matches, "SELECTOR")?,
@@ -161,9 +202,10 @@ fn asked(alloc: Global, name: &str, matches: &ArgMatches<'_>) -> Result<Words, A
 
 /// What the words ask for, of which the first is the program's name. `Refused` exactly where clap
 /// refuses them, or they ask for help or the version; a selector that begins with `-` is no option
-/// (ours). `Memory` where a request for memory was refused.
+/// (ours), and a limit of held rows is from 1 to 1,000,000. `Memory` where a request for memory was refused.
 pub fn read_words(alloc: Global, words: &[&str]) -> Result<Words, WordsFault>
     ensures read { IfOk result (λ asked. asked ≡ spec.read (map (λ word. word.now) words.now)) }
+    ensures limit { IfOk result spec.HasLimit }
     ensures faults { MatchResult result
         (λ _. spec.faults (map (λ word. word.now) words.now) ≡ [])
         (spec.IsFaultOf (map (λ word. word.now) words.now)) }

@@ -1,12 +1,11 @@
 //! The commands over readers and writers, also such as fail.
 
 use crate::told::{holds, is_text};
-use jm_base::Str;
 use jm_runner::{Ending, Fault, Sink, Source, lone, perform, pick, play};
-use jm_words::Words;
+use jm_words::read_words;
 use std::alloc::{AllocError, Global};
-use std::io;
 use std::io::{Read, Write};
+use std::{io, str};
 
 /// What is done with a scenario.
 #[derive(Clone, Copy)]
@@ -29,7 +28,7 @@ fn done<R: Read, W: Write>(
     sink: &mut Sink<W>,
 ) -> Ending {
     match command {
-        Command::Run => play(alloc, source, sink),
+        Command::Run => play(alloc, None, source, sink),
         Command::Select(selector) => pick(alloc, selector, source, sink),
         Command::Lone(key) => lone(alloc, source, key, sink),
     }
@@ -80,8 +79,23 @@ fn lines_of_commands(rt: HostRuntime) {
 }
 
 /// Commands, scenarios, and what is told of the first fault.
-const FAULTS: [(Command, &str, &str); 6] = [
+const FAULTS: [(Command, &str, &str); 9] = [
     (Command::Run, "{", "scenario: syntax"),
+    (
+        Command::Run,
+        "{\"held\":0,\"calls\":[]}",
+        "scenario: step 0: field held",
+    ),
+    (
+        Command::Lone(OWN),
+        "{\"held\":1.5,\"calls\":[]}",
+        "scenario: step 0: floating",
+    ),
+    (
+        Command::Run,
+        "{\"calls\":[{\"op\":\"close\",\"c\":1}]}",
+        "scenario: step 1: field op",
+    ),
     (Command::Select("x = 7E3"), "{", "selector: Floating at 4"),
     (Command::Select("x = 1"), "{", "scenario: syntax"),
     (Command::Lone("{"), "{", "scenario: syntax"),
@@ -227,53 +241,63 @@ fn failing_writes(rt: HostRuntime) {
     }
 }
 
-fn word(alloc: Global, text: &str) -> Result<Str, AllocError> {
-    Ok(Str::new(String::from_str(alloc, text)?))
-}
+/// A scenario that lets a subscription hold one row.
+const LIMITED: &str = r#"{"held": 1, "calls": [
+  {"op": "open", "c": 1},
+  {"op": "session", "s": [1, 1], "mode": "client"},
+  {"op": "consumer", "s": [1, 1], "k": 1, "topic": "t"},
+  {"op": "send", "s": [1, 1], "topic": "t", "now": 1000, "text": "a"},
+  {"op": "send", "s": [1, 1], "topic": "t", "now": 1000, "text": "b"},
+  {"op": "missed", "s": [1, 1], "k": 1}
+]}"#;
 
-/// The words of a command, or those for standard input.
-fn words(alloc: Global, command: Option<Command>) -> Result<Words, AllocError> {
-    let file = word(alloc, "f")?;
-    match command {
-        None => Ok(Words::Input),
-        Some(Command::Run) => Ok(Words::Run { file }),
-        Some(Command::Select(selector)) => {
-            let selector = word(alloc, selector)?;
-            Ok(Words::Select { selector, file })
-        }
-        Some(Command::Lone(key)) => {
-            let key = word(alloc, key)?;
-            Ok(Words::Lone { file, key })
-        }
-    }
-}
+/// Words with `|` between them, the scenario, and the lines that are printed.
+const PERFORMED: [(&str, &str, &str); 9] = [
+    ("jmsrun", SCENARIO, LINES),
+    ("jmsrun|run|f", SCENARIO, LINES),
+    ("jmsrun|select|x = 1|f", SCENARIO, "5 TRUE\n"),
+    ("jmsrun|lone|f|{\"own\":[1,1,1]}", SCENARIO, LINES_ALONE),
+    (
+        "jmsrun",
+        LIMITED,
+        "1 ok\n2 ok\n3 ok\n4 sent 1\n5 sent 2\n6 missed 1\n",
+    ),
+    (
+        "jmsrun|run|f",
+        LIMITED,
+        "1 ok\n2 ok\n3 ok\n4 sent 1\n5 sent 2\n6 missed 1\n",
+    ),
+    (
+        "jmsrun|run|f|--held|2",
+        LIMITED,
+        "1 ok\n2 ok\n3 ok\n4 sent 1\n5 sent 2\n6 missed 0\n",
+    ),
+    (
+        "jmsrun|lone|f|{\"own\":[1,1,1]}",
+        LIMITED,
+        "3 ok\n6 missed 1\n",
+    ),
+    ("jmsrun|select|x = 1|f", LIMITED, "4 UNKNOWN\n5 UNKNOWN\n"),
+];
 
-/// Whether those lines are printed for the words of the command, or for those of standard input.
-fn performs(alloc: Global, command: Option<Command>, lines: &str) -> Result<bool, AllocError> {
-    let words = words(alloc, command)?;
+/// What is printed for the words that stand between the marks; of words that are refused, and of a fault, so much.
+fn performed(alloc: Global, line: &str, scenario: &str) -> Result<String, AllocError> {
+    let words: Vec<&str> = line.split('|').collect(alloc)?;
+    let Ok(words) = read_words(alloc, &words) else {
+        return String::from_str(alloc, "refused words");
+    };
     let mut written = Vec::new(alloc);
-    let mut source = Source::new(Ok(SCENARIO.as_bytes()));
+    let mut source = Source::new(Ok(scenario.as_bytes()));
     let ending = perform(alloc, &words, &mut source, &mut Sink::new(&mut written));
-    Ok(ending.status == 0 && written.as_slice() == lines.as_bytes())
+    if ending.status != 0 || ending.fault.is_some() {
+        return String::from_str(alloc, "a fault");
+    }
+    String::from_str(alloc, str::from_utf8(&written).unwrap_or("no text"))
 }
 
 #[test]
 fn words_are_performed(rt: HostRuntime) {
-    let alloc = rt.alloc();
-    holds(&rt, "input", performs(alloc, None, LINES) == Ok(true));
-    holds(
-        &rt,
-        "run",
-        performs(alloc, Some(COMMANDS[0]), LINES) == Ok(true),
-    );
-    holds(
-        &rt,
-        "select",
-        performs(alloc, Some(COMMANDS[1]), "5 TRUE\n") == Ok(true),
-    );
-    holds(
-        &rt,
-        "lone",
-        performs(alloc, Some(COMMANDS[2]), LINES_ALONE) == Ok(true),
-    );
+    for (line, scenario, wanted) in &PERFORMED {
+        is_text(&rt, wanted, performed(rt.alloc(), line, scenario));
+    }
 }

@@ -36,12 +36,15 @@ fn lines_of_answers(alloc: Global) -> Result<String, AllocError> {
         Ok(Answer::Done),
         Ok(Answer::Nothing),
         Ok(Answer::Sent(9223372036854775807)),
+        Ok(Answer::Missed(0)),
+        Ok(Answer::Missed(18446744073709551615)),
     ];
     write_replies(alloc, &replies)
 }
 
 #[test]
 fn lines_are_numbered(rt: HostRuntime) {
-    let wanted = "1 ok\n2 none\n3 sent 9223372036854775807\n";
+    let wanted =
+        "1 ok\n2 none\n3 sent 9223372036854775807\n4 missed 0\n5 missed 18446744073709551615\n";
     is_text(&rt, wanted, lines_of_answers(rt.alloc()));
 }

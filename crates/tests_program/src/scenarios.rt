@@ -12,7 +12,15 @@ const CALLS: &str = r#"{"calls": [
   {"op": "open", "c": 1},
   {"op": "start", "c": 4294967295},
   {"op": "stop", "c": 2},
+  {"op": "close-connection", "c": 2},
   {"op": "session", "s": [1, 2], "mode": "auto"},
+  {"op": "session", "s": [1, 2], "mode": "client"},
+  {"op": "session", "s": [1, 2], "mode": "dups"},
+  {"op": "close-session", "s": [1, 2]},
+  {"op": "acknowledge", "s": [1, 2]},
+  {"op": "recover", "s": [1, 2]},
+  {"op": "close-consumer", "s": [1, 2], "k": 3},
+  {"op": "missed", "s": [1, 2], "k": 3},
   {"op": "consumer", "s": [1, 2], "k": 3, "topic": "t", "selector": "x > 0"},
   {"op": "receive", "s": [1, 2], "k": 3, "now": 9223372036854775807},
   {"op": "send", "s": [1, 2], "topic": "t", "now": 9223372036854775807, "priority": 9, "text": "a"}
@@ -53,6 +61,16 @@ fn create_consumer(alloc: Global) -> Result<Request, Refusal> {
     })
 }
 
+fn close_consumer() -> Result<Request, Refusal> {
+    let consumer = ConsumerId::new(3)?;
+    Ok(Request::CloseConsumer { consumer })
+}
+
+fn missed() -> Result<Request, Refusal> {
+    let consumer = ConsumerId::new(3)?;
+    Ok(Request::Missed { consumer })
+}
+
 fn receive() -> Result<Request, Refusal> {
     let consumer = ConsumerId::new(3)?;
     let now = Moment::new(i64::MAX)?;
@@ -86,9 +104,17 @@ fn wanted(alloc: Global, index: usize) -> Result<ClientCall, Refusal> {
         0 => by_connection(1, Request::Open),
         1 => by_connection(4294967295, Request::Start),
         2 => by_connection(2, Request::Stop),
-        3 => by_session(Request::CreateSession { mode: Mode::Auto }),
-        4 => by_session(create_consumer(alloc)?),
-        5 => by_session(receive()?),
+        3 => by_connection(2, Request::CloseConnection),
+        4 => by_session(Request::CreateSession { mode: Mode::Auto }),
+        5 => by_session(Request::CreateSession { mode: Mode::Client }),
+        6 => by_session(Request::CreateSession { mode: Mode::Dups }),
+        7 => by_session(Request::CloseSession),
+        8 => by_session(Request::Acknowledge),
+        9 => by_session(Request::Recover),
+        10 => by_session(close_consumer()?),
+        11 => by_session(missed()?),
+        12 => by_session(create_consumer(alloc)?),
+        13 => by_session(receive()?),
         _ => send(alloc),
     }
 }
@@ -102,7 +128,8 @@ fn is_wanted(alloc: Global, index: usize, call: &ClientCall) -> bool {
 
 /// How many calls of the scenario there are, each as it is wanted.
 fn count(alloc: Global) -> Option<usize> {
-    let calls = read_scenario(alloc, CALLS.as_bytes()).ok()?;
+    let scenario = read_scenario(alloc, CALLS.as_bytes()).ok()?;
+    let calls = scenario.calls.into_inner();
     for (index, call) in calls.iter().enumerate() {
         if !is_wanted(alloc, index, call) {
             return None;
@@ -113,7 +140,28 @@ fn count(alloc: Global) -> Option<usize> {
 
 #[test]
 fn calls_of_a_scenario(rt: HostRuntime) {
-    holds(&rt, "calls", count(rt.alloc()) == Some(7));
+    holds(&rt, "calls", count(rt.alloc()) == Some(15));
+}
+
+/// Scenarios and the limits of held rows that they say.
+const LIMITS: [(&str, Option<u32>); 3] = [
+    ("{\"calls\":[]}", None),
+    ("{\"held\":1,\"calls\":[]}", Some(1)),
+    ("{\"calls\":[],\"held\":1000000}", Some(1_000_000)),
+];
+
+fn has_limit(alloc: Global, text: &str, limit: Option<u32>) -> bool {
+    match read_scenario(alloc, text.as_bytes()) {
+        Ok(scenario) => scenario.held == limit,
+        Err(_) => false,
+    }
+}
+
+#[test]
+fn limits_of_scenarios(rt: HostRuntime) {
+    for (text, limit) in &LIMITS {
+        holds(&rt, text, has_limit(rt.alloc(), text, *limit));
+    }
 }
 
 /// What is told of bytes that are no scenario.
@@ -125,12 +173,29 @@ fn fault_text(alloc: Global, bytes: &[u8]) -> Result<String, AllocError> {
 }
 
 /// Bytes, and their fault.
-const FAULTS: [(&[u8], &str); 5] = [
+const FAULTS: [(&[u8], &str); 10] = [
     (b"\xff", "Syntax"),
     (b"{}", "Shape { step: 0, field: Known(Calls) }"),
     (
         b"{\"calls\":[],\"held\":0}",
-        "Shape { step: 0, field: Unknown(\"held\") }",
+        "Shape { step: 0, field: Known(Held) }",
+    ),
+    (
+        b"{\"calls\":[],\"held\":1000001}",
+        "Shape { step: 0, field: Known(Held) }",
+    ),
+    (b"{\"calls\":[],\"held\":1.5}", "Floating { step: 0 }"),
+    (
+        b"{\"calls\":[],\"limit\":1}",
+        "Shape { step: 0, field: Unknown(\"limit\") }",
+    ),
+    (
+        b"{\"calls\":[{\"op\":\"close\",\"c\":1}]}",
+        "Shape { step: 1, field: Known(Operation) }",
+    ),
+    (
+        b"{\"calls\":[{\"op\":\"recover\",\"s\":[1,1],\"k\":1}]}",
+        "Shape { step: 1, field: Unknown(\"k\") }",
     ),
     (
         b"{\"calls\":[{\"op\":1.5}]}",
@@ -149,8 +214,9 @@ fn faults_of_scenarios(rt: HostRuntime) {
     }
 }
 
-const FIELDS: [(Field, &str); 18] = [
+const FIELDS: [(Field, &str); 19] = [
     (Field::Calls, "calls"),
+    (Field::Held, "held"),
     (Field::Operation, "op"),
     (Field::Connection, "c"),
     (Field::Session, "s"),

@@ -29,10 +29,29 @@ fn read(alloc: Global, words: &[&str]) -> Result<String, AllocError> {
 }
 
 /// Words after the program's name, with `|` between them, and what they are read as.
-const WORDS: [(&str, &str); 12] = [
+const WORDS: [(&str, &str); 22] = [
     ("jmsrun", "Input"),
-    ("jmsrun|run|F", "Run { file: \"F\" }"),
-    ("jmsrun|run|--|-F", "Run { file: \"-F\" }"),
+    ("jmsrun|run|F", "Run { file: \"F\", held: None }"),
+    ("jmsrun|run|--|-F", "Run { file: \"-F\", held: None }"),
+    (
+        "jmsrun|run|F|--held|1",
+        "Run { file: \"F\", held: Some(1) }",
+    ),
+    (
+        "jmsrun|run|--held=1000000|F",
+        "Run { file: \"F\", held: Some(1000000) }",
+    ),
+    (
+        "jmsrun|run|F|--held|+7",
+        "Run { file: \"F\", held: Some(7) }",
+    ),
+    ("jmsrun|run|F|--held|0", "error 2"),
+    ("jmsrun|run|F|--held|1000001", "error 2"),
+    ("jmsrun|run|F|--held|-1", "error 2"),
+    ("jmsrun|run|F|--held|x", "error 2"),
+    ("jmsrun|run|F|--held", "error 2"),
+    ("jmsrun|select|A|F|--held|1", "error 2"),
+    ("jmsrun|lone|F|K|--held|1", "error 2"),
     (
         "jmsrun|select|A|F",
         "Select { selector: \"A\", file: \"F\" }",
