@@ -1,5 +1,5 @@
 -- A walk over a list that takes elements out where it stands.
-use Rattle.std.proofs.Common.{◌≡◌, ℕ, ◌+◌, ◌<◌, List, [], ◌∷◌, ◌++◌, length, get_or, take, drop, true, false, Bool, refl, ap, sym, ◌∙◌, arith, length-append, length-drop}
+use Rattle.std.proofs.Common.{◌≡◌, ℕ, zero, suc, ◌+◌, ◌<◌, List, [], ◌∷◌, ◌++◌, length, get_or, take, drop, true, false, Bool, refl, ap, sym, ◌∙◌, arith, length-append, length-drop}
 use Rattle.std.specs.List.{filter, remove, All}
 use Rattle.std.proofs.lemmas.List.{append-nil, append_assoc, take-append-drop, drop_more, drop_at}
 use Rattle.std.proofs.lemmas.List.Elements.{filter_more, filter-append, All-head, All-tail}
@@ -23,6 +23,13 @@ sieved_here p init ys k at d s h =
 remove_end : {X : Type 0} (xs : List X) (y : X) (ys : List X) → remove (xs ++ y ∷ ys) (length xs) ≡ xs ++ ys
 remove_end [] y ys = refl
 remove_end (x ∷ xs) y ys = ap (λ zs. x ∷ zs) (remove_end xs y ys)
+
+-- what stands before the element that goes stays
+pub take_remove : {X : Type 0} (xs : List X) (i : ℕ) → take i (remove xs i) ≡ take i xs
+take_remove [] zero = refl
+take_remove [] (suc i) = refl
+take_remove (x ∷ xs) zero = refl
+take_remove (x ∷ xs) (suc i) = ap (λ zs. x ∷ zs) (take_remove xs i)
 
 pub sieved_gone : {X : Type 0} (p : X → Bool) (init ys : List X) (k at : ℕ) (d : X) → IsSieved p init ys k at → k < length init → p (get_or ys at d) ≡ false → IsSieved p init (remove ys at) (k + 1) at
 sieved_gone p init ys k at d s h e =

@@ -1,7 +1,7 @@
 -- What a lane keeps through each of its steps.
-use Rattle.std.proofs.Common.{◌≡◌, ◌≢◌, ℕ, ◌+◌, ◌<◌, ◌≤◌, List, [], ◌∷◌, ◌++◌, length, get_or, set, map, take, drop, ◌==◌, nat_le, ◌-◌, ◌&&◌, ◌||◌, true, false, Bool, not, cond, refl, ap, ◌∙◌, arith}
+use Rattle.std.proofs.Common.{◌≡◌, ◌≢◌, ℕ, ◌+◌, ◌<◌, ◌≤◌, List, [], ◌∷◌, ◌++◌, length, get_or, set, map, take, drop, ◌==◌, nat_le, ◌-◌, ◌&&◌, ◌||◌, true, false, Bool, not, cond, refl, ap, ◌∙◌, ◌⊎◌, inl, inr, arith}
 use Rattle.std.specs.List.{filter, All}
-use Rattle.std.proofs.lemmas.List.{take-append-le, drop-append-le, length-map, take_more_set, length-set, drop-set-lt, length_push, drop-drop}
+use Rattle.std.proofs.lemmas.List.{take-append-le, drop-append-le, length-map, take_more_set, length-set, drop-set-lt, length_push, drop-drop, drop_all}
 use Rattle.std.proofs.lemmas.Bool.Decides.{nat_tests}
 use Rattle.std.proofs.lemmas.List.Elements.{All-nil, All-head, All-tail, All-filter, All-map, All-weaker, All-set, All-push, All-drop}
 use Rattle.jm_pending.specs.declared.row.Row.{Row}
@@ -19,15 +19,19 @@ use Rattle.jm_pending.proofs.Rising.{rising-filter, rising-map, rising-push, set
 pub lower_bound : (rs : List Row) (a b : ℕ) → a ≤ b → All (IsBound b) rs → All (IsBound a) rs
 lower_bound rs a b le = All-weaker (IsBound b) (IsBound a) (λ r h w n. let k = h w n in omega (arith, k, le)) rs
 
-pub lane_push : (rs : List Row) (pr low high least next : ℕ) (row : Row) → IsLane rs pr low high least → row.priority ≡ pr → is_waiting row ≡ true → All (λ (r : Row). r.place < row.place) rs → next ≤ least → IsBound next row → IsLane (rs ++ row ∷ []) pr low high next
-lane_push rs pr low high least next row h same waits above le here =
+-- one more row: it waits, or no row behind it is out
+pub lane_push : (rs : List Row) (pr low high least top next : ℕ) (row : Row) → IsLane rs pr low high least → row.priority ≡ pr → (top ≡ length rs + 1) ⊎ ((top ≡ high) × (is_waiting row ≡ true)) → All (λ (r : Row). r.place < row.place) rs → next ≤ least → IsBound next row → IsLane (rs ++ row ∷ []) pr low top next
+lane_push rs pr low high least top next row h same which above le here =
     record {
       same = All-push (λ (r : Row). r.priority ≡ pr) rs row h.same same;
       rising = rising-push rs row above h.rising;
       low_in = omega (arith, length_push rs row, h.low_in);
-      high_in = omega (arith, length_push rs row, h.high_in);
+      high_in = elim which [ inl e ↦ omega (arith, length_push rs row, e) | inr e ↦ omega (arith, length_push rs row, h.high_in, e.0) ];
       before = rw (take-append-le low rs (row ∷ []) h.low_in) h.before;
-      behind = rw (drop-append-le high rs (row ∷ []) h.high_in) (All-push (λ r. is_waiting r ≡ true) (drop high rs) row h.behind waits);
+      behind = elim which [
+        | inl e ↦ rw (drop_all top (rs ++ row ∷ []) (omega (arith, length_push rs row, e))) (All-nil (λ r. is_waiting r ≡ true))
+        | inr e ↦ rw (e.0, drop-append-le high rs (row ∷ []) h.high_in) (All-push (λ r. is_waiting r ≡ true) (drop high rs) row h.behind e.1)
+      ];
       bound = All-push (IsBound next) rs row (lower_bound rs next least le h.bound) here;
     }
 

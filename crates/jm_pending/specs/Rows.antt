@@ -3,6 +3,7 @@ use Rattle.std.specs.Prelude.{ℕ, ◌+◌, ◌<◌, ◌==◌, nat_lt, nat_le, B
 use Rattle.std.specs.List.{list_all}
 use Rattle.jm_dest.specs.declared.session.SessionId.{SessionId}
 use Rattle.jm_header.specs.declared.content.Content.{Content}
+use Rattle.jm_machine.specs.declared.state.RowState.{RowState}
 use Rattle.jm_machine.specs.declared.state.RowState.TheVariants.{Waiting, Out}
 use Rattle.jm_machine.specs.Rows.{waits, goes_out}
 use Rattle.jm_machine.specs.Machine.{are_meant, of_number}
@@ -10,13 +11,13 @@ use Rattle.jm_pending.specs.declared.row.Row.{Row}
 use Rattle.jm_pending.specs.declared.row.Outs.{Outs}
 use Rattle.jm_pending.specs.declared.row.Outs.TheVariants.{Of, Through}
 
--- the row of a message that was delivered so often, at its place: it waits
-abbrev pub waiting : ℕ → Content → ℕ → Row
-waiting place m count = record { place = place; count = count; state = Waiting; priority = m.priority; expiration = m.expiration }
+-- the row of a message that was delivered so often, at its place and in that state
+abbrev pub row_of : ℕ → Content → ℕ → RowState → Row
+row_of place m count state = record { place = place; count = count; state = state; priority = m.priority; expiration = m.expiration }
 
--- the row of a message that comes, at its place: it was never delivered
+-- the row of a message that comes, at its place: it waits, and was never delivered
 abbrev pub fresh : ℕ → Content → Row
-fresh place m = waiting place m 0
+fresh place m = row_of place m 0 Waiting
 
 -- the row waits
 abbrev pub is_waiting : Row → Bool

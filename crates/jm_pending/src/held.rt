@@ -165,7 +165,6 @@ impl Held {
         requires room { 0 < self.old.room }
         requires place { row.place < long_end }
         requires priority { row.priority < 10 }
-        requires waiting { spec.is_waiting row ≡ true }
         requires above { All (λ (r : Row). r.place < row.place) self.old.rows }
         requires there { 0 < holders_of table.old row.place }
         requires fits { holders_of table.old row.place < 2 ^ 64 - 1 }

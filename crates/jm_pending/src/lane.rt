@@ -135,7 +135,6 @@ impl Lane {
     pub(crate) fn push(&mut self, row: Row)
         requires room { 0 < self.old.spare }
         requires priority { row.priority ≡ self.old.priority }
-        requires waiting { is_waiting row ≡ true }
         requires above { All (λ (r : Row). r.place < row.place) self.old.rows }
         ensures priority { self.new.priority ≡ self.old.priority }
         ensures rows { self.new.rows ≡ self.old.rows ++ row ∷ [] }
@@ -144,6 +143,9 @@ impl Lane {
         self.least = row.earlier(self.least);
         self.steady = walks::is_steady_with(&self.rows, &row, self.steady);
         self.rows.push_back_reserved(Row { ..row });
+        if !row.is_waiting() {
+            self.high = self.rows.len();
+        }
     }
 
     /// Whether its rows still expire in turn with that one more.
@@ -180,7 +182,7 @@ impl Lane {
             return;
         }
         if self.steady {
-            walks::drop_front(&mut self.rows, table, self.low, now);
+            self.low = walks::drop_front(&mut self.rows, table, self.low, now);
             self.high = self.high.min(self.rows.len());
             return;
         }

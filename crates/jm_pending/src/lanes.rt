@@ -142,7 +142,6 @@ pub(crate) fn push(lanes: &mut [Lane], row: Row)
     requires priority { row.priority < 10 }
     requires priorities { (k : ℕ) (d : Lane) → k < length lanes.old → IsLaneOf k (slice_index_or lanes.old k d).priority }
     requires room { All (λ l. 0 < l.spare) lanes.old }
-    requires waiting { is_waiting row ≡ true }
     requires above { All (λ (r : Row). r.place < row.place) (all_rows lanes.old) }
     ensures { (at : ℕ) × (after : Lane) × (at < length lanes.old) × (lanes.new ≡ slice_set lanes.old at after) ×
         IsPushed row (slice_index_or lanes.old at after) after }

@@ -48,18 +48,18 @@ impl Row {
         ensures row { result ≡ spec.fresh place message.now }
         ensures priority { result.priority < 10 }
     {
-        Row::with_count(place, message, 0)
+        Row::with_state(place, message, 0, RowState::Waiting)
     }
 
-    /// The row of a message that was delivered so often, at its place. It waits.
-    pub fn with_count(place: u64, message: &Message, count: u32) -> Row
-        ensures row { result ≡ spec.waiting place message.now count }
+    /// The row of a message that was delivered so often, at its place and in that state.
+    pub fn with_state(place: u64, message: &Message, count: u32, state: RowState) -> Row
+        ensures row { result ≡ spec.row_of place message.now count state }
         ensures priority { result.priority < 10 }
     {
         Row {
             place,
             count,
-            state: RowState::Waiting,
+            state,
             priority: message.priority(),
             expiration: message.expiration(),
         }
@@ -136,13 +136,13 @@ impl Row {
             || (self.priority == other.priority && self.place < other.place)
     }
 
-    /// A bound on the expiration of what has that bound, and of the row.
+    /// A bound on when what has that bound expires, and the row, where it waits.
     pub(crate) fn earlier(&self, least: u64) -> u64
         ensures lower { result ≤ least }
         ensures bound { IsBound result self.now }
     {
         let expiration = self.expiration.get();
-        if expiration != 0 && expiration < least {
+        if self.is_waiting() && expiration != 0 && expiration < least {
             expiration
         } else {
             least

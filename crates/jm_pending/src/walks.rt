@@ -106,21 +106,28 @@ pub(crate) fn drop_each(rows: &mut VecDeque<Row>, table: &mut Table, now: Moment
 }
 
 /// Of rows that expire in turn, drops those that wait and are expired; none of the first `low` waits.
-/// Stops at the first row that is not expired.
-pub(crate) fn drop_front(rows: &mut VecDeque<Row>, table: &mut Table, low: usize, now: Moment)
+/// Stops at the first row that is not expired. Returns where it stands: all before it are out.
+pub(crate) fn drop_front(
+    rows: &mut VecDeque<Row>,
+    table: &mut Table,
+    low: usize,
+    now: Moment,
+) -> usize
     requires in_range { low ≤ deque_len rows.old }
     requires before { All (λ r. is_waiting r ≡ false) (take low rows.old.items) }
     requires steady { IsSteady rows.old.items }
     requires covered { Covers table.old rows.old.items }
     ensures rows { rows.new.items ≡ filter (stays now) rows.old.items }
     ensures table { Follows table.old table.new rows.old.items rows.new.items }
+    ensures within { result ≤ length rows.new.items }
+    ensures low { All (λ r. is_waiting r ≡ false) (take result rows.new.items) }
     ensures room { (deque_capacity rows.new ≡ deque_capacity rows.old) × (deque_len rows.new ≤ deque_len rows.old) }
 {
     let mut at = low;
     for _turn in low..rows.len() {
         let row = rows[at];
         if !row.is_expired(now) {
-            return;
+            return at;
         }
         if row.is_waiting() {
             let _ = rows.remove(at);
@@ -129,6 +136,7 @@ pub(crate) fn drop_front(rows: &mut VecDeque<Row>, table: &mut Table, low: usize
             at += 1;
         }
     }
+    at
 }
 
 /// Removes those of the first `high` rows that are among `outs`; no other row is out. Returns how many

@@ -1,5 +1,5 @@
 -- A publication, from putting its message into the table to releasing it.
-use Rattle.std.proofs.Common.{◌≡◌, ◌≢◌, ℕ, true, ◌+◌, ◌<◌, ◌≤◌, ◌^◌, ◌==◌, List, [], ◌∷◌, ◌++◌, length, get_or, set, cond, Option, Some, None, refl, ap, sym, subst, ◌∙◌, arith, inl, inr}
+use Rattle.std.proofs.Common.{◌≡◌, ◌≢◌, ℕ, ◌+◌, ◌<◌, ◌≤◌, ◌^◌, ◌==◌, List, [], ◌∷◌, ◌++◌, length, get_or, set, cond, Option, Some, None, refl, ap, sym, subst, ◌∙◌, arith, inl, inr}
 use Rattle.std.specs.List.{All}
 use Rattle.std.proofs.lemmas.Bool.{ne_eqb, eq-eqb}
 use Rattle.std.proofs.lemmas.Bool.Decides.{eqb_tells}
@@ -7,11 +7,8 @@ use Rattle.std.proofs.lemmas.List.{get_or-map, length-map, map-append, same_list
 use Rattle.std.proofs.lemmas.List.Elements.{All-nil, All-head, All-tail, All-push, All-weaker}
 use Rattle.std.proofs.lemmas.List.Sums.{sum_by-cons}
 use Rattle.jm_machine.specs.declared.state.Row.{Row as MachineRow}
-use Rattle.jm_machine.specs.declared.state.RowState.{RowState}
-use Rattle.jm_machine.specs.declared.state.RowState.TheVariants.{Waiting, Out}
-use Rattle.jm_machine.specs.Rows.{waits, is_waiting}
 use Rattle.jm_pending.specs.declared.row.Row.{Row}
-use Rattle.jm_pending.specs.Rows.{Held, waiting}
+use Rattle.jm_pending.specs.Rows.{Held, row_of}
 use Rattle.jm_pending.specs.Holders.{Messages, GainsHolder, LosesHolder, KeepsMessages, holders_of, message_of, rows_at}
 use Rattle.jm_pending.specs.Counts.{all_at, IsCounted}
 use Rattle.jm_pending.proofs.Counting.{beside_put, counted_released, counted_more}
@@ -20,7 +17,7 @@ use Rattle.jm_stations.specs.Backlogs.{Backlog, HasCome, joined, changed_at, emp
 use Rattle.jm_stations.specs.Kept.{all_rows, shown, all_shown, AreBelow, IsBacklog, IsKept, IsOffered, FollowsAll}
 use Rattle.jm_stations.proofs.Holders.{beside_all, keeps_released, covers_one}
 use Rattle.jm_stations.proofs.Offers.{named_one}
-use Rattle.jm_stations.proofs.Shown.{all_covered, all_backlogs_kept, shown_kept, offered_backlogs, offered_shown, changed_is_set, again}
+use Rattle.jm_stations.proofs.Shown.{all_covered, all_backlogs_kept, shown_kept, offered_backlogs, offered_shown, changed_is_set}
 
 -- no row is at a place that all are below of
 none_below : (p : ℕ) (rows : List Row) → AreBelow p rows → rows_at p rows ≡ 0
@@ -50,7 +47,7 @@ pub still_held : (t second third : Messages) (place : ℕ) (lists after : List H
 still_held t second third place lists after k g f = omega (arith, one_holder t second place lists k g, none_all t place lists k.each, f.holders place)
 
 -- what is held after it
-pub published_kept : (t second third fourth : Messages) (place : ℕ) (x : MachineRow) (indexes : List ℕ) (lists after : List Held) → IsKept t lists place → place < 2 ^ 63 → GainsHolder t second place → message_of second place ≡ Some x.message → ((p : ℕ) → p ≢ place → message_of second p ≡ message_of t p) → IsOffered indexes (waiting place x.message x.count) lists after → FollowsAll second third (all_rows lists) (all_rows after) → LosesHolder third fourth place → KeepsMessages third fourth
+pub published_kept : (t second third fourth : Messages) (place : ℕ) (x : MachineRow) (indexes : List ℕ) (lists after : List Held) → IsKept t lists place → place < 2 ^ 63 → GainsHolder t second place → message_of second place ≡ Some x.message → ((p : ℕ) → p ≢ place → message_of second p ≡ message_of t p) → IsOffered indexes (row_of place x.message x.count x.state) lists after → FollowsAll second third (all_rows lists) (all_rows after) → LosesHolder third fourth place → KeepsMessages third fourth
     → IsKept fourth after (place + 1) × KeepsMessages second fourth
 published_kept t second third fourth place x indexes lists after k bound gains is others offered follows lost kept =
     let beside = beside_put t second place (all_rows lists) k.counted gains in
@@ -62,8 +59,8 @@ published_kept t second third fourth place x indexes lists after k bound gains i
     )
 
 -- and what callers see of it
-pub published_shown : (t second fourth : Messages) (place : ℕ) (x : MachineRow) (indexes : List ℕ) (lists after : List Held) → IsKept t lists place → IsKept fourth after (place + 1) → KeepsMessages second fourth → message_of second place ≡ Some x.message → ((p : ℕ) → p ≢ place → message_of second p ≡ message_of t p) → IsOffered indexes (waiting place x.message x.count) lists after
-    → HasCome indexes place (again x) (all_shown t lists) (all_shown fourth after)
+pub published_shown : (t second fourth : Messages) (place : ℕ) (x : MachineRow) (indexes : List ℕ) (lists after : List Held) → IsKept t lists place → IsKept fourth after (place + 1) → KeepsMessages second fourth → message_of second place ≡ Some x.message → ((p : ℕ) → p ≢ place → message_of second p ≡ message_of t p) → IsOffered indexes (row_of place x.message x.count x.state) lists after
+    → HasCome indexes place x (all_shown t lists) (all_shown fourth after)
 published_shown t second fourth place x indexes lists after k k3 keeps is others offered =
     let none : Held = record { rows = []; limit = None; missed = 0; room = 0 } in
     record {
@@ -90,14 +87,6 @@ come_to_one index place row old new l h =
       | inl s ↦ rw (s.1, eq-eqb index index refl, get_or-set_same old index (joined place row (get_or old index (empty None))) e l) (ap (joined place row) (get_or_default old index e (empty None) l))
       | inr n ↦ rw (ne_eqb index k (λ q. n.1 (sym q)), get_or-set_other old index k (joined place row (get_or old index (empty None))) e n.1) refl
     ]
-
--- a row that waits is its message with its count
-pub row_again : (x : MachineRow) → is_waiting x ≡ true → x ≡ again x
-row_again x h = go x.state h
-  where
-    go : (s : RowState) → waits s ≡ true → record { message = x.message; count = x.count; state = s } ≡ again x
-    go Waiting h = refl
-    go (Out s c) h = absurd (cc)
 
 -- the next publication may be at a later place
 pub skipped_backlog : (t : Messages) (place later : ℕ) (h : Held) → place ≤ later → IsBacklog t place h → IsBacklog t later h

@@ -6,14 +6,15 @@ use Rattle.std.proofs.lemmas.List.Elements.{All-nil, All-cons, All-head, All-tai
 use Rattle.jm_dest.specs.declared.session.SessionId.{SessionId}
 use Rattle.jm_header.specs.declared.content.Content.{Content}
 use Rattle.jm_machine.specs.declared.state.Row.{Row as MachineRow}
+use Rattle.jm_machine.specs.declared.state.RowState.{RowState}
 use Rattle.jm_machine.specs.declared.state.PlacedRow.{PlacedRow}
 use Rattle.jm_pending.specs.declared.row.Row.{Row}
-use Rattle.jm_pending.specs.Rows.{Held, IsRising, is_at_limit, waiting, stays, next, sent}
+use Rattle.jm_pending.specs.Rows.{Held, IsRising, is_at_limit, row_of, stays, next, sent}
 use Rattle.jm_pending.specs.Holders.{Messages, KeepsMessages, Covers, message_of}
 use Rattle.jm_pending.specs.Placed.{placed, all_placed, message_or_none, IsRowOf}
 use Rattle.jm_pending.specs.Counts.{IsCounted}
 use Rattle.jm_pending.proofs.Counting.{placed_same, rows_same}
-use Rattle.jm_stations.specs.Backlogs.{Backlog, is_named, waiting_row, joined, changed_at, received, delivered}
+use Rattle.jm_stations.specs.Backlogs.{Backlog, is_named, joined, changed_at, received, delivered}
 use Rattle.jm_stations.specs.Kept.{all_rows, shown, all_shown, with_row, settled, is_left, sent_if, sent_off, AreBelow, IsBacklog, IsOffered}
 use Rattle.jm_stations.proofs.Holders.{covers_one}
 use Rattle.jm_stations.proofs.Delivery.{settled_same, sent_same}
@@ -140,58 +141,54 @@ later place rows b = All-weaker (λ (r : Row). r.place < place) (λ (r : Row). r
 pub put_backlog : (old new : Messages) (place : ℕ) (h : Held) → ((p : ℕ) → p ≢ place → message_of new p ≡ message_of old p) → IsBacklog old place h → IsBacklog new (place + 1) h
 put_backlog old new place h same b = record { below = later place h.rows b.below; own = record { each = rows_below old new place h.rows same b.below b.own.each } }
 
--- the row that waits again, with its count
-abbrev pub again : MachineRow → MachineRow
-again x = waiting_row x.message x.count
-
 -- a row that comes, of what stands for its message
-abbrev pub row_at : ℕ → ℕ → Option Content → PlacedRow
-row_at place count o = record { place = place; row = waiting_row (message_or_none o) count }
+abbrev pub row_at : ℕ → ℕ → RowState → Option Content → PlacedRow
+row_at place count state o = record { place = place; row = record { message = message_or_none o; count = count; state = state } }
 
-row_shown : (t : Messages) (place : ℕ) (x : MachineRow) → message_of t place ≡ Some x.message → placed t (waiting place x.message x.count) ≡ row_at place x.count (Some x.message)
-row_shown t place x is = ap (row_at place x.count) is
+row_shown : (t : Messages) (place : ℕ) (x : MachineRow) → message_of t place ≡ Some x.message → placed t (row_of place x.message x.count x.state) ≡ row_at place x.count x.state (Some x.message)
+row_shown t place x is = ap (row_at place x.count x.state) is
 
 length_placed : (t : Messages) (rows : List Row) → length (all_placed t rows) ≡ length rows
 length_placed t rows = length-map rows (placed t)
 
 -- a list that takes the message
-pub with_row_shown : (t : Messages) (place : ℕ) (x : MachineRow) (h : Held) → message_of t place ≡ Some x.message → shown t (with_row (waiting place x.message x.count) h) ≡ joined place (again x) (shown t h)
+pub with_row_shown : (t : Messages) (place : ℕ) (x : MachineRow) (h : Held) → message_of t place ≡ Some x.message → shown t (with_row (row_of place x.message x.count x.state) h) ≡ joined place x (shown t h)
 with_row_shown t place x h is = go (is_at_limit h.limit (length h.rows)) refl
   where
-    go : (b : Bool) → is_at_limit h.limit (length h.rows) ≡ b → shown t (with_row (waiting place x.message x.count) h) ≡ joined place (again x) (shown t h)
+    go : (b : Bool) → is_at_limit h.limit (length h.rows) ≡ b → shown t (with_row (row_of place x.message x.count x.state) h) ≡ joined place x (shown t h)
     go true e = rw (length_placed t h.rows, e) refl
-    go false e = rw (length_placed t h.rows, e, map-append (placed t) h.rows (waiting place x.message x.count ∷ []), row_shown t place x is) refl
+    go false e = rw (length_placed t h.rows, e, map-append (placed t) h.rows (row_of place x.message x.count x.state ∷ []), row_shown t place x is) refl
 
-pub with_row_backlog : (t : Messages) (place : ℕ) (x : MachineRow) (h : Held) → message_of t place ≡ Some x.message → IsBacklog t (place + 1) h → IsBacklog t (place + 1) (with_row (waiting place x.message x.count) h)
+pub with_row_backlog : (t : Messages) (place : ℕ) (x : MachineRow) (h : Held) → message_of t place ≡ Some x.message → IsBacklog t (place + 1) h → IsBacklog t (place + 1) (with_row (row_of place x.message x.count x.state) h)
 with_row_backlog t place x h is b = go (is_at_limit h.limit (length h.rows)) refl
   where
-    own : IsRowOf t (waiting place x.message x.count)
+    own : IsRowOf t (row_of place x.message x.count x.state)
     own = record { priority = rw is refl; expiration = rw is refl }
 
-    go : (c : Bool) → is_at_limit h.limit (length h.rows) ≡ c → IsBacklog t (place + 1) (with_row (waiting place x.message x.count) h)
+    go : (c : Bool) → is_at_limit h.limit (length h.rows) ≡ c → IsBacklog t (place + 1) (with_row (row_of place x.message x.count x.state) h)
     go true e = rw e (record { below = b.below; own = b.own })
     go false e = rw e (record {
-      below = All-push (λ (r : Row). r.place < place + 1) h.rows (waiting place x.message x.count) b.below (omega arith);
-      own = record { each = All-push (IsRowOf t) h.rows (waiting place x.message x.count) b.own.each own };
+      below = All-push (λ (r : Row). r.place < place + 1) h.rows (row_of place x.message x.count x.state) b.below (omega arith);
+      own = record { each = All-push (IsRowOf t) h.rows (row_of place x.message x.count x.state) b.own.each own };
     })
 
 -- all lists, once the message is put and offered
-pub offered_backlogs : (old new : Messages) (place : ℕ) (x : MachineRow) (indexes : List ℕ) (lists after : List Held) → ((p : ℕ) → p ≢ place → message_of new p ≡ message_of old p) → message_of new place ≡ Some x.message → IsOffered indexes (waiting place x.message x.count) lists after → All (IsBacklog old place) lists → All (IsBacklog new (place + 1)) after
+pub offered_backlogs : (old new : Messages) (place : ℕ) (x : MachineRow) (indexes : List ℕ) (lists after : List Held) → ((p : ℕ) → p ≢ place → message_of new p ≡ message_of old p) → message_of new place ≡ Some x.message → IsOffered indexes (row_of place x.message x.count x.state) lists after → All (IsBacklog old place) lists → All (IsBacklog new (place + 1)) after
 offered_backlogs old new place x indexes lists after same is o b = λ k d l.
     let inside : k < length lists = omega (arith, o.number, l) in
     let here = put_backlog old new place (get_or lists k d) same (b k d inside) in
     rw (o.each k d inside) (go (is_named indexes k) k d here)
   where
-    go : (c : Bool) (k : ℕ) (d : Held) → IsBacklog new (place + 1) (get_or lists k d) → IsBacklog new (place + 1) (cond c (with_row (waiting place x.message x.count) (get_or lists k d)) (get_or lists k d))
+    go : (c : Bool) (k : ℕ) (d : Held) → IsBacklog new (place + 1) (get_or lists k d) → IsBacklog new (place + 1) (cond c (with_row (row_of place x.message x.count x.state) (get_or lists k d)) (get_or lists k d))
     go true k d here = with_row_backlog new place x (get_or lists k d) is here
     go false k d here = here
 
-pub offered_shown : (old new : Messages) (place : ℕ) (x : MachineRow) (indexes : List ℕ) (lists after : List Held) (k : ℕ) (d : Held) → k < length lists → ((p : ℕ) → p ≢ place → message_of new p ≡ message_of old p) → message_of new place ≡ Some x.message → IsOffered indexes (waiting place x.message x.count) lists after → All (IsBacklog old place) lists
-    → shown new (get_or after k d) ≡ cond (is_named indexes k) (joined place (again x) (shown old (get_or lists k d))) (shown old (get_or lists k d))
+pub offered_shown : (old new : Messages) (place : ℕ) (x : MachineRow) (indexes : List ℕ) (lists after : List Held) (k : ℕ) (d : Held) → k < length lists → ((p : ℕ) → p ≢ place → message_of new p ≡ message_of old p) → message_of new place ≡ Some x.message → IsOffered indexes (row_of place x.message x.count x.state) lists after → All (IsBacklog old place) lists
+    → shown new (get_or after k d) ≡ cond (is_named indexes k) (joined place x (shown old (get_or lists k d))) (shown old (get_or lists k d))
 offered_shown old new place x indexes lists after k d inside same is o b =
     let put = put_shown old new place (get_or lists k d) same (b k d inside) in
     rw (o.each k d inside) (go (is_named indexes k) put)
   where
-    go : (c : Bool) → shown new (get_or lists k d) ≡ shown old (get_or lists k d) → shown new (cond c (with_row (waiting place x.message x.count) (get_or lists k d)) (get_or lists k d)) ≡ cond c (joined place (again x) (shown old (get_or lists k d))) (shown old (get_or lists k d))
-    go true put = with_row_shown new place x (get_or lists k d) is ∙ ap (joined place (again x)) put
+    go : (c : Bool) → shown new (get_or lists k d) ≡ shown old (get_or lists k d) → shown new (cond c (with_row (row_of place x.message x.count x.state) (get_or lists k d)) (get_or lists k d)) ≡ cond c (joined place x (shown old (get_or lists k d))) (shown old (get_or lists k d))
+    go true put = with_row_shown new place x (get_or lists k d) is ∙ ap (joined place x) put
     go false put = put

@@ -1,12 +1,11 @@
 -- What is held under each key, as callers see it.
-use Rattle.std.specs.Prelude.{◌≡◌, ◌≤◌, ◌<◌, ◌+◌, ◌-◌, ◌↔◌, nat_eq, ℕ, zero, suc, Bool, ◌&&◌, ◌==◌, List, [], ◌∷◌, ◌++◌, Contains, find, length, count_by, sum_by, slice_index_or, Option, Some, None, if◌then◌else◌}
+use Rattle.std.specs.Prelude.{◌≡◌, ◌≤◌, ◌<◌, ◌-◌, ◌↔◌, nat_eq, ℕ, zero, suc, Bool, ◌&&◌, ◌==◌, List, [], ◌∷◌, ◌++◌, Contains, find, length, count_by, sum_by, slice_index_or, Option, Some, None, if◌then◌else◌}
 use Rattle.std.specs.List.{list_any, IsDistinct}
 use Rattle.std.specs.Option.{option_or}
 use Rattle.jm_dest.specs.declared.key.Key.{Key}
 use Rattle.jm_dest.specs.declared.session.SessionId.{SessionId}
 use Rattle.jm_header.specs.declared.content.Content.{Content}
 use Rattle.jm_machine.specs.declared.state.Row.{Row}
-use Rattle.jm_machine.specs.declared.state.RowState.TheVariants.{Waiting}
 use Rattle.jm_machine.specs.declared.state.PlacedRow.{PlacedRow}
 use Rattle.jm_machine.specs.declared.answer.Answer.{Answer}
 use Rattle.jm_machine.specs.declared.answer.Answer.TheVariants.{Delivered, Nothing}
@@ -56,10 +55,6 @@ joined place row b =
     if is_at_limit b.limit (length b.rows)
     then record b { missed = one_missed b.missed }
     else record b { rows = b.rows ++ record { place = place; row = row } ∷ []; room = b.room - 1 }
-
--- the row of a message that was delivered so often: it waits
-abbrev pub waiting_row : Content → ℕ → Row
-waiting_row m count = record { message = m; count = count; state = Waiting }
 
 -- the row of a message that comes, which was never delivered
 abbrev pub added : ℕ → Content → Backlog → Backlog

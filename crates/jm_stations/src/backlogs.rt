@@ -3,7 +3,6 @@
 ghost use Rattle.std.specs.Prelude.{◌≡◌, ◌≤◌, ◌<◌, ◌+◌, ◌-◌, ◌++◌, [], ◌∷◌, true, false, nat_eq, All, length, map, slice_index_or, is_some, IfOk, OnOk, OnErr};
 ghost use Rattle.std.specs.List.{IsDistinct, remove};
 ghost use Rattle.jm_machine.specs.Machine.{are_meant, places_end};
-ghost use Rattle.jm_machine.specs.Rows as machine;
 ghost use Rattle.jm_stations.specs.Backlogs as spec;
 ghost use Rattle.jm_stations.specs.Backlogs.{Backlog};
 ghost use Rattle.jm_stations.specs.Kept as kept;
@@ -11,7 +10,7 @@ ghost use Rattle.jm_stations.specs.Kept as kept;
 use crate::{copies, lists};
 use jm_dest::{ConsumerId, Moment, SessionId};
 use jm_header::Message;
-use jm_machine::{Answer, Consumers, Delivery, PlacedRow, Row as MachineRow};
+use jm_machine::{Answer, Consumers, Delivery, PlacedRow, Row as MachineRow, RowState};
 use jm_pending::{Held, Row, Table, Taken};
 use std::alloc::{AllocError, Global};
 use std::marker::Model;
@@ -220,23 +219,26 @@ impl Backlogs {
         ensures next_place { self.new.next_place ≡ self.old.next_place + 1 }
         ensures room { self.old.message_room ≤ self.new.message_room + 1 }
     {
-        self.bring(message, 0, indexes);
+        let row = MachineRow {
+            message,
+            count: 0,
+            state: RowState::Waiting,
+        };
+        self.bring(row, indexes);
     }
 
-    /// A row that waits, of a message that was delivered so often, takes the next place, and comes to the list with
-    /// that index; at its limit the list misses it instead. Takes no memory, since room was reserved.
+    /// A row that was held elsewhere takes the next place with its state and the count of its deliveries, and comes to
+    /// the list with that index; at its limit the list misses it instead. Takes no memory, since room was reserved.
     pub fn load(&mut self, index: usize, row: MachineRow)
         requires places { self.old.next_place < places_end }
         requires messages { 0 < self.old.message_room }
         requires within { index < length self.old.list }
         requires rows { (d : Backlog) → 0 < (slice_index_or self.old.list index d).room }
-        requires waiting { machine.is_waiting row ≡ true }
         ensures list { self.new.list ≡ spec.changed_at index (spec.joined self.old.next_place row) self.old.list }
         ensures next_place { self.new.next_place ≡ self.old.next_place + 1 }
         ensures room { self.old.message_room ≤ self.new.message_room + 1 }
     {
-        let MachineRow { message, count, .. } = row;
-        self.bring(message, count, &[index]);
+        self.bring(row, &[index]);
     }
 
     /// The next publication will be at that place. Takes no memory.
@@ -248,20 +250,25 @@ impl Backlogs {
         self.next_place = place;
     }
 
-    /// A message that was delivered so often takes the next place, and a row of it comes to each list with one of those
-    /// indexes; at its limit a list misses it instead.
-    fn bring(&mut self, message: Message, count: u32, indexes: &[usize])
+    /// A row takes the next place with its state and the count of its deliveries, and comes to each list with one of
+    /// those indexes; at its limit a list misses it instead.
+    fn bring(&mut self, row: MachineRow, indexes: &[usize])
         requires places { self.old.next_place < places_end }
         requires messages { 0 < self.old.message_room }
         requires within { All (λ i. i < length self.old.list) indexes.now }
         requires once { IsDistinct nat_eq indexes.now }
         requires rows { All (λ i. (d : Backlog) → 0 < (slice_index_or self.old.list i d).room) indexes.now }
-        ensures list { spec.HasCome indexes.now self.old.next_place (spec.waiting_row message count) self.old.list self.new.list }
+        ensures list { spec.HasCome indexes.now self.old.next_place row self.old.list self.new.list }
         ensures next_place { self.new.next_place ≡ self.old.next_place + 1 }
         ensures room { self.old.message_room ≤ self.new.message_room + 1 }
     {
         let place = self.next_place;
-        let row = Row::with_count(place, &message, count);
+        let MachineRow {
+            message,
+            count,
+            state,
+        } = row;
+        let row = Row::with_state(place, &message, count, state);
         self.table.put(place, message);
         lists::offer_each(&mut self.lists, &mut self.table, &row, indexes);
         let _ = self.table.release(place);

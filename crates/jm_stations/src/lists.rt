@@ -5,7 +5,7 @@ ghost use Rattle.std.specs.List.{IsDistinct};
 ghost use Rattle.jm_dest.specs.Numbers.{long_end};
 ghost use Rattle.jm_machine.specs.Machine.{are_meant};
 ghost use Rattle.jm_pending.specs.Counts.{IsCounted};
-ghost use Rattle.jm_pending.specs.Rows.{Held, IsRising, is_waiting, next, sent};
+ghost use Rattle.jm_pending.specs.Rows.{Held, IsRising, next, sent};
 ghost use Rattle.jm_pending.specs.Holders.{Covers, Follows, KeepsMessages, holders_of};
 ghost use Rattle.jm_stations.specs.Backlogs.{changed_at};
 ghost use Rattle.jm_stations.specs.Kept as kept;
@@ -19,7 +19,6 @@ use std::alloc::AllocError;
 pub(crate) fn offer_each(lists: &mut Vec<Held>, table: &mut Table, row: &Row, indexes: &[usize])
     requires place { row.now.place < long_end }
     requires priority { row.now.priority < 10 }
-    requires waiting { is_waiting row.now ≡ true }
     requires within { All (λ i. i < length lists.old.items) indexes.now }
     requires once { IsDistinct nat_eq indexes.now }
     requires room { All (λ i. (d : Held) → 0 < (slice_index_or lists.old.items i d).room) indexes.now }

@@ -5,7 +5,6 @@ ghost use Rattle.std.specs.List.{IsDistinct, remove};
 ghost use Rattle.jm_dest.specs.declared.key.Key.{Key};
 ghost use Rattle.jm_dest.specs.Keys.{key_eq};
 ghost use Rattle.jm_machine.specs.Machine.{are_meant, is_own_of, places_end};
-ghost use Rattle.jm_machine.specs.Rows as machine;
 ghost use Rattle.jm_stations.specs.Backlogs as spec;
 ghost use Rattle.jm_stations.specs.Backlogs.{Backlog};
 ghost use Rattle.jm_stations.specs.Kept as kept;
@@ -254,7 +253,7 @@ impl Stations {
         self.backlogs.publish(message, indexes);
     }
 
-    /// A row that waits, and was held elsewhere, takes the next place with the count of its deliveries, and comes to
+    /// A row that was held elsewhere takes the next place with its state and the count of its deliveries, and comes to
     /// what is held under the key with that index; at its limit it is missed there instead. Takes no memory, since room
     /// was reserved.
     pub fn load(&mut self, index: usize, row: Row)
@@ -262,7 +261,6 @@ impl Stations {
         requires messages { 0 < self.old.message_room }
         requires within { index < length self.old.list }
         requires rows { (d : Backlog) → 0 < (slice_index_or self.old.list index d).room }
-        requires waiting { machine.is_waiting row ≡ true }
         ensures keys { self.new.keys ≡ self.old.keys }
         ensures list { self.new.list ≡ spec.changed_at index (spec.joined self.old.next_place row) self.old.list }
         ensures next_place { self.new.next_place ≡ self.old.next_place + 1 }

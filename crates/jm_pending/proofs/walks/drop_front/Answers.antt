@@ -1,7 +1,8 @@
 use Rattle.std.proofs.Common.{◌≡◌, ◌∙◌, ap, sym, false, true, arith, length, ◌<◌, refl, get_or}
 use Rattle.std.specs.List.{remove}
-use Rattle.jm_pending.specs.Rows.{stays, is_expired}
-use Rattle.jm_pending.proofs.Sieve.{sieved_gone, sieved_left, sieved_all, sieved_in, sieved_here}
+use Rattle.std.proofs.lemmas.List.Elements.{All-more}
+use Rattle.jm_pending.specs.Rows.{stays, is_expired, is_waiting}
+use Rattle.jm_pending.proofs.Sieve.{sieved_gone, sieved_left, sieved_all, sieved_in, sieved_here, take_remove}
 use Rattle.jm_pending.proofs.Letting.{row_gone, follows_none}
 use Rattle.jm_pending.proofs.Turns.{steady_rest, away, is_expired_by, sieved_low, stays_away, stays_gone}
 use Rattle.jm_pending.proofs.Holding.{holder_there}
@@ -10,7 +11,7 @@ use Rattle.jm_pending.proofs.walks.drop_front.Goals.{then-is_waiting, else-is_wa
 
 pub loop-turn-init : goal.loop-turn-init
 loop-turn-init c =
-    record { sieved = sieved_low (stays c.args.now) c.args.rows.now.items c.args.low (away c.args.now _ c.requires.before) (omega (arith, c.requires.in_range)); follows = follows_none c.args.table.now c.args.rows.now.items; covers = c.requires.covered; room = refl; len = omega arith }
+    record { sieved = sieved_low (stays c.args.now) c.args.rows.now.items c.args.low (away c.args.now _ c.requires.before) (omega (arith, c.requires.in_range)); follows = follows_none c.args.table.now c.args.rows.now.items; covers = c.requires.covered; room = refl; len = omega arith; low = c.requires.before }
 
 pub returns-then-not-is_expired-clause-rows : goal.returns-then-not-is_expired-clause-rows
 returns-then-not-is_expired-clause-rows c =
@@ -44,8 +45,10 @@ loop-turn-preserved c =
             covers = rw (w.rows-is, w.table-is, items) let_go.1;
             room = rw w.rows-is (w.remove.ensures.capacity ∙ c.loop-turn.invariant.room);
             len = let shorter = rw got at w.remove.ensures.len in rw w.rows-is (omega (arith, shorter, c.loop-turn.invariant.len));
+            low = rw (w.rows-is, w.at-is, items, take_remove ys c.loop-turn.at) c.loop-turn.invariant.low;
           }
       | else-is_waiting w ↦
+          let out : is_waiting (get_or ys c.loop-turn.at row) ≡ false = ap is_waiting (sym c.index.ensures) ∙ sym c.is_waiting.ensures ∙ w.if-is_waiting.false in
           let test : stays c.args.now (get_or ys c.loop-turn.at row) ≡ true = ap (stays c.args.now) (sym c.index.ensures) ∙ stays_away c.args.now row _ c.is_waiting.ensures w.if-is_waiting.false in
           record {
             sieved = rw (w.rows-is, w.at-is) (sieved_left (stays c.args.now) init ys c.loop-turn._turn c.loop-turn.at row c.loop-turn.invariant.sieved within test);
@@ -53,5 +56,6 @@ loop-turn-preserved c =
             covers = rw (w.rows-is, w.table-is) c.loop-turn.invariant.covers;
             room = rw w.rows-is c.loop-turn.invariant.room;
             len = rw w.rows-is c.loop-turn.invariant.len;
+            low = rw (w.rows-is, w.at-is) (All-more (λ r. is_waiting r ≡ false) ys c.loop-turn.at row there c.loop-turn.invariant.low out);
           }
     ]

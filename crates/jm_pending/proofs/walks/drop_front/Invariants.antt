@@ -1,6 +1,7 @@
-use Rattle.std.proofs.Common.{◌≡◌, ◌≤◌}
+use Rattle.std.proofs.Common.{◌≡◌, ◌≤◌, false, take}
+use Rattle.std.specs.List.{All}
 use Rattle.std.specs.VecDeque.{deque_len, deque_capacity}
-use Rattle.jm_pending.specs.Rows.{stays}
+use Rattle.jm_pending.specs.Rows.{stays, is_waiting}
 use Rattle.jm_pending.proofs.Sieve.{IsSieved}
 use Rattle.jm_pending.specs.Holders.{Follows, Covers}
 use Rattle.jm_pending.proofs.walks.drop_front.Given as goal
@@ -12,4 +13,5 @@ invariant-loop-turn l = record {
   covers : Covers l.table l.rows.items;
   room : deque_capacity l.rows ≡ deque_capacity l.initial.rows;
   len : deque_len l.rows ≤ deque_len l.initial.rows;
+  low : All (λ r. is_waiting r ≡ false) (take l.at l.rows.items);
 }

@@ -3,7 +3,7 @@ use Rattle.std.specs.List.{filter}
 use Rattle.std.proofs.Common.{true}
 use Rattle.jm_pending.specs.Rows.{stays, is_waiting}
 use Rattle.jm_pending.proofs.Sieve.{filter_all}
-use Rattle.jm_pending.proofs.Steps.{lane_filter, bound_stays}
+use Rattle.jm_pending.proofs.Steps.{lane_filter, lane_low, bound_stays}
 use Rattle.jm_pending.proofs.Turns.{steady-filter, lane_kept, top_is, away, behind_least, behind_filter}
 use Rattle.jm_pending.proofs.lane.Lane.drop_expired.Goals as goal
 
@@ -14,10 +14,10 @@ returns-then-get-self-clause-rows c =
 
 pub invariant_of-self : goal.invariant_of-self
 invariant_of-self c =
-    let is = c.drop_front.ensures.rows in
+    let is = c.drop_front-self-inside.ensures.rows in
     let len : c.len.result ≡ length (filter (stays c.args.now) c.self.inside.rows.items) = rw (← is) (omega arith) in
     rw is (record {
-      lane = lane_kept (stays c.args.now) c.self.inside.rows.items c.self.inside.priority c.self.inside.low c.self.inside.high c.self.inside.least c.min-self-inside.result c.self.invariant.lane (away c.args.now _ c.self.invariant.lane.before) (omega (arith, len, c.min-self-inside.ensures)) (top_is c.self.inside.high c.len.result _ c.min-self-inside.result c.min-self-inside.ensures len);
+      lane = lane_low (filter (stays c.args.now) c.self.inside.rows.items) c.self.inside.priority c.self.inside.low c.min-self-inside.result c.self.inside.least c.drop_front-self-inside.result (lane_kept (stays c.args.now) c.self.inside.rows.items c.self.inside.priority c.self.inside.low c.self.inside.high c.self.inside.least c.min-self-inside.result c.self.invariant.lane (away c.args.now _ c.self.invariant.lane.before) (omega (arith, len, c.min-self-inside.ensures)) (top_is c.self.inside.high c.len.result _ c.min-self-inside.result c.min-self-inside.ensures len)) (rw is at c.drop_front-self-inside.ensures.within) (rw is at c.drop_front-self-inside.ensures.low);
       turn = λ e. steady-filter (stays c.args.now) c.self.inside.rows.items (c.self.invariant.turn e);
     })
 
