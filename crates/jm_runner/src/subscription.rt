@@ -188,8 +188,9 @@ fn told<R: Read>(alloc: Global, source: &mut Source<R>, key: &str) -> Result<Pri
 /// Reads a scenario, in at most 16,777,217 reads, and makes its calls on a new provider, then reads the key
 /// of a subscription, and prints what this subscription answers alone, fed with the calls of its own
 /// session, with the accepted calls of that session's connection, and with the messages sent that it
-/// accepts: a line for each reply, with the number of its call. The exit status is that of the run. The
-/// fault of a scenario is told before any of the key.
+/// accepts: a line for each reply, with the number of its call. A subscription that is not durable holds at most as
+/// many rows as the scenario says, in the run and alone; where it says none, 100,000. The exit status is that of the
+/// run. The fault of a scenario is told before any of the key.
 pub fn lone<R: Read, W: Write>(
     alloc: Global,
     source: &mut Source<R>,
