@@ -1,16 +1,9 @@
-use Rattle.std.proofs.Common.{refl}
-use Rattle.jm_pending.specs.declared.row.Outs.TheVariants.{Of}
-use Rattle.jm_pending.specs.Rows.{keeps}
 use Rattle.jm_pending.proofs.Holding.{covers_all, follows_all}
 use Rattle.jm_pending.proofs.Keeping.{held_filter}
 use Rattle.jm_pending.proofs.held.Held.settle.Goals as goal
 
 pub invariant_of-self : goal.invariant_of-self
-invariant_of-self c = (held_filter (keeps (Of c.args.which.now)) c.self.inside.lanes c.settle.new.lanes c.self.inside.room c.self.invariant c.settle.ensures.rows).0
-
-pub returns-clause-rows : goal.returns-clause-rows
-returns-clause-rows c =
-    rw (← c.self.view_is, (held_filter (keeps (Of c.args.which.now)) c.self.inside.lanes c.settle.new.lanes c.self.inside.room c.self.invariant c.settle.ensures.rows).1) refl
+invariant_of-self c = (held_filter _ c.self.inside.lanes c.settle.new.lanes c.self.inside.room c.self.invariant c.settle.ensures.rows).0
 
 pub settle-requires : goal.settle-requires
 settle-requires c = covers_all c.args.table.now c.self.inside.lanes (rw (← c.self.view_is) at c.requires)
