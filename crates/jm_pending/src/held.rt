@@ -250,6 +250,7 @@ impl Held {
 
     /// The rows that are out through one of those consumers go. Where it is known that none is, no row is looked at.
     /// Takes no memory.
+    #[tactic(auto, using(crate::proofs::Shown::filter_shown))]
     pub fn settle(&mut self, table: &mut Table, which: &Consumers)
         requires { Covers table.old self.old.rows }
         ensures rows { self.new ≡ record self.old { rows = filter (λ r. not (spec.is_out (are_meant which.now) r)) self.old.rows } }
@@ -287,6 +288,7 @@ impl Held {
 
     /// The rows that are out through one of those consumers wait again, at their places and with their counts. Where
     /// it is known that none is, no row is looked at. Takes no memory.
+    #[tactic(auto, using(crate::proofs::Shown::back_shown))]
     pub fn give_back(&mut self, which: &Consumers)
         ensures { self.new ≡ record self.old { rows = map (spec.back (spec.is_out (are_meant which.now))) self.old.rows } }
     {

@@ -8,6 +8,7 @@ use Rattle.std.proofs.lemmas.Bool.Decides.{nat_tests}
 use Rattle.std.proofs.lemmas.Bool.{eqb-true}
 use Rattle.std.proofs.lemmas.List.Elements.{All-nil, All-cons}
 use Rattle.std.proofs.lemmas.List.Quantifiers.{position-Some}
+use Rattle.std.proofs.lemmas.List.{length-map}
 use Rattle.indexmap.specs.IndexSet.{insert_key}
 use Rattle.jm_dest.specs.declared.key.Key.{Key}
 use Rattle.jm_dest.specs.Keys.{key_eq}
@@ -55,6 +56,12 @@ pub length-changed : {X : Type 0} (i : ℕ) (f : X → X) (xs : List X) → leng
 length-changed i f [] = refl
 length-changed zero f (x ∷ xs) = refl
 length-changed (suc i) f (x ∷ xs) = ap suc (length-changed i f xs)
+
+pub as_many_changed : {X : Type 0} (n i : ℕ) (f : X → X) (xs ys : List X) → n ≡ length xs → ys ≡ changed_at i f xs → n ≡ length ys
+as_many_changed n i f xs ys e is = e ∙ sym (ap length is ∙ length-changed i f xs)
+
+pub as_many_mapped : {X : Type 0} (n : ℕ) (f : X → X) (xs ys : List X) → n ≡ length xs → ys ≡ map f xs → n ≡ length ys
+as_many_mapped n f xs ys e is = e ∙ sym (ap length is ∙ length-map xs f)
 
 -- an index is within so many
 abbrev pub IsWithin : ℕ → ℕ → Type 0

@@ -256,6 +256,7 @@ impl Stations {
     /// A row that was held elsewhere takes the next place with its state and the count of its deliveries, and comes to
     /// what is held under the key with that index; at its limit it is missed there instead. Takes no memory, since room
     /// was reserved.
+    #[tactic(auto, using(crate::proofs::Indexes::as_many_changed))]
     pub fn load(&mut self, index: usize, row: Row)
         requires places { self.old.next_place < places_end }
         requires messages { 0 < self.old.message_room }
@@ -298,6 +299,7 @@ impl Stations {
     /// Drops the waiting rows under the key with that index that are expired at that moment, and delivers the next one,
     /// which is settled. Its message is moved out where no other row holds it, and else the copy stands for it.
     /// Takes no memory.
+    #[tactic(auto, using(crate::proofs::Indexes::as_many_changed))]
     pub fn receive(&mut self, index: usize, now: Moment, copy: Option<Message>) -> Answer
         requires within { index < length self.old.list }
         requires copy { (d : Backlog) → copy ≡ spec.copy_wanted true now self.old.list (slice_index_or self.old.list index d).rows }
@@ -313,6 +315,7 @@ impl Stations {
     /// Drops the waiting rows under the key with that index that are expired at that moment, and delivers the next one,
     /// which goes out to the session through its consumer, and is counted once more. The copy stands for its message,
     /// which stays held. Takes no memory.
+    #[tactic(auto, using(crate::proofs::Indexes::as_many_changed))]
     pub fn deliver(
         &mut self,
         index: usize,
@@ -334,6 +337,7 @@ impl Stations {
 
     /// The rows that are out through one of those consumers go, and each message that no other row holds with them.
     /// Goes over all keys; of a key under which no row was ever out, no row is looked at. Takes no memory.
+    #[tactic(auto, using(crate::proofs::Indexes::as_many_mapped))]
     pub fn settle(&mut self, which: &Consumers)
         ensures keys { self.new.keys ≡ self.old.keys }
         ensures list { self.new.list ≡ map (spec.settled (are_meant which.now)) self.old.list }
@@ -345,6 +349,7 @@ impl Stations {
 
     /// The rows that are out through one of those consumers wait again, at their places and with their counts. Goes over
     /// all keys; of a key under which no row was ever out, no row is looked at. Takes no memory.
+    #[tactic(auto, using(crate::proofs::Indexes::as_many_mapped))]
     pub fn give_back(&mut self, which: &Consumers)
         ensures keys { self.new.keys ≡ self.old.keys }
         ensures list { self.new.list ≡ map (spec.returned (are_meant which.now)) self.old.list }

@@ -1,7 +1,6 @@
 use Rattle.std.proofs.Common.{refl, ◌≡◌, ◌<◌, ◌+◌, ◌++◌, ◌∷◌, [], ◌∙◌, ap, sym, None, min}
 use Rattle.std.proofs.lemmas.List.{length-append}
 use Rattle.indexmap.specs.IndexSet.{spare}
-use Rattle.jm_stations.specs.Backlogs.{empty}
 use Rattle.jm_stations.specs.Stations.{index_in}
 use Rattle.jm_stations.proofs.Indexes.{when_ok, added_last, distinct_keys, room_left}
 use Rattle.jm_stations.proofs.stations.Stations.create.Goals as goal
@@ -12,7 +11,7 @@ invariant_of-self c =
     let room : 0 < min (spare c.self.inside.keys) c.self.inside.backlogs.list_room = rw (← c.self.view_is) at c.requires.room in
     let keys : c.insert.new.self.keys ≡ c.self.inside.keys.keys ++ c.args.key ∷ [] =
     when_ok c.insert.result (c.insert.ensures.succeeds (room_left (spare c.self.inside.keys) c.self.inside.backlogs.list_room room)) c.insert.ensures.keys ∙ added_last c.self.inside.keys.keys c.args.key absent in (
-      rw (keys, c.create.ensures) (length-append c.self.inside.keys.keys (c.args.key ∷ []) ∙ ap (λ n. n + 1) c.self.invariant.0 ∙ sym (length-append c.self.inside.backlogs.list (empty c.args.limit ∷ []))),
+      rw (keys, c.create.ensures) (length-append c.self.inside.keys.keys (c.args.key ∷ []) ∙ ap (λ n. n + 1) c.self.invariant.0 ∙ sym (length-append c.self.inside.backlogs.list (_ ∷ []))),
       distinct_keys c.insert.new.self.keys c.insert.ensures.unique,
     )
 
