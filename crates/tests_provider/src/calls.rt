@@ -1,47 +1,63 @@
 //! Calls of a test in few words, and their replies in fewer.
 
-use jm_base::{Mode, Refusal, Str};
+use jm_base::{List, Mode, Refusal, Str};
 use jm_dest::{ConnectionId, ConsumerId, Destination, Moment, Name, Number, SessionId};
 use jm_header::{Body, Draft, Message, Sender, stamp};
-use jm_machine::{Answer, ClientCall, Delivery, Reply, Request, Who};
+use jm_machine::{Answer, Call, ClientCall, Delivery, Reply, Request, Step, Who};
 use jm_property::Property;
 use std::alloc::{AllocError, Global};
 
-/// A call: sessions are number 1 of their connection, the topic is t, and the moment is 1000.
+/// A session: the number of its connection, and its own.
+pub(crate) type Numbers = (u32, u32);
+
+/// A call: the topic is t, and the moment is 1000 where none is given.
 #[derive(Clone, Copy)]
 pub(crate) enum Op {
     Open(u32),
     Start(u32),
     Stop(u32),
-    Session(u32),
+    CloseConnection(u32),
+    Session(Numbers, Mode),
+    CloseSession(Numbers),
     /// The consumer of that number, with a selector or with none.
-    Consumer(u32, u32, Option<&'static str>),
-    /// A text, with that property x or with none.
+    Consumer(Numbers, u32, Option<&'static str>),
+    CloseConsumer(Numbers, u32),
+    /// A text of session 1 of that connection, with that property x or with none.
     Send(u32, &'static str, Option<i64>),
-    Receive(u32, u32),
+    /// A text of session 1 of that connection, at that moment, with that time to live.
+    SendAt(u32, &'static str, i64, i64),
+    Receive(Numbers, u32),
+    ReceiveAt(Numbers, u32, i64),
+    Acknowledge(Numbers),
+    Recover(Numbers),
+    Missed(Numbers, u32),
 }
 
+/// Session 1 of that connection.
 pub(crate) fn session(connection: u32) -> Result<SessionId, Refusal> {
-    SessionId::new(ConnectionId::new(connection)?, 1)
+    session_of((connection, 1))
 }
 
-fn by_connection(connection: u32, request: Request) -> Result<ClientCall, Refusal> {
-    match ConnectionId::new(connection) {
-        Ok(id) => {
-            let who = Who::Connection(id);
-            Ok(ClientCall::Ask { who, request })
-        }
-        Err(refusal) => Err(refusal),
-    }
+pub(crate) fn session_of(numbers: Numbers) -> Result<SessionId, Refusal> {
+    SessionId::new(ConnectionId::new(numbers.0)?, numbers.1)
 }
 
-fn by_session(connection: u32, request: Request) -> Result<ClientCall, Refusal> {
-    match session(connection) {
-        Ok(id) => {
-            let who = Who::Session(id);
-            Ok(ClientCall::Ask { who, request })
+/// Who makes the call.
+fn who(op: Op) -> Result<Who, Refusal> {
+    match op {
+        Op::Open(c) | Op::Start(c) | Op::Stop(c) | Op::CloseConnection(c) => {
+            Ok(Who::Connection(ConnectionId::new(c)?))
         }
-        Err(refusal) => Err(refusal),
+        Op::Send(c, _, _) | Op::SendAt(c, _, _, _) => Ok(Who::Session(session(c)?)),
+        Op::Session(numbers, _)
+        | Op::CloseSession(numbers)
+        | Op::Consumer(numbers, _, _)
+        | Op::CloseConsumer(numbers, _)
+        | Op::Receive(numbers, _)
+        | Op::ReceiveAt(numbers, _, _)
+        | Op::Acknowledge(numbers)
+        | Op::Recover(numbers)
+        | Op::Missed(numbers, _) => Ok(Who::Session(session_of(numbers)?)),
     }
 }
 
@@ -63,10 +79,20 @@ fn create_consumer(alloc: Global, number: u32, text: Option<&str>) -> Result<Req
     })
 }
 
-fn receive(number: u32) -> Result<Request, Refusal> {
+fn receive(number: u32, now: i64) -> Result<Request, Refusal> {
     let consumer = ConsumerId::new(number)?;
-    let now = Moment::new(1000)?;
+    let now = Moment::new(now)?;
     Ok(Request::Receive { consumer, now })
+}
+
+fn close_consumer(number: u32) -> Result<Request, Refusal> {
+    let consumer = ConsumerId::new(number)?;
+    Ok(Request::CloseConsumer { consumer })
+}
+
+fn missed(number: u32) -> Result<Request, Refusal> {
+    let consumer = ConsumerId::new(number)?;
+    Ok(Request::Missed { consumer })
 }
 
 /// A text, with that property x or with none; a want of memory is seen by what is missing.
@@ -79,17 +105,24 @@ pub(crate) fn draft(alloc: Global, text: &str, x: Option<i64>) -> Draft {
     draft
 }
 
-fn send(alloc: Global, c: u32, text: &str, x: Option<i64>) -> Result<ClientCall, Refusal> {
-    let session = session(c)?;
-    let now = Moment::new(1000)?;
-    let destination = Destination::topic(alloc, "t")?;
-    let draft = draft(alloc, text, x);
-    Ok(ClientCall::Send {
-        session,
-        draft,
-        destination,
-        now,
-    })
+/// A send of session 1 of that connection, at that moment.
+fn send(alloc: Global, c: u32, draft: Draft, now: i64) -> Result<ClientCall, Refusal> {
+    match (session(c), Moment::new(now), Destination::topic(alloc, "t")) {
+        (Ok(session), Ok(now), Ok(destination)) => Ok(ClientCall::Send {
+            session,
+            draft,
+            destination,
+            now,
+        }),
+        _ => Err(Refusal::Memory),
+    }
+}
+
+/// A text with that time to live; a want of memory is seen by what is missing.
+fn expiring(alloc: Global, text: &str, time_to_live: i64) -> Draft {
+    let mut draft = draft(alloc, text, None);
+    let _ = draft.set_time_to_live(time_to_live);
+    draft
 }
 
 /// A message to that topic, of session 2.1 in that opening.
@@ -107,15 +140,71 @@ pub(crate) fn sent(
     stamp(draft(alloc, "a", x), topic, sender, 1, now)
 }
 
+/// Puts so many messages to t of session 2.1, stamped in that opening, into the list.
+fn fill(
+    alloc: Global,
+    messages: &mut List<Message>,
+    opening: u32,
+    x: Option<i64>,
+    count: u32,
+) -> Result<(), Refusal> {
+    for _ in 0..count {
+        messages.push(sent(alloc, opening, "t", x)?)?;
+    }
+    Ok(())
+}
+
+/// A step that publishes so many messages of session 2.1, stamped in that opening, with that property x or with none.
+pub(crate) fn publication(
+    alloc: Global,
+    opening: u32,
+    x: Option<i64>,
+    count: u32,
+) -> Result<Step, Refusal> {
+    let who = Who::Session(session(2)?);
+    let mut messages = List::new(Vec::new(alloc));
+    match fill(alloc, &mut messages, opening, x, count) {
+        Ok(()) => {
+            let call = Call::Publish(messages);
+            Ok(Step { who, call })
+        }
+        Err(refusal) => Err(refusal),
+    }
+}
+
+/// The request of a call that is no send.
+fn request(alloc: Global, op: Op) -> Result<Request, Refusal> {
+    match op {
+        Op::Open(_) => Ok(Request::Open),
+        Op::Start(_) => Ok(Request::Start),
+        Op::Stop(_) => Ok(Request::Stop),
+        Op::CloseConnection(_) => Ok(Request::CloseConnection),
+        Op::Session(_, mode) => Ok(Request::CreateSession { mode }),
+        Op::CloseSession(_) => Ok(Request::CloseSession),
+        Op::Consumer(_, k, text) => create_consumer(alloc, k, text),
+        Op::CloseConsumer(_, k) => close_consumer(k),
+        Op::Receive(_, k) => receive(k, 1000),
+        Op::ReceiveAt(_, k, now) => receive(k, now),
+        Op::Acknowledge(_) => Ok(Request::Acknowledge),
+        Op::Recover(_) => Ok(Request::Recover),
+        Op::Missed(_, k) => missed(k),
+        Op::Send(..) | Op::SendAt(..) => Err(Refusal::Store),
+    }
+}
+
+fn ask(alloc: Global, op: Op) -> Result<ClientCall, Refusal> {
+    let who = who(op)?;
+    match request(alloc, op) {
+        Ok(request) => Ok(ClientCall::Ask { who, request }),
+        Err(refusal) => Err(refusal),
+    }
+}
+
 pub(crate) fn call(alloc: Global, op: Op) -> Result<ClientCall, Refusal> {
     match op {
-        Op::Open(c) => by_connection(c, Request::Open),
-        Op::Start(c) => by_connection(c, Request::Start),
-        Op::Stop(c) => by_connection(c, Request::Stop),
-        Op::Session(c) => by_session(c, Request::CreateSession { mode: Mode::Auto }),
-        Op::Consumer(c, k, text) => by_session(c, create_consumer(alloc, k, text)?),
-        Op::Send(c, text, x) => send(alloc, c, text, x),
-        Op::Receive(c, k) => by_session(c, receive(k)?),
+        Op::Send(c, text, x) => send(alloc, c, draft(alloc, text, x), 1000),
+        Op::SendAt(c, text, now, ttl) => send(alloc, c, expiring(alloc, text, ttl), now),
+        _ => ask(alloc, op),
     }
 }
 
@@ -147,25 +236,33 @@ pub(crate) fn shown(alloc: Global, reply: &Reply) -> Result<String, AllocError> 
         Ok(Answer::Done) => format!(in alloc; "ok"),
         Ok(Answer::Sent(number)) => format!(in alloc; "sent {number}"),
         Ok(Answer::Nothing) => format!(in alloc; "none"),
+        Ok(Answer::Missed(number)) => format!(in alloc; "missed {number}"),
         Ok(Answer::Delivered(delivery)) => delivery_text(alloc, delivery),
         Err(refusal) => format!(in alloc; "{refusal}"),
     }
 }
 
 /// Two connections with a session each, in the first a consumer of all and one with a selector, and two messages, of which
-/// one was received.
-pub(crate) const OPS: [Op; 13] = [
+/// one was received; then each further kind of call.
+pub(crate) const OPS: [Op; 20] = [
     Op::Open(1),
     Op::Open(2),
-    Op::Session(1),
-    Op::Session(2),
-    Op::Consumer(1, 1, None),
-    Op::Consumer(1, 2, Some("x > 0")),
-    Op::Consumer(1, 3, Some("x = ")),
+    Op::Session((1, 1), Mode::Auto),
+    Op::Session((2, 1), Mode::Auto),
+    Op::Consumer((1, 1), 1, None),
+    Op::Consumer((1, 1), 2, Some("x > 0")),
+    Op::Consumer((1, 1), 3, Some("x = ")),
     Op::Start(1),
     Op::Send(2, "a", Some(1)),
     Op::Send(2, "b", None),
-    Op::Receive(1, 1),
+    Op::Receive((1, 1), 1),
     Op::Stop(2),
-    Op::Receive(1, 3),
+    Op::Receive((1, 1), 3),
+    Op::Missed((1, 1), 1),
+    Op::Acknowledge((1, 1)),
+    Op::Recover((1, 1)),
+    Op::Session((1, 2), Mode::Client),
+    Op::CloseConsumer((1, 2), 1),
+    Op::CloseSession((1, 2)),
+    Op::CloseConnection(3),
 ];

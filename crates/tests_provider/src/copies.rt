@@ -1,15 +1,16 @@
 //! Calls, steps, replies and what is held: a copy is the same, and what differs in a part is not.
 
-use crate::calls::{OPS, Op, call, sent, session};
+use crate::calls::{OPS, Op, call, publication, sent};
 use crate::runs::run;
 use crate::told::holds;
-use jm_base::{List, Refusal};
-use jm_core::Core;
+use jm_base::Refusal;
+use jm_core::{Consumer, Core, Station};
+use jm_dest::Key;
 use jm_header::Message;
 use jm_machine::{
     Answer, Call, ClientCall, Delivery, Reply, Request, Step, Who, copy_reply, same_reply,
 };
-use std::alloc::{AllocError, Global};
+use std::alloc::Global;
 
 /// Whether a copy of the one call is the other.
 fn copy_is(one: &ClientCall, other: &ClientCall) -> bool {
@@ -118,26 +119,11 @@ fn copied_replies(alloc: Global) -> (u32, u32) {
 #[test]
 fn replies_are_copied(rt: HostRuntime) {
     let copied = copied_replies(rt.alloc());
-    holds(&rt, "13 replies, 8 of them done", copied == (13, 8));
-}
-
-fn messages(alloc: Global, count: u32) -> Result<List<Message>, Refusal> {
-    let mut messages = List::new(Vec::new(alloc));
-    for _ in 0..count {
-        messages.push(sent(alloc, 1, "t", None)?)?;
-    }
-    Ok(messages)
-}
-
-/// A step that publishes so many messages.
-fn publication(alloc: Global, count: u32) -> Result<Step, Refusal> {
-    let who = Who::Session(session(1)?);
-    let call = Call::Publish(messages(alloc, count)?);
-    Ok(Step { who, call })
+    holds(&rt, "20 replies, 12 of them done", copied == (20, 12));
 }
 
 fn copy_is_publication(alloc: Global, one: &Step, count: u32) -> bool {
-    match publication(alloc, count) {
+    match publication(alloc, 1, None, count) {
         Ok(other) => copied_step_is(alloc, one, &other),
         Err(_) => false,
     }
@@ -145,7 +131,7 @@ fn copy_is_publication(alloc: Global, one: &Step, count: u32) -> bool {
 
 /// Whether a copy of a publication of so many messages is one of so many others.
 fn is_publication(alloc: Global, one: u32, other: u32) -> bool {
-    match publication(alloc, one) {
+    match publication(alloc, 1, None, one) {
         Ok(one) => copy_is_publication(alloc, &one, other),
         Err(_) => false,
     }
@@ -161,16 +147,29 @@ fn publications_are_told_apart(rt: HostRuntime) {
     }
 }
 
+/// Whether a copy of the answer is the same.
+fn answer_is_copied(answer: &Answer) -> bool {
+    match answer.copy() {
+        Ok(copy) => copy.is(answer),
+        Err(_) => false,
+    }
+}
+
 /// Whether a delivery of that count is a redelivery, where a copy of it is the same.
-fn is_redelivery(alloc: Global, count: u32) -> Result<bool, Refusal> {
-    let message = sent(alloc, 1, "t", None)?;
+fn redelivered(message: Message, count: u32) -> Result<bool, Refusal> {
     let delivery = Delivery { message, count };
     let is_redelivered = delivery.redelivered();
-    let answer = Answer::Delivered(delivery);
-    if answer.copy()?.is(&answer) {
+    if answer_is_copied(&Answer::Delivered(delivery)) {
         Ok(is_redelivered)
     } else {
         Err(Refusal::Store)
+    }
+}
+
+fn is_redelivery(alloc: Global, count: u32) -> Result<bool, Refusal> {
+    match sent(alloc, 1, "t", None) {
+        Ok(message) => redelivered(message, count),
+        Err(refusal) => Err(refusal),
     }
 }
 
@@ -185,25 +184,41 @@ fn first_delivery_is_not_redelivered(rt: HostRuntime) {
     );
 }
 
+fn station_is_copied(alloc: Global, station: &Station) -> bool {
+    match station.copy(alloc) {
+        Ok(copy) => copy == *station,
+        Err(_) => false,
+    }
+}
+
+/// Whether a copy of what is held under the key is the same.
+fn held_under(alloc: Global, core: &Core, key: &Key) -> bool {
+    match core.station(key) {
+        Ok(Some(station)) => station_is_copied(alloc, &station),
+        _ => false,
+    }
+}
+
+fn consumer_is_copied(consumer: &Consumer) -> bool {
+    match consumer.copy() {
+        Ok(copy) => copy == *consumer,
+        Err(_) => false,
+    }
+}
+
 /// Whether copies of what the core holds are the same.
-fn holds_copies(alloc: Global, core: &Core) -> Result<bool, AllocError> {
+fn holds_copies(alloc: Global, core: &Core) -> bool {
     for consumer in core.consumers() {
-        let Some(station) = core.station(&consumer.key)? else {
-            return Ok(false);
-        };
-        if station.copy(alloc)? != station {
-            return Ok(false);
-        }
-        if consumer.copy()? != *consumer {
-            return Ok(false);
+        if !(held_under(alloc, core, &consumer.key) && consumer_is_copied(consumer)) {
+            return false;
         }
     }
-    Ok(true)
+    true
 }
 
 fn held_is_copied(alloc: Global, core: &mut Core) -> bool {
     let _ = run(alloc, core, &OPS);
-    core.stations_len() == 2 && holds_copies(alloc, core) == Ok(true)
+    core.stations_len() == 2 && holds_copies(alloc, core)
 }
 
 fn run_is_copied(alloc: Global) -> bool {

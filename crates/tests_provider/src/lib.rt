@@ -4,6 +4,8 @@
 #![tactic(auto)]
 
 #[cfg(test)]
+mod acknowledgement;
+#[cfg(test)]
 mod calls;
 #[cfg(test)]
 mod copies;

@@ -3,7 +3,7 @@
 use crate::calls::{OPS, Op, calls, session, shown};
 use crate::runs::run;
 use crate::told::{holds, is_text, is_told};
-use jm_base::Refusal;
+use jm_base::{Mode, Refusal};
 use jm_core::Core;
 use jm_dest::{ConsumerId, Key, Name, Number};
 use jm_machine::{Answer, Entry, Reply};
@@ -14,13 +14,13 @@ use std::alloc::{AllocError, Global};
 const FIRST_MESSAGE: [Op; 9] = [
     Op::Open(1),
     Op::Open(2),
-    Op::Session(1),
-    Op::Session(2),
-    Op::Consumer(1, 1, None),
+    Op::Session((1, 1), Mode::Auto),
+    Op::Session((2, 1), Mode::Auto),
+    Op::Consumer((1, 1), 1, None),
     Op::Start(1),
     Op::Send(2, "a", None),
-    Op::Receive(1, 1),
-    Op::Receive(1, 1),
+    Op::Receive((1, 1), 1),
+    Op::Receive((1, 1), 1),
 ];
 
 /// The key of that consumer of session 1.1; of consumer 0, the key of a queue.
@@ -126,7 +126,7 @@ fn told(alloc: Global, ops: &[Op], places: &[usize], consumer: u32) -> Result<St
 /// Consumers, and what their subscriptions answer alone; 0 stands for a queue.
 const ALONE: [(u32, &str); 5] = [
     (0, "not unshared"),
-    (1, "4 ok, 10 a#1, "),
+    (1, "4 ok, 10 a#1, 13 missed 0, "),
     (2, "5 ok, "),
     (3, "6 InvalidSelector Expected 4, 12 IllegalState, "),
     (4, ""),
@@ -145,17 +145,42 @@ fn wrong_replies_are_not_handed_back(rt: HostRuntime) {
     is_text(&rt, "4 ok, 7 a#1, 8 none, ", told);
 }
 
+/// A message that comes again after its session recovered, and is acknowledged; then the session closes.
+const REDELIVERED: [Op; 15] = [
+    Op::Open(1),
+    Op::Open(2),
+    Op::Session((1, 1), Mode::Client),
+    Op::Session((2, 1), Mode::Auto),
+    Op::Consumer((1, 1), 1, None),
+    Op::Start(1),
+    Op::Send(2, "a", None),
+    Op::Receive((1, 1), 1),
+    Op::Recover((1, 1)),
+    Op::Receive((1, 1), 1),
+    Op::Acknowledge((1, 1)),
+    Op::Recover((1, 1)),
+    Op::Receive((1, 1), 1),
+    Op::CloseSession((1, 1)),
+    Op::Receive((1, 1), 1),
+];
+
+#[test]
+fn what_comes_again_comes_again_alone(rt: HostRuntime) {
+    let told = told(rt.alloc(), &REDELIVERED, &[], 1);
+    is_text(&rt, "4 ok, 7 a#1, 9 a#2, 12 none, 14 IllegalState, ", told);
+}
+
 /// A connection that is opened again, once a message came.
 const OPENED_TWICE: [Op; 9] = [
     Op::Open(1),
     Op::Open(2),
-    Op::Session(1),
-    Op::Session(2),
-    Op::Consumer(1, 1, None),
+    Op::Session((1, 1), Mode::Auto),
+    Op::Session((2, 1), Mode::Auto),
+    Op::Consumer((1, 1), 1, None),
     Op::Start(1),
     Op::Send(2, "a", None),
     Op::Open(1),
-    Op::Receive(1, 1),
+    Op::Receive((1, 1), 1),
 ];
 
 /// The record of those calls, in which the second opening was accepted.
@@ -183,9 +208,9 @@ fn a_second_opening_is_not_seen(rt: HostRuntime) {
 const WAITING: [Op; 8] = [
     Op::Open(1),
     Op::Open(2),
-    Op::Session(1),
-    Op::Session(2),
-    Op::Consumer(1, 1, None),
+    Op::Session((1, 1), Mode::Auto),
+    Op::Session((2, 1), Mode::Auto),
+    Op::Consumer((1, 1), 1, None),
     Op::Start(1),
     Op::Send(2, "a", None),
     Op::Send(2, "b", None),
@@ -193,10 +218,10 @@ const WAITING: [Op; 8] = [
 
 /// What comes next.
 const GOING_ON: [Op; 4] = [
-    Op::Receive(1, 1),
+    Op::Receive((1, 1), 1),
     Op::Send(2, "c", None),
-    Op::Receive(1, 1),
-    Op::Receive(1, 1),
+    Op::Receive((1, 1), 1),
+    Op::Receive((1, 1), 1),
 ];
 
 /// The record of what comes next on that core.

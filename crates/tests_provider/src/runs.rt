@@ -1,9 +1,10 @@
 //! The core: replies, what is held after them, and stamps of another opening.
 
-use crate::calls::{OPS, Op, calls, sent, session, shown};
+use crate::calls::{OPS, Op, calls, publication, shown};
 use crate::told::{holds, is_text};
-use jm_base::{List, Refusal};
-use jm_core::{Call, Core, Reply, Step, Who};
+use jm_base::{Mode, Refusal};
+use jm_core::{Core, Reply, Step};
+use jm_dest::Key;
 use std::alloc::{AllocError, Global};
 
 /// The replies of the core to those calls.
@@ -31,36 +32,40 @@ fn replies(alloc: Global) -> Result<String, AllocError> {
 }
 
 const REPLIES: &str =
-    "ok, ok, ok, ok, ok, ok, InvalidSelector Expected 4, ok, sent 1, sent 2, a#1, ok, IllegalState, ";
+    "ok, ok, ok, ok, ok, ok, InvalidSelector Expected 4, ok, sent 1, sent 2, a#1, ok, IllegalState, missed 0, ok, ok, ok, \
+     IllegalState, ok, IllegalState, ";
 
 #[test]
 fn replies_of_a_run(rt: HostRuntime) {
     is_text(&rt, REPLIES, replies(rt.alloc()));
 }
 
-/// Whether there is a row for each consumer.
-fn each_has_rows(core: &Core) -> Result<bool, AllocError> {
-    for consumer in core.consumers() {
-        match core.station(&consumer.key)? {
-            None => return Ok(false),
-            Some(station) => {
-                if station.rows.as_slice().is_empty() {
-                    return Ok(false);
-                }
-            }
-        }
+/// Whether there is a row under the key.
+fn has_rows(core: &Core, key: &Key) -> bool {
+    match core.station(key) {
+        Ok(Some(station)) => !station.rows.as_slice().is_empty(),
+        _ => false,
     }
-    Ok(true)
 }
 
-/// Whether the core holds two connections, two sessions, two consumers, and two subscriptions, each with a row of its own
+/// Whether there is a row for each consumer.
+fn each_has_rows(core: &Core) -> bool {
+    for consumer in core.consumers() {
+        if !has_rows(core, &consumer.key) {
+            return false;
+        }
+    }
+    true
+}
+
+/// Whether the core holds two connections, three sessions, two consumers, and two subscriptions, each with a row of its own
 /// message, has used two places, and is of opening 1.
 pub(crate) fn has_run(core: &Core) -> bool {
     core.connections().len() == 2
-        && core.sessions().len() == 2
+        && core.sessions().len() == 3
         && core.consumers().len() == 2
         && core.stations_len() == 2
-        && each_has_rows(core) == Ok(true)
+        && each_has_rows(core)
         && core.kept() == 2
         && core.next_place() == 3
         && core.opening().get() == 1
@@ -105,20 +110,19 @@ fn limits_are_up_to_a_million(rt: HostRuntime) {
     let alloc = rt.alloc();
     holds(&rt, "0", limit_of(alloc, 0) == Err(Refusal::OutOfRange));
     holds(&rt, "1", limit_of(alloc, 1) == Ok(1));
-    holds(&rt, "1,000,000", limit_of(alloc, 1_000_000) == Ok(1_000_000));
-    holds(&rt, "1,000,001", limit_of(alloc, 1_000_001) == Err(Refusal::OutOfRange));
+    holds(
+        &rt,
+        "1,000,000",
+        limit_of(alloc, 1_000_000) == Ok(1_000_000),
+    );
+    holds(
+        &rt,
+        "1,000,001",
+        limit_of(alloc, 1_000_001) == Err(Refusal::OutOfRange),
+    );
 }
 
-/// A step that publishes a message of session 2.1, stamped in that opening.
-fn publication(alloc: Global, opening: u32) -> Result<Step, Refusal> {
-    let who = Who::Session(session(2)?);
-    let mut messages = List::new(Vec::new(alloc));
-    messages.push(sent(alloc, opening, "t", None)?)?;
-    let call = Call::Publish(messages);
-    Ok(Step { who, call })
-}
-
-const SESSION: [Op; 2] = [Op::Open(2), Op::Session(2)];
+const SESSION: [Op; 2] = [Op::Open(2), Op::Session((2, 1), Mode::Auto)];
 
 /// The next place after the step in a core with that session.
 fn next_place_after(alloc: Global, core: &mut Core, step: &Step) -> Result<u64, Refusal> {
@@ -132,7 +136,7 @@ fn next_place_after(alloc: Global, core: &mut Core, step: &Step) -> Result<u64, 
 
 /// The next place after a message of session 2.1 that was stamped in that opening is published in opening 1.
 fn next_place(alloc: Global, opening: u32) -> Result<u64, Refusal> {
-    let step = publication(alloc, opening)?;
+    let step = publication(alloc, opening, None, 1)?;
     match Core::new(alloc, 1, 100_000) {
         Ok(mut core) => next_place_after(alloc, &mut core, &step),
         Err(refusal) => Err(refusal),

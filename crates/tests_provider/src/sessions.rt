@@ -3,6 +3,7 @@
 use crate::told::{holds, is_true};
 use jm_base::{Mode, Refusal};
 use jm_dest::{ConnectionId, ConsumerId, Key, SessionId};
+use jm_machine::Consumer;
 use jm_session::Sessions;
 use std::alloc::Global;
 
@@ -85,11 +86,23 @@ fn has_lists(sessions: &Sessions) -> bool {
         && sessions.consumers().len() == 2
 }
 
-/// Whether the calls are answered as wanted, with room for so many calls.
+/// What is known after those calls; one that is not answered as wanted is seen by what is missing.
+fn made(alloc: Global) -> Sessions {
+    let mut sessions = Sessions::new(alloc);
+    let _ = are_made(&mut sessions, &CALLS);
+    sessions
+}
+
+/// Whether the calls are answered as wanted, after room was made for so many calls.
+fn answers(sessions: &mut Sessions, room: usize) -> Result<bool, Refusal> {
+    sessions.reserve(room)?;
+    Ok(are_made(sessions, &CALLS) && has_lists(sessions))
+}
+
+/// The same from the first call on.
 fn is_answered(alloc: Global, room: usize) -> Result<bool, Refusal> {
     let mut sessions = Sessions::new(alloc);
-    sessions.reserve(room)?;
-    Ok(are_made(&mut sessions, &CALLS) && has_lists(&sessions))
+    answers(&mut sessions, room)
 }
 
 #[test]
@@ -112,14 +125,19 @@ const CONNECTIONS: [(u32, (bool, bool)); 3] = [
     (3, (false, false)),
 ];
 
+fn connections_are_known(sessions: &Sessions) -> bool {
+    for (connection, wanted) in &CONNECTIONS {
+        if connection_known(sessions, *connection) != Ok(*wanted) {
+            return false;
+        }
+    }
+    true
+}
+
 #[test]
 fn connections_by_number(rt: HostRuntime) {
-    let mut sessions = Sessions::new(rt.alloc());
-    let _ = are_made(&mut sessions, &CALLS);
-    for (connection, wanted) in &CONNECTIONS {
-        let known = connection_known(&sessions, *connection);
-        holds(&rt, "a connection", known == Ok(*wanted));
-    }
+    let are_known = connections_are_known(&made(rt.alloc()));
+    holds(&rt, "connections", are_known);
 }
 
 /// Whether the session is open, and whether it may be opened.
@@ -140,14 +158,19 @@ const SESSIONS: [(u32, u32, (bool, bool)); 5] = [
     (3, 1, (false, false)),
 ];
 
+fn sessions_are_known(sessions: &Sessions) -> bool {
+    for (c, s, wanted) in &SESSIONS {
+        if session_known(sessions, *c, *s) != Ok(*wanted) {
+            return false;
+        }
+    }
+    true
+}
+
 #[test]
 fn sessions_by_number(rt: HostRuntime) {
-    let mut sessions = Sessions::new(rt.alloc());
-    let _ = are_made(&mut sessions, &CALLS);
-    for (c, s, wanted) in &SESSIONS {
-        let known = session_known(&sessions, *c, *s);
-        holds(&rt, "a session", known == Ok(*wanted));
-    }
+    let are_known = sessions_are_known(&made(rt.alloc()));
+    holds(&rt, "sessions", are_known);
 }
 
 /// Whether that consumer of session 1.s was made, may be made, and may receive.
@@ -167,13 +190,26 @@ const CONSUMERS: [(u32, u32, [bool; 3]); 4] = [
     (3, 1, [false, false, false]),
 ];
 
+fn consumers_are_known(sessions: &Sessions) -> bool {
+    for (s, k, wanted) in &CONSUMERS {
+        if consumer_known(sessions, *s, *k) != Ok(*wanted) {
+            return false;
+        }
+    }
+    true
+}
+
 #[test]
 fn consumers_by_number(rt: HostRuntime) {
-    let mut sessions = Sessions::new(rt.alloc());
-    let _ = are_made(&mut sessions, &CALLS);
-    for (s, k, wanted) in &CONSUMERS {
-        let known = consumer_known(&sessions, *s, *k);
-        holds(&rt, "a consumer", known == Ok(*wanted));
+    let are_known = consumers_are_known(&made(rt.alloc()));
+    holds(&rt, "consumers", are_known);
+}
+
+/// A copy of consumer 1 of the session, where it was made.
+fn first_of(sessions: &Sessions, session: &SessionId) -> Result<Option<Consumer>, Refusal> {
+    match sessions.consumer_of(session, ConsumerId::new(1)?) {
+        Some(consumer) => Ok(Some(consumer.copy()?)),
+        None => Ok(None),
     }
 }
 
@@ -181,12 +217,11 @@ fn consumers_by_number(rt: HostRuntime) {
 fn one_of(alloc: Global, sessions: &Sessions, number: u32) -> Result<Sessions, Refusal> {
     let session = session(number, 1)?;
     let connection = sessions.connection_of(session.connection);
-    let consumer = match sessions.consumer_of(&session, ConsumerId::new(1)?) {
-        Some(consumer) => Some(consumer.copy()?),
-        None => None,
-    };
     let known = sessions.session_of(&session);
-    Ok(Sessions::of_one(alloc, connection, known, consumer)?)
+    match first_of(sessions, &session) {
+        Ok(consumer) => Ok(Sessions::of_one(alloc, connection, known, consumer)?),
+        Err(refusal) => Err(refusal),
+    }
 }
 
 /// How many connections, sessions and consumers are known.
@@ -204,8 +239,11 @@ fn one_known(
     sessions: &Sessions,
     number: u32,
 ) -> Result<([usize; 3], bool), Refusal> {
-    let one = one_of(alloc, sessions, number)?;
-    Ok((counts(&one), one.is_started(ConnectionId::new(number)?)))
+    let connection = ConnectionId::new(number)?;
+    match one_of(alloc, sessions, number) {
+        Ok(one) => Ok((counts(&one), one.is_started(connection))),
+        Err(refusal) => Err(refusal),
+    }
 }
 
 /// Connections, how many connections, sessions and consumers are taken of each, and whether it is started.
@@ -215,14 +253,21 @@ const TAKEN: [(u32, ([usize; 3], bool)); 3] = [
     (3, ([0, 0, 0], false)),
 ];
 
+fn ones_are_known(alloc: Global, sessions: &Sessions) -> bool {
+    for (number, wanted) in &TAKEN {
+        if one_known(alloc, sessions, *number) != Ok(*wanted) {
+            return false;
+        }
+    }
+    true
+}
+
 #[test]
 fn what_is_known_of_one_session(rt: HostRuntime) {
-    let mut sessions = Sessions::new(rt.alloc());
-    let _ = are_made(&mut sessions);
-    for (number, wanted) in &TAKEN {
-        let known = one_known(rt.alloc(), &sessions, *number);
-        holds(&rt, "one session", known == Ok(*wanted));
-    }
+    let are_known = ones_are_known(rt.alloc(), &made(rt.alloc()));
+    holds(&rt, "one session", are_known);
+}
+
 /// Calls after those, and whether each is done; the others are refused.
 const CLOSES: [(Op, bool); 22] = [
     (Op::CloseConsumer(1, 1, 2), false),
@@ -283,12 +328,16 @@ fn are_open(sessions: &Sessions, rows: &[(u32, [bool; 3])]) -> bool {
     true
 }
 
+/// Whether those calls close what they should, and all stays known.
+fn are_closed(sessions: &mut Sessions) -> bool {
+    are_open(sessions, &OPEN)
+        && are_made(sessions, &CLOSES)
+        && are_open(sessions, &OPEN_AFTER)
+        && has_lists(sessions)
+}
+
 #[test]
 fn closing_calls(rt: HostRuntime) {
-    let mut sessions = Sessions::new(rt.alloc());
-    let _ = are_made(&mut sessions, &CALLS);
-    holds(&rt, "before", are_open(&sessions, &OPEN));
-    holds(&rt, "closings", are_made(&mut sessions, &CLOSES));
-    holds(&rt, "after", are_open(&sessions, &OPEN_AFTER));
-    holds(&rt, "all stay known", has_lists(&sessions));
+    let are_closed = are_closed(&mut made(rt.alloc()));
+    holds(&rt, "closings", are_closed);
 }

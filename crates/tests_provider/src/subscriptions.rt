@@ -2,7 +2,7 @@
 
 use crate::calls::{selector, sent, session};
 use crate::told::{holds, is_text};
-use jm_base::{Cause, Refusal};
+use jm_base::{Cause, Refusal, Str};
 use jm_dest::{ConnectionId, ConsumerId, Key, Name};
 use jm_header::Message;
 use jm_machine::Consumers;
@@ -25,13 +25,34 @@ const FOUR: [Row; 4] = [
     (4, "u", Some("x > 0")),
 ];
 
+/// Makes the subscription of that consumer.
+fn put(
+    subs: &mut Subs,
+    consumer: u32,
+    topic: &Name,
+    selector: &Option<Str>,
+) -> Result<(), Refusal> {
+    let decision = subs.decide_create(key(consumer)?, topic, selector)?;
+    subs.apply(decision);
+    Ok(())
+}
+
+/// The same with the text of a selector, or with none.
+fn put_with(
+    alloc: Global,
+    subs: &mut Subs,
+    consumer: u32,
+    topic: &Name,
+    text: Option<&str>,
+) -> Result<(), Refusal> {
+    let selector = selector(alloc, text)?;
+    put(subs, consumer, topic, &selector)
+}
+
 fn create(alloc: Global, subs: &mut Subs, row: Row) -> Result<(), Refusal> {
     let (consumer, topic, text) = row;
     let topic = Name::new(alloc, topic)?;
-    let selector = selector(alloc, text)?;
-    let decision = subs.decide_create(key(consumer)?, &topic, &selector)?;
-    subs.apply(decision);
-    Ok(())
+    put_with(alloc, subs, consumer, &topic, text)
 }
 
 /// Four subscriptions; a want of memory is seen by what is missing.
