@@ -1,10 +1,10 @@
 //! Where a record is damaged of which a field is cut or not allowed.
 
-use crate::both_ways::{is_damaged, read, written};
+use crate::both_ways::{damage, is_written_as, read};
 use crate::full::RECORD;
-use std::alloc::Global;
+use crate::told::{holds, is_number};
+use std::alloc::{AllocError, Global};
 use std::process::Abort;
-use std::test::Fail;
 
 /// Where the fields begin, and where the last of them ends.
 const STARTS: [usize; 43] = [
@@ -87,8 +87,13 @@ const LIMITS: [(usize, u8); 16] = [
 ];
 
 /// The record with those bytes at a place.
-fn changed(alloc: Global, place: usize, bytes: &[u8]) -> Result<Vec<u8>, Fail> {
-    let mut record = Vec::from_slice(alloc, RECORD.as_slice())?;
+fn changed(
+    alloc: Global,
+    record: &[u8],
+    place: usize,
+    bytes: &[u8],
+) -> Result<Vec<u8>, AllocError> {
+    let mut record = Vec::from_slice(alloc, record)?;
     for (index, byte) in bytes.iter().enumerate() {
         if let Some(old) = record.get_mut(place.saturating_add(index)) {
             *old = *byte;
@@ -97,46 +102,71 @@ fn changed(alloc: Global, place: usize, bytes: &[u8]) -> Result<Vec<u8>, Fail> {
     Ok(record)
 }
 
-#[test]
-fn numbers_that_are_not_allowed(rt: HostRuntime) -> Result<(), Fail> {
-    for (place, byte, at) in NUMBERS {
-        let bytes = changed(rt.alloc(), place, &[byte])?;
-        is_damaged(&rt, rt.alloc(), bytes.as_slice(), at);
+/// Where the record with those bytes at a place is damaged.
+pub(crate) fn damage_of_change(
+    alloc: Global,
+    record: &[u8],
+    place: usize,
+    bytes: &[u8],
+) -> Option<usize> {
+    match changed(alloc, record, place, bytes) {
+        Ok(record) => damage(alloc, record.as_slice()),
+        Err(_) => None,
     }
-    Ok(())
 }
 
 #[test]
-fn texts_that_are_not_allowed(rt: HostRuntime) -> Result<(), Fail> {
-    for (place, byte, at) in TEXTS {
-        let bytes = changed(rt.alloc(), place, &[byte])?;
-        is_damaged(&rt, rt.alloc(), bytes.as_slice(), at);
+fn numbers_that_are_not_allowed(rt: HostRuntime) {
+    for (place, byte, at) in &NUMBERS {
+        is_number(
+            &rt,
+            *at,
+            damage_of_change(rt.alloc(), RECORD, *place, &[*byte]),
+        );
     }
-    Ok(())
+}
+
+#[test]
+fn texts_that_are_not_allowed(rt: HostRuntime) {
+    for (place, byte, at) in &TEXTS {
+        is_number(
+            &rt,
+            *at,
+            damage_of_change(rt.alloc(), RECORD, *place, &[*byte]),
+        );
+    }
 }
 
 /// A length of 2^64-1: a request for so much memory would be refused, and that would be told.
 #[test]
-fn lengths_that_are_not_there(rt: HostRuntime) -> Result<(), Fail> {
-    for at in BLOCKS {
-        let bytes = changed(rt.alloc(), at, &[0xff; 8])?;
-        is_damaged(&rt, rt.alloc(), bytes.as_slice(), at);
+fn lengths_that_are_not_there(rt: HostRuntime) {
+    for at in &BLOCKS {
+        is_number(
+            &rt,
+            *at,
+            damage_of_change(rt.alloc(), RECORD, *at, &[0xff; 8]),
+        );
     }
-    Ok(())
 }
 
 /// A number of properties of 2^64-1.
 #[test]
-fn properties_that_are_not_there(rt: HostRuntime) -> Result<(), Fail> {
-    let bytes = changed(rt.alloc(), 80, &[0xff; 8])?;
-    is_damaged(&rt, rt.alloc(), bytes.as_slice(), 231);
-    Ok(())
+fn properties_that_are_not_there(rt: HostRuntime) {
+    is_number(
+        &rt,
+        231,
+        damage_of_change(rt.alloc(), RECORD, 80, &[0xff; 8]),
+    );
 }
 
 /// The record is cut at each byte of the field from the start to the end.
 fn field_is_cut(rt: &impl Abort, alloc: Global, start: usize, end: usize) {
     for cut in start..end {
-        is_damaged(rt, alloc, RECORD.get(..cut).unwrap_or_default(), start);
+        is_number(
+            rt,
+            start,
+            damage(alloc, RECORD.get(..cut).unwrap_or_default()),
+        );
     }
 }
 
@@ -149,27 +179,45 @@ fn each_field_cut(rt: HostRuntime) {
     }
 }
 
-#[test]
-fn a_byte_after_the_end(rt: HostRuntime) -> Result<(), Fail> {
-    let mut bytes = Vec::from_slice(rt.alloc(), RECORD.as_slice())?;
-    bytes.push(0)?;
-    is_damaged(&rt, rt.alloc(), bytes.as_slice(), 231);
-    Ok(())
+/// The record with a byte after its end.
+fn longer(alloc: Global, record: &[u8]) -> Result<Vec<u8>, AllocError> {
+    let mut record = Vec::from_slice(alloc, record)?;
+    record.push(0)?;
+    Ok(record)
 }
 
-/// The bytes are those of a message's record.
-fn is_record(rt: &impl Abort, alloc: Global, bytes: &[u8], place: usize) -> Result<(), Fail> {
-    let message = read(alloc, bytes)?;
-    let again = written(alloc, &message)?;
-    assert!(rt; again.as_slice() == bytes, "at {place}");
-    Ok(())
-}
-
-#[test]
-fn values_at_the_limits(rt: HostRuntime) -> Result<(), Fail> {
-    for (place, byte) in LIMITS {
-        let bytes = changed(rt.alloc(), place, &[byte])?;
-        is_record(&rt, rt.alloc(), bytes.as_slice(), place)?;
+/// Where the record with a byte after its end is damaged.
+pub(crate) fn damage_of_longer(alloc: Global, record: &[u8]) -> Option<usize> {
+    match longer(alloc, record) {
+        Ok(record) => damage(alloc, record.as_slice()),
+        Err(_) => None,
     }
-    Ok(())
+}
+
+#[test]
+fn a_byte_after_the_end(rt: HostRuntime) {
+    is_number(&rt, 231, damage_of_longer(rt.alloc(), RECORD));
+}
+
+/// Whether the bytes are those of a message's record.
+fn is_record(alloc: Global, bytes: &[u8]) -> bool {
+    match read(alloc, bytes) {
+        Ok(message) => is_written_as(alloc, &message, bytes),
+        Err(_) => false,
+    }
+}
+
+/// Whether the record with that byte at a place is one.
+fn is_changed_record(alloc: Global, place: usize, byte: u8) -> bool {
+    match changed(alloc, RECORD, place, &[byte]) {
+        Ok(record) => is_record(alloc, record.as_slice()),
+        Err(_) => false,
+    }
+}
+
+#[test]
+fn values_at_the_limits(rt: HostRuntime) {
+    for (place, byte) in &LIMITS {
+        holds(&rt, "a limit", is_changed_record(rt.alloc(), *place, *byte));
+    }
 }

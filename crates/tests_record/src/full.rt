@@ -5,7 +5,6 @@ use jm_dest::{ConnectionId, Destination, Moment, Number, SessionId};
 use jm_header::{DeliveryMode, Draft, Message, Sender, stamp};
 use jm_property::Property;
 use std::alloc::Global;
-use std::test::Fail;
 
 /// The bytes: of the fields before the destination's name, of the texts and the body, and of each property.
 pub(crate) const RECORD: &[u8; 231] = b"\
@@ -21,56 +20,65 @@ pub(crate) const RECORD: &[u8; 231] = b"\
 \0\0\0\0\0\0\0\x0bJMSXGroupID\x06\0\0\0\0\0\0\0\x01g\
 \0\0\0\0\0\0\0\x0cJMSXGroupSeq\x04\0\0\0\x01";
 
+fn session(connection: u32, session: u32) -> Result<SessionId, Refusal> {
+    SessionId::new(ConnectionId::new(connection)?, session)
+}
+
 /// The session of that number in that connection, in that opening.
-pub(crate) fn sender(opening: u32, connection: u32, session: u32) -> Result<Sender, Refusal> {
-    let opening = Number::new(opening)?;
-    let connection = ConnectionId::new(connection)?;
-    let session = SessionId::new(connection, session)?;
-    Ok(Sender { opening, session })
+pub(crate) fn sender(opening: u32, connection: u32, number: u32) -> Option<Sender> {
+    match (Number::new(opening), session(connection, number)) {
+        (Ok(opening), Ok(session)) => Some(Sender { opening, session }),
+        _ => None,
+    }
 }
 
 /// The draft sent at moment 1000 as the send of number 5.
-pub(crate) fn sent(alloc: Global, draft: Draft) -> Result<Message, Fail> {
-    let queue = Destination::queue(alloc, "q")?;
-    Ok(stamp(draft, queue, sender(7, 2, 3)?, 5, Moment::new(1000)?)?)
+pub(crate) fn sent(alloc: Global, draft: Draft) -> Option<Message> {
+    match (
+        Destination::queue(alloc, "q"),
+        sender(7, 2, 3),
+        Moment::new(1000),
+    ) {
+        (Ok(queue), Some(sender), Ok(now)) => stamp(draft, queue, sender, 5, now).ok(),
+        _ => None,
+    }
 }
 
-fn set_header(draft: &mut Draft) -> Result<(), Fail> {
+/// Sets the fields besides the body and the properties; what is refused is seen by what is missing, as in all that follows.
+fn set_header(draft: &mut Draft) {
     draft.set_mode(DeliveryMode::NonPersistent);
-    draft.set_priority(9)?;
-    draft.set_time_to_live(10)?;
-    draft.set_correlation("c")?;
-    draft.set_type("t")?;
-    Ok(())
+    let _ = draft.set_priority(9);
+    let _ = draft.set_time_to_live(10);
+    let _ = draft.set_correlation("c");
+    let _ = draft.set_type("t");
 }
 
-fn set_numbers(draft: &mut Draft) -> Result<(), Fail> {
-    draft.set_property("a", Property::Bool(true))?;
-    draft.set_property("b", Property::Byte(-128))?;
-    draft.set_property("c", Property::Short(-2))?;
-    draft.set_property("NULM", Property::Int(2147483647))?;
-    draft.set_property("e", Property::Long(-9223372036854775808))?;
-    Ok(())
+fn set_numbers(draft: &mut Draft) {
+    let _ = draft.set_property("a", Property::Bool(true));
+    let _ = draft.set_property("b", Property::Byte(-128));
+    let _ = draft.set_property("c", Property::Short(-2));
+    let _ = draft.set_property("NULM", Property::Int(2147483647));
+    let _ = draft.set_property("e", Property::Long(-9223372036854775808));
 }
 
-fn text(alloc: Global, text: &str) -> Result<Property, Fail> {
-    let text = String::from_str(alloc, text)?;
-    Ok(Property::Text(Str::new(text)))
+fn set_text(draft: &mut Draft, alloc: Global, name: &str, text: &str) {
+    if let Ok(text) = String::from_str(alloc, text) {
+        let _ = draft.set_property(name, Property::Text(Str::new(text)));
+    }
 }
 
-fn set_texts(draft: &mut Draft, alloc: Global) -> Result<(), Fail> {
-    draft.set_property("f", text(alloc, "\u{e9}")?)?;
-    draft.set_property("JMSXGroupID", text(alloc, "g")?)?;
-    draft.set_property("JMSXGroupSeq", Property::Int(1))?;
-    Ok(())
+fn set_texts(draft: &mut Draft, alloc: Global) {
+    set_text(draft, alloc, "f", "\u{e9}");
+    set_text(draft, alloc, "JMSXGroupID", "g");
+    let _ = draft.set_property("JMSXGroupSeq", Property::Int(1));
 }
 
 /// The message.
-pub(crate) fn message(alloc: Global) -> Result<Message, Fail> {
+pub(crate) fn message(alloc: Global) -> Option<Message> {
     let mut draft = Draft::new(alloc);
-    set_header(&mut draft)?;
-    draft.set_bytes(&[0, 0xff])?;
-    set_numbers(&mut draft)?;
-    set_texts(&mut draft, alloc)?;
+    set_header(&mut draft);
+    let _ = draft.set_bytes(&[0, 0xff]);
+    set_numbers(&mut draft);
+    set_texts(&mut draft, alloc);
     sent(alloc, draft)
 }

@@ -10,4 +10,6 @@ mod full;
 #[cfg(test)]
 mod round_trips;
 #[cfg(test)]
+mod told;
+#[cfg(test)]
 mod worked;
