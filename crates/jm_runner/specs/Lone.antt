@@ -41,7 +41,8 @@ abbrev pub lines_at : List ℕ → List (ℕ × Result Answer Refusal) → List 
 lines_at numbers [] = []
 lines_at numbers (placed ∷ replies) = line_at numbers placed ++ lines_at numbers replies
 
--- the lines of what the key's subscription answers alone, over the record of the run in opening 1 with that limit of held rows
+-- the lines of what the key's subscription answers alone, over the record of the run in opening 1 with that limit of
+-- held rows
 abbrev pub lines_alone : ℕ → Key → List ClientCall → List (Result Answer Refusal) → List ℕ
 lines_alone limit key calls replies = lines_at (numbers_from 1 1 calls replies) (alone key (new_core 1 limit) (entries_of 1 calls replies))
 

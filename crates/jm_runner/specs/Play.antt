@@ -35,7 +35,8 @@ RefusesSpelled bytes _ = ⊥
 abbrev pub GivesScenario : {R : Type 0} → (R → Option (List ℕ)) → Source R → Source R → Scenario → Type 0
 GivesScenario remaining old new scenario = (bytes : List ℕ) × GivesAll remaining old new bytes × SpellsScenario bytes scenario
 
--- why a source gives no scenario: it cannot be read, what it gave spells none, or memory is refused before a read failed
+-- why a source gives no scenario: it cannot be read, what it gave spells none, or memory is refused before a read
+-- failed
 abbrev pub RefusesScenario : {R : Type 0} → (R → Option (List ℕ)) → Source R → Source R → Fault → Type 0
 RefusesScenario remaining old new fault.File = IsUnreadable remaining old new
 RefusesScenario remaining old new (fault.Scenario refusal) = (bytes : List ℕ) × GivesAll remaining old new bytes × RefusesBytes bytes refusal
@@ -49,7 +50,8 @@ held_limit (Some given) own = given
 held_limit None (Some own) = own
 held_limit None None = 100000
 
--- the replies are those that a run owes to the calls, made in turn on a new provider in opening 1, with that limit of held rows
+-- the replies are those that a run owes to the calls, made in turn on a new provider in opening 1, with that limit of
+-- held rows
 abbrev pub IsRun : ℕ → List ClientCall → List (Result Answer Refusal) → Type 0
 IsRun limit calls replies = (end : Progress) × RunOwed (begun (new_core 1 limit)) calls replies end
 

@@ -48,8 +48,8 @@ pub(crate) fn new_core(alloc: Global, limit: u32) -> Core
     }
 }
 
-/// The replies to the calls, made in turn on a new provider with that limit of held rows. `AllocError` where a request for
-/// memory was refused.
+/// The replies to the calls, made in turn on a new provider with that limit of held rows. `AllocError` where a
+/// request for memory was refused.
 pub(crate) fn run(
     alloc: Global,
     limit: u32,
@@ -81,8 +81,8 @@ pub(crate) fn status_of(replies: &[Reply]) -> u8
     if has_shortage(replies) { 3 } else { 0 }
 }
 
-/// The lines of the replies to the calls, made in turn on a new provider with that limit of held rows. `AllocError` where
-/// a request for memory was refused.
+/// The lines of the replies to the calls, made in turn on a new provider with that limit of held rows. `AllocError`
+/// where a request for memory was refused.
 fn lines_of(alloc: Global, limit: u32, calls: Vec<ClientCall>) -> Result<Printout, AllocError>
     requires { IsLimit limit }
     ensures { IfOk result (λ printout. Replies limit calls.items (string_bytes printout.text) printout.status) }
@@ -94,7 +94,8 @@ fn lines_of(alloc: Global, limit: u32, calls: Vec<ClientCall>) -> Result<Printou
     })
 }
 
-/// The lines of the replies to the calls of the scenario that the source gives, with the limit that is given, if one is.
+/// The lines of the replies to the calls of the scenario that the source gives, with the limit that is given, if one
+/// is.
 fn told<R: Read>(
     alloc: Global,
     held: Option<u32>,
@@ -110,9 +111,9 @@ fn told<R: Read>(
     Ok(lines_of(alloc, limit, scenario.calls.into_inner())?)
 }
 
-/// Reads a scenario, in at most 16,777,217 reads, makes its calls on a new provider, and prints the line of each reply. A
-/// subscription that is not durable holds at most `held` rows, 1 to 1,000,000; where none is given, as many as the
-/// scenario says, and where that says none, 100,000.
+/// Reads a scenario, in at most 16,777,217 reads, makes its calls on a new provider, and prints the line of each
+/// reply. A subscription that is not durable holds at most `held` rows, 1 to 1,000,000; where none is given, as many
+/// as the scenario says, and where that says none, 100,000.
 pub fn play<R: Read, W: Write>(
     alloc: Global,
     held: Option<u32>,

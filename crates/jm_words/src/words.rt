@@ -16,8 +16,8 @@ const GREATEST_LIMIT: u32 = 1_000_000;
 pub enum Words {
     /// To run the scenario on standard input.
     Input,
-    /// To run the scenario of a file; where `held` is given, each subscription that is not durable holds at most so many
-    /// rows: 1 to 1,000,000.
+    /// To run the scenario of a file; where `held` is given, each subscription that is not durable holds at most so
+    /// many rows: 1 to 1,000,000.
     Run { file: Str, held: Option<u32> },
     /// To print the value of a selector over each send of the scenario of a file.
     Select { selector: Str, file: Str },
