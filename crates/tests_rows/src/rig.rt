@@ -5,7 +5,8 @@ ghost use Rattle.std.specs.Prelude.{◌≡◌};
 use crate::messages::{Words, sent};
 use jm_base::Refusal;
 use jm_dest::{ConnectionId, ConsumerId, Moment, SessionId};
-use jm_pending::{Held, Row, State, Table};
+use jm_machine::{Consumers, RowState};
+use jm_pending::{Held, Row, Table};
 use std::alloc::Global;
 use std::marker::Model;
 
@@ -36,8 +37,8 @@ pub(crate) fn session(number: u32) -> Result<SessionId, Refusal> {
 
 fn out_to(row: &Row) -> u32 {
     match row.state {
-        State::Waiting => 0,
-        State::Out { session, .. } => session.number.get(),
+        RowState::Waiting => 0,
+        RowState::Out(session, _) => session.number.get(),
     }
 }
 
@@ -102,7 +103,7 @@ impl Rig {
     }
 
     pub(crate) fn settle(&mut self, of: SessionId) {
-        self.held.settle(&mut self.table, of);
+        self.held.settle(&mut self.table, &Consumers::OfSession(of));
     }
 
     pub(crate) fn settle_one(&mut self, of: SessionId, through: ConsumerId, place: u64) {
@@ -110,7 +111,7 @@ impl Rig {
     }
 
     pub(crate) fn give_back(&mut self, of: SessionId) {
-        self.held.give_back(of);
+        self.held.give_back(&Consumers::OfSession(of));
     }
 
     pub(crate) fn give_back_one(&mut self, of: SessionId, through: ConsumerId, place: u64) {
