@@ -12,7 +12,7 @@ use std::process::ExitCode;
 use std::rt::Clock;
 use std::time::Instant;
 use std::{env, io};
-use work::{Load, fill, kind_named, work};
+use work::{Load, fill, kind_named, mode, work};
 
 /// The load that the words ask for.
 fn load_of(words: &[String]) -> Option<Load> {
@@ -52,7 +52,7 @@ fn run_on(
 
 /// The same on a new provider.
 fn run(rt: &(impl Clock + Print), alloc: Global, load: Load, is_timed: bool) -> io::Result<()> {
-    match Provider::new(alloc) {
+    match Provider::new(alloc, mode(load.kind)) {
         Ok(mut provider) => run_on(rt, &mut provider, load, is_timed),
         Err(_) => println!(rt; "refused"),
     }

@@ -1,9 +1,11 @@
-//! A provider under work: one session that receives, one that publishes, and what was received.
+//! A provider under work: one session that receives, one that publishes with its half of a transaction, and what was
+//! received.
 
 use jm_base::{List, Mode, Refusal};
 use jm_core::{Answer, Call, Core, Request, Step, Who};
-use jm_dest::{ConnectionId, ConsumerId, Destination, Moment, Name, Number, SessionId};
-use jm_header::{Draft, Message, Sender, stamp};
+use jm_dest::{ConnectionId, ConsumerId, Destination, Moment, Number, SessionId};
+use jm_header::{Draft, Message, Sender};
+use jm_tx::{Sent, SessionHalf};
 use std::alloc::Global;
 
 /// A message to be sent.
@@ -21,14 +23,16 @@ pub(crate) struct Parcel {
 /// The most rows that a subscription may hold.
 const HELD_LIMIT: u32 = 1_000_000;
 
-/// A core with its two sessions, and the sum of the numbers of the messages that were received.
+/// A core with its two sessions, their mode, what the publisher sent in its transaction, and the sum of the numbers of the
+/// messages that were received.
 #[derive(Drop)]
 pub(crate) struct Provider {
     alloc: Global,
     core: Core,
     receiver: SessionId,
     publisher: SessionId,
-    sent: u64,
+    half: SessionHalf,
+    mode: Mode,
     sum: u64,
 }
 
@@ -36,7 +40,8 @@ fn topic_name(alloc: Global, topic: u32) -> Result<String, Refusal> {
     Ok(format!(in alloc; "topic{topic}")?)
 }
 
-fn topic(alloc: Global, topic: u32) -> Result<Destination, Refusal> {
+/// The topic of that number.
+fn destination(alloc: Global, topic: u32) -> Result<Destination, Refusal> {
     let name = topic_name(alloc, topic)?;
     Destination::topic(alloc, name.as_str())
 }
@@ -56,18 +61,32 @@ fn draft(alloc: Global, parcel: Parcel) -> Result<Draft, Refusal> {
     }
 }
 
+/// The mode of the session that publishes.
+fn publishing(mode: Mode) -> Mode {
+    match mode {
+        Mode::Transacted => Mode::Transacted,
+        Mode::Auto | Mode::Client | Mode::Dups => Mode::Auto,
+    }
+}
+
 impl Provider {
-    /// No connection is open yet.
-    pub(crate) fn new(alloc: Global) -> Result<Provider, Refusal> {
+    /// No connection is open yet. The session that receives will have that mode; the one that publishes is transacted where
+    /// that is, and else in mode `Auto`.
+    pub(crate) fn new(alloc: Global, mode: Mode) -> Result<Provider, Refusal> {
         let receiver = SessionId::new(ConnectionId::new(1)?, 1)?;
         let publisher = SessionId::new(ConnectionId::new(2)?, 1)?;
+        let sender = Sender {
+            opening: Number::new(1)?,
+            session: publisher,
+        };
         let core = Core::new(alloc, 1, HELD_LIMIT)?;
         Ok(Provider {
             alloc,
             core,
             receiver,
             publisher,
-            sent: 0,
+            half: SessionHalf::new(alloc, sender, publishing(mode), 0),
+            mode,
             sum: 0,
         })
     }
@@ -75,18 +94,18 @@ impl Provider {
     /// Opens and starts the session's connection, and opens the session in that mode.
     fn open_session(&mut self, session: SessionId, mode: Mode) -> Result<(), Refusal> {
         let connection = session.connection;
-        self.ask(Who::Connection(connection), Request::Open)?;
+        self.ask(Who::Connection(connection), Request::Open { client: None })?;
         self.ask(Who::Connection(connection), Request::Start)?;
         self.ask(Who::Session(session), Request::CreateSession { mode })?;
         Ok(())
     }
 
-    /// Opens and starts both connections, and opens both sessions, of which the one that receives has that mode.
-    pub(crate) fn open(&mut self, mode: Mode) -> Result<(), Refusal> {
+    /// Opens and starts both connections, and opens both sessions.
+    pub(crate) fn open(&mut self) -> Result<(), Refusal> {
         let receiver = self.receiver;
         let publisher = self.publisher;
-        self.open_session(receiver, mode)?;
-        self.open_session(publisher, Mode::Auto)
+        self.open_session(receiver, self.mode)?;
+        self.open_session(publisher, publishing(self.mode))
     }
 
     fn ask(&mut self, who: Who, request: Request) -> Result<Answer, Refusal> {
@@ -109,6 +128,12 @@ impl Provider {
         Ok(())
     }
 
+    /// Lets what was received and not committed come again.
+    pub(crate) fn roll_back(&mut self) -> Result<(), Refusal> {
+        self.ask(Who::Session(self.receiver), Request::Rollback)?;
+        Ok(())
+    }
+
     /// The sum of the numbers of the messages that were received.
     pub(crate) fn sum(&self) -> u64 {
         self.sum
@@ -116,26 +141,30 @@ impl Provider {
 
     /// Makes a consumer of that number on the topic of that number.
     pub(crate) fn subscribe(&mut self, consumer: u32, topic: u32) -> Result<(), Refusal> {
-        let name = topic_name(self.alloc, topic)?;
+        let consumer = ConsumerId::new(consumer)?;
+        let destination = destination(self.alloc, topic)?;
         let request = Request::CreateConsumer {
-            consumer: ConsumerId::new(consumer)?,
-            topic: Name::new(self.alloc, name.as_str())?,
+            consumer,
+            destination,
             selector: None,
+            no_local: false,
         };
         self.ask(Who::Session(self.receiver), request)?;
         Ok(())
     }
 
-    /// The next message of the publisher.
-    fn message(&mut self, parcel: Parcel) -> Result<Message, Refusal> {
-        let sender = Sender {
-            opening: Number::new(1)?,
-            session: self.publisher,
-        };
-        self.sent = self.sent.saturating_add(1);
+    /// Sends one message: it is published, or waits for the publisher's commit.
+    pub(crate) fn send(&mut self, parcel: Parcel) -> Result<(), Refusal> {
         let now = Moment::new(parcel.now)?;
-        match (topic(self.alloc, parcel.topic), draft(self.alloc, parcel)) {
-            (Ok(topic), Ok(draft)) => stamp(draft, topic, sender, self.sent, now),
+        match (
+            destination(self.alloc, parcel.topic),
+            draft(self.alloc, parcel),
+        ) {
+            (Ok(topic), Ok(draft)) => match self.half.send(draft, topic, now) {
+                Ok(Sent::Publish(message)) => self.publish(message),
+                Ok(Sent::Kept(_)) => Ok(()),
+                Err(refusal) => Err(refusal),
+            },
             (Err(refusal), _) | (_, Err(refusal)) => Err(refusal),
         }
     }
@@ -145,20 +174,23 @@ impl Provider {
             return Err(Refusal::Memory);
         };
         messages.push_reserved(message);
-        let step = Step {
-            who: Who::Session(self.publisher),
-            call: Call::Publish(List::new(messages)),
-        };
-        match self.core.step(&step) {
-            Ok(_) => Ok(()),
+        self.make(self.publisher, Call::Publish(List::new(messages)))
+    }
+
+    /// Commits what was sent and what was received, each in its session.
+    pub(crate) fn commit(&mut self) -> Result<(), Refusal> {
+        let messages = List::new(self.half.take_commit());
+        match self.make(self.publisher, Call::Commit(messages)) {
+            Ok(()) => self.make(self.receiver, Call::Commit(List::new(Vec::new(self.alloc)))),
             Err(refusal) => Err(refusal),
         }
     }
 
-    /// Publishes one message.
-    pub(crate) fn send(&mut self, parcel: Parcel) -> Result<(), Refusal> {
-        match self.message(parcel) {
-            Ok(message) => self.publish(message),
+    /// Makes the session's call.
+    fn make(&mut self, session: SessionId, call: Call) -> Result<(), Refusal> {
+        let who = Who::Session(session);
+        match self.core.step(&Step { who, call }) {
+            Ok(_) => Ok(()),
             Err(refusal) => Err(refusal),
         }
     }

@@ -22,10 +22,16 @@ pub(crate) enum Kind {
     /// A message is sent, and one is received; each hundredth round acknowledges what is out, beside subscribers of
     /// other topics.
     Client,
+    /// A message is sent, and one is received; each hundredth round commits what was sent and what was received, beside
+    /// subscribers of other topics.
+    Transacted,
+    /// A message is sent and committed, and one is received, rolled back, received again and committed, beside subscribers
+    /// of other topics.
+    Rollback,
 }
 
-/// How many rows are out at most where they are acknowledged together.
-const ROWS_OUT: u32 = 100;
+/// How many rows are out at most where they are acknowledged or committed together, and how many messages a commit carries.
+const BATCH: u32 = 100;
 
 /// How much of it.
 #[derive(Clone, Copy)]
@@ -48,6 +54,8 @@ pub(crate) fn kind_named(name: &str) -> Option<Kind> {
         "expiry" => Some(Kind::Expiry),
         "redelivery" => Some(Kind::Redelivery),
         "client" => Some(Kind::Client),
+        "transacted" => Some(Kind::Transacted),
+        "rollback" => Some(Kind::Rollback),
         _ => None,
     }
 }
@@ -75,9 +83,10 @@ fn parcel(load: Load, round: u32) -> Parcel {
 }
 
 /// The mode of the session that receives.
-fn mode(kind: Kind) -> Mode {
+pub(crate) fn mode(kind: Kind) -> Mode {
     match kind {
         Kind::Redelivery | Kind::Client => Mode::Client,
+        Kind::Transacted | Kind::Rollback => Mode::Transacted,
         _ => Mode::Auto,
     }
 }
@@ -85,14 +94,31 @@ fn mode(kind: Kind) -> Mode {
 /// The topic of the subscriber that so many were made before.
 fn topic(kind: Kind, number: u32) -> u32 {
     match kind {
-        Kind::Topics | Kind::Redelivery | Kind::Client => number,
+        Kind::Topics | Kind::Redelivery | Kind::Client | Kind::Transacted | Kind::Rollback =>
+            number,
         _ => 0,
+    }
+}
+
+/// Commits in each hundredth round, where the kind of work is transacted.
+fn commit_batch(provider: &mut Provider, kind: Kind, round: u32) -> Result<(), Refusal> {
+    match mode(kind) {
+        Mode::Transacted if round % BATCH == BATCH - 1 => provider.commit(),
+        _ => Ok(()),
+    }
+}
+
+/// Commits what is left of the last batch, where the kind of work is transacted.
+fn finish_fill(provider: &mut Provider, kind: Kind) -> Result<(), Refusal> {
+    match mode(kind) {
+        Mode::Transacted => provider.commit(),
+        Mode::Auto | Mode::Client | Mode::Dups => Ok(()),
     }
 }
 
 /// Opens the provider, and makes the subscribers of the load and the rows that are held before it.
 pub(crate) fn fill(provider: &mut Provider, load: Load) -> Result<(), Refusal> {
-    provider.open(mode(load.kind))?;
+    provider.open()?;
     for number in 0..load.subscribers.min(1_000_000) {
         provider.subscribe(number + 1, topic(load.kind, number))?;
     }
@@ -102,8 +128,9 @@ pub(crate) fn fill(provider: &mut Provider, load: Load) -> Result<(), Refusal> {
             ..parcel(load, round)
         };
         provider.send(held)?;
+        commit_batch(provider, load.kind, round)?;
     }
-    Ok(())
+    finish_fill(provider, load.kind)
 }
 
 /// Who receives in a round: the first and the last of the consumers.
@@ -118,7 +145,7 @@ fn receivers(load: Load, round: u32) -> (u32, u32) {
     }
 }
 
-/// Lets what a round received come again, where the kind of work asks for it, and acknowledges it in its turn.
+/// Lets what a round received come again, where the kind of work asks for it, and acknowledges or commits it in its turn.
 fn finish(provider: &mut Provider, kind: Kind, round: u32) -> Result<(), Refusal> {
     match kind {
         Kind::Redelivery => {
@@ -126,7 +153,13 @@ fn finish(provider: &mut Provider, kind: Kind, round: u32) -> Result<(), Refusal
             provider.receive(1, i64::from(round))?;
             provider.acknowledge()
         }
-        Kind::Client if round % ROWS_OUT == ROWS_OUT - 1 => provider.acknowledge(),
+        Kind::Client if round % BATCH == BATCH - 1 => provider.acknowledge(),
+        Kind::Transacted => commit_batch(provider, kind, round),
+        Kind::Rollback => {
+            provider.roll_back()?;
+            provider.receive(1, i64::from(round))?;
+            provider.commit()
+        }
         _ => Ok(()),
     }
 }
@@ -134,6 +167,9 @@ fn finish(provider: &mut Provider, kind: Kind, round: u32) -> Result<(), Refusal
 /// Makes one round.
 fn work_once(provider: &mut Provider, load: Load, round: u32) -> Result<(), Refusal> {
     provider.send(parcel(load, round))?;
+    if load.kind == Kind::Rollback {
+        provider.commit()?;
+    }
     let (from, to) = receivers(load, round);
     for number in from..to.min(1_000_000) {
         provider.receive(number + 1, i64::from(round))?;

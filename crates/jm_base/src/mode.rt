@@ -7,4 +7,7 @@ pub enum Mode {
     Client,
     /// As `Auto`: duplicates, which this mode allows, do not come (ours).
     Dups,
+    /// What is received stays out to the session until it commits, which settles it, or rolls back; what is sent
+    /// goes out with the commit (Jakarta Messaging 3.1, section 6.2).
+    Transacted,
 }

@@ -1,6 +1,6 @@
 -- What steps do to what is held: each row stays accepted.
 use Rattle.std.proofs.Common.{◌≡◌, ◌+◌, ℕ, Bool, true, false, cond, List, [], ◌∷◌, ◌++◌, map, length, refl, Option, Some, None, Result, Ok, Err}
-use Rattle.std.specs.Prelude.{◌&&◌, filter}
+use Rattle.std.specs.Prelude.{◌&&◌, filter, not}
 use Rattle.jm_base.specs.declared.mode.Mode.{Mode}
 use Rattle.jm_dest.specs.declared.session.SessionId.{SessionId}
 use Rattle.jm_dest.specs.declared.key.Key.{Key}
@@ -16,10 +16,10 @@ use Rattle.jm_machine.specs.declared.state.PlacedRow.{PlacedRow}
 use Rattle.jm_machine.specs.declared.state.Row.{Row}
 use Rattle.jm_machine.specs.declared.state.Station.{Station}
 use Rattle.jm_machine.specs.Rows.{fresh, is_out, left_of, sent_out, settles_at_once, live_placed, change_placed, deliver_placed}
-use Rattle.jm_machine.specs.Selectors.{selector_read, read_selects, selects, holds}
+use Rattle.jm_selector.specs.Selectors.{selector_read, read_selects, selects, holds}
 use Rattle.jm_machine.specs.Life.{Life}
 use Rattle.jm_machine.specs.declared.state.RowState.TheVariants.{Waiting}
-use Rattle.jm_machine.specs.Machine.{Publisher, publisher_of, accepts, at_key, is_full, is_to, offered, one_missed, returned_rows, with_rows}
+use Rattle.jm_machine.specs.Machine.{Publisher, publisher_of, accepts, at_key, is_full, is_local, is_to, offered, one_missed, returned_rows, with_rows}
 use Rattle.jm_core.specs.Accepted.{IsAccepted, AllAccepted, HoldsAccepted}
 use Rattle.jm_core.specs.Steps.{published_stations}
 
@@ -37,12 +37,13 @@ selected (Some tree) m h = by_value (value (view m) tree) h
 
 accepted_is : (key : Key) (d : Definition) (p : Publisher) (m : Content) → accepts key d p m ≡ true → IsAccepted d m
 unfolding accepts
-accepted_is key d p m h = go (is_to d.topic m.destination) (selector_read d.selector) h
+accepted_is key d p m h = go (is_to d.topic m.destination) (not (d.no_local && is_local key p)) (selector_read d.selector) h
   where
-    go : (a : Bool) (r : Result (Option Tree) SyntaxFault) → (a && read_selects r m) ≡ true → (a ≡ true) × ((tree : Option Tree) × ((r ≡ Ok tree) × Selects (view m) tree))
-    go true (Ok tree) h = (refl, (tree, (refl, selected tree m h)))
-    go true (Err e) h = cc
-    go false r h = cc
+    go : (a b : Bool) (r : Result (Option Tree) SyntaxFault) → (a && (b && read_selects r m)) ≡ true → (a ≡ true) × ((tree : Option Tree) × ((r ≡ Ok tree) × Selects (view m) tree))
+    go true true (Ok tree) h = (refl, (tree, (refl, selected tree m h)))
+    go true true (Err e) h = cc
+    go true false r h = cc
+    go false b r h = cc
 
 filtered : (d : Definition) (p : PlacedRow → Bool) (rows : List PlacedRow) → AllAccepted d rows → AllAccepted d (filter p rows)
 filtered d p [] h = h

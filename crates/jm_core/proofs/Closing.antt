@@ -4,7 +4,7 @@ use Rattle.std.specs.Prelude.{◌&&◌, ◌||◌, filter, not, is_some}
 use Rattle.std.specs.List.{All, AllByRecursion, IsDistinct}
 use Rattle.std.proofs.lemmas.List.Elements.{All-head, All-tail, All-nil, All-cons, All-weaker}
 use Rattle.jm_base.specs.declared.mode.Mode.{Mode}
-use Rattle.jm_base.specs.declared.mode.Mode.TheVariants.{Auto, Client, Dups}
+use Rattle.jm_base.specs.declared.mode.Mode.TheVariants.{Auto, Client, Dups, Transacted}
 use Rattle.jm_dest.specs.declared.session.SessionId.{SessionId}
 use Rattle.jm_dest.specs.declared.key.Key.{Key}
 use Rattle.jm_dest.specs.declared.key.Key.TheVariants.{Queue, Own, SharedOwn, Durable}
@@ -14,69 +14,98 @@ use Rattle.jm_machine.specs.declared.state.Consumer.{Consumer}
 use Rattle.jm_machine.specs.declared.state.PlacedRow.{PlacedRow}
 use Rattle.jm_machine.specs.declared.state.Station.{Station}
 use Rattle.jm_machine.specs.Rows.{is_out}
-use Rattle.jm_machine.specs.Machine.{are_meant, closed_consumer, consumer_of, ends, has_number, is_client, is_one_of, is_own_of, of_session, returned_rows, settled_rows, with_rows}
-use Rattle.jm_stations.specs.Backlogs.{Backlog}
-use Rattle.jm_stations.proofs.Keys.{key_same}
+use Rattle.jm_machine.specs.Machine.{are_meant, closed_consumer, consumer_of, ends, has_number, key_at, is_client, is_one_of, is_own_of, of_session, returned_rows, settled_rows, with_rows}
+use Rattle.jm_stations.specs.Backlogs.{Backlog, settled}
+use Rattle.jm_stations.proofs.Keys.{key_refl, key_same}
 use Rattle.jm_sub.specs.Subscriptions.{Subscription, without_own}
 use Rattle.jm_core.specs.Accepted.{HoldsAccepted}
 use Rattle.jm_core.specs.Closing.{acknowledged, given_back, is_kept, kept_backlogs, kept_keys}
-use Rattle.jm_core.specs.State.{AllOwn, HasLimit, station, stations_of, keys_of, IsOfConsumer, IsSound}
+use Rattle.jm_core.specs.State.{AllOwnOrQueue, HasLimit, IsOwnOrQueue, station, stations_of, keys_of, IsOfConsumer, IsSound}
 use Rattle.jm_core.proofs.Accepted.{all_returned_hold, all_settled_hold, kept_hold}
 use Rattle.jm_core.proofs.Stations.{with}
 use Rattle.jm_core.proofs.Sound.{key_parts}
 
 -- ---- consumers that close
 
-own_closed : (p : SessionId → ℕ → Bool) (xs : List Consumer) → AllOwn xs → AllOwn (map (closed_consumer p) xs)
+own_closed : (p : SessionId → ℕ → Bool) (xs : List Consumer) → AllOwnOrQueue xs → AllOwnOrQueue (map (closed_consumer p) xs)
 own_closed p [] k = tt
 own_closed p (x ∷ xs) k = (go (p x.session x.id), own_closed p xs k.1)
   where
-    go : (b : Bool) → (cond b (record x { is_active = false }) x).key ≡ Own (cond b (record x { is_active = false }) x).session (cond b (record x { is_active = false }) x).id
+    go : (b : Bool) → IsOwnOrQueue (cond b (record x { is_active = false }) x).session (cond b (record x { is_active = false }) x).id (cond b (record x { is_active = false }) x).key
     go true = k.0
     go false = k.0
 
-found_closed : (p : SessionId → ℕ → Bool) (s : SessionId) (c : ℕ) (xs : List Consumer) → is_some (consumer_of (map (closed_consumer p) xs) s c) ≡ is_some (consumer_of xs s c)
-found_closed p s c [] = refl
-found_closed p s c (x ∷ xs) = go (p x.session x.id) (found_closed p s c xs)
+key_closed : (p : SessionId → ℕ → Bool) (s : SessionId) (c : ℕ) (xs : List Consumer) → key_at (consumer_of (map (closed_consumer p) xs) s c) ≡ key_at (consumer_of xs s c)
+key_closed p s c [] = refl
+key_closed p s c (x ∷ xs) = go (p x.session x.id) (key_closed p s c xs)
   where
-    pick : (t : Bool) (a b : Consumer) (m n : Option Consumer) → is_some m ≡ is_some n → is_some (cond t (Some a) m) ≡ is_some (cond t (Some b) n)
-    pick true a b m n e = refl
-    pick false a b m n e = e
+    pick : (t : Bool) (a b : Consumer) (m n : Option Consumer) → a.key ≡ b.key → key_at m ≡ key_at n → key_at (cond t (Some a) m) ≡ key_at (cond t (Some b) n)
+    pick true a b m n k e = ap (λ y. Some y) k
+    pick false a b m n k e = e
 
-    go : (b : Bool) → is_some (consumer_of (map (closed_consumer p) xs) s c) ≡ is_some (consumer_of xs s c) →
-        is_some (cond (has_number s c (cond b (record x { is_active = false }) x)) (Some (cond b (record x { is_active = false }) x)) (consumer_of (map (closed_consumer p) xs) s c)) ≡ is_some (cond (has_number s c x) (Some x) (consumer_of xs s c))
-    go true e = pick (has_number s c x) (record x { is_active = false }) x (consumer_of (map (closed_consumer p) xs) s c) (consumer_of xs s c) e
-    go false e = pick (has_number s c x) x x (consumer_of (map (closed_consumer p) xs) s c) (consumer_of xs s c) e
+    go : (b : Bool) → key_at (consumer_of (map (closed_consumer p) xs) s c) ≡ key_at (consumer_of xs s c) →
+        key_at (cond (has_number s c (cond b (record x { is_active = false }) x)) (Some (cond b (record x { is_active = false }) x)) (consumer_of (map (closed_consumer p) xs) s c)) ≡ key_at (cond (has_number s c x) (Some x) (consumer_of xs s c))
+    go true e = pick (has_number s c x) (record x { is_active = false }) x (consumer_of (map (closed_consumer p) xs) s c) (consumer_of xs s c) refl e
+    go false e = pick (has_number s c x) x x (consumer_of (map (closed_consumer p) xs) s c) (consumer_of xs s c) refl e
 
 made_closed : (p : SessionId → ℕ → Bool) (xs : List Consumer) (k : Key) → IsOfConsumer xs k → IsOfConsumer (map (closed_consumer p) xs) k
-made_closed p xs (Own s c) h = found_closed p s c xs ∙ h
+made_closed p xs (Own s c) h = key_closed p s c xs ∙ h
 made_closed p xs (Queue name) h = h
 made_closed p xs (SharedOwn client name) h = h
 made_closed p xs (Durable client name) h = h
 
 -- ---- the subscriptions that end
 
--- a key of a consumer is among those of consumers that pass exactly where the consumer passes
-one_of : (p : SessionId → ℕ → Bool) (s : SessionId) (c : ℕ) (xs : List Consumer) → AllOwn xs → is_one_of p xs (Own s c) ≡ (is_some (consumer_of xs s c) && p s c)
-one_of p s c [] k = refl
-one_of p s c (x ∷ xs) k =
-    ap (λ (y : Key). (key_eq y (Own s c) && p x.session x.id) || is_one_of p xs (Own s c)) k.0
-    ∙ go (has_number s c x) refl (one_of p s c xs k.1)
-  where
-    absorbed : (a m : Bool) → (a || (m && a)) ≡ a
-    absorbed true m = refl
-    absorbed false true = refl
-    absorbed false false = refl
+-- a consumer whose key is own has the numbers that the key says
+own_passes : (p : SessionId → ℕ → Bool) (s : SessionId) (c : ℕ) (x : Consumer) → IsOwnOrQueue x.session x.id x.key → x.key ≡ Own s c → p x.session x.id ≡ p s c
+own_passes p s c x k e =
+    let same : Own s c ≡ Own x.session x.id = subst (IsOwnOrQueue x.session x.id) e k in
+    let parts = key_parts s x.session c x.id same in
+    λ i. p (sym parts.0 i) (sym parts.1 i)
 
-    go : (b : Bool) → has_number s c x ≡ b → is_one_of p xs (Own s c) ≡ (is_some (consumer_of xs s c) && p s c) →
-        ((b && p x.session x.id) || is_one_of p xs (Own s c)) ≡ (is_some (cond b (Some x) (consumer_of xs s c)) && p s c)
-    go true e r =
-        let parts = key_parts x.session s x.id c (key_same (Own x.session x.id) (Own s c) e) in
-        (λ i. p (parts.0 i) (parts.1 i) || r i) ∙ absorbed (p s c) (is_some (consumer_of xs s c))
+absorbed : (q r : Bool) → (q || r) ≡ q → (q || (q || r)) ≡ q
+absorbed true r h = refl
+absorbed false r h = h
+
+twice : (q : Bool) → (q || q) ≡ q
+twice true = refl
+twice false = refl
+
+none_more : (q : Bool) → (q || false) ≡ q
+none_more true = refl
+none_more false = refl
+
+-- among consumers of a consumer's own key is none that passes where that one does not
+no_more : (p : SessionId → ℕ → Bool) (s : SessionId) (c : ℕ) (xs : List Consumer) → AllOwnOrQueue xs → (p s c || is_one_of p xs (Own s c)) ≡ p s c
+no_more p s c [] k = none_more (p s c)
+no_more p s c (x ∷ xs) k = go (key_eq x.key (Own s c)) refl (no_more p s c xs k.1)
+  where
+    go : (b : Bool) → key_eq x.key (Own s c) ≡ b → (p s c || is_one_of p xs (Own s c)) ≡ p s c → (p s c || ((b && p x.session x.id) || is_one_of p xs (Own s c))) ≡ p s c
+    go true e r = ap (λ q. p s c || (q || is_one_of p xs (Own s c))) (own_passes p s c x k.0 (key_same x.key (Own s c) e)) ∙ absorbed (p s c) (is_one_of p xs (Own s c)) r
     go false e r = r
 
-ends_own : (which : Consumers) (xs : List Consumer) → AllOwn xs → (k : Key) → IsOfConsumer xs k → ends (are_meant which) xs k ≡ is_own_of which k
-ends_own which xs own (Own s c) h = one_of (are_meant which) s c xs own ∙ ap (λ b. b && are_meant which s c) h
+-- the own key of a consumer is among those of consumers that pass exactly where the consumer passes
+one_of : (p : SessionId → ℕ → Bool) (s : SessionId) (c : ℕ) (xs : List Consumer) → AllOwnOrQueue xs → key_at (consumer_of xs s c) ≡ Some (Own s c) → is_one_of p xs (Own s c) ≡ p s c
+one_of p s c [] k h = cc
+one_of p s c (x ∷ xs) k h = go (has_number s c x) h (one_of p s c xs k.1)
+  where
+    own : x.key ≡ Own s c → ((key_eq x.key (Own s c) && p x.session x.id) || is_one_of p xs (Own s c)) ≡ p s c
+    own e =
+        ap (λ y. (key_eq y (Own s c) && p x.session x.id) || is_one_of p xs (Own s c)) e
+        ∙ ap (λ b. (b && p x.session x.id) || is_one_of p xs (Own s c)) (key_refl (Own s c))
+        ∙ ap (λ q. q || is_one_of p xs (Own s c)) (own_passes p s c x k.0 e)
+        ∙ no_more p s c xs k.1
+
+    later : (b : Bool) → key_eq x.key (Own s c) ≡ b → is_one_of p xs (Own s c) ≡ p s c → ((b && p x.session x.id) || is_one_of p xs (Own s c)) ≡ p s c
+    later true e r = (λ i. own_passes p s c x k.0 (key_same x.key (Own s c) e) i || r i) ∙ twice (p s c)
+    later false e r = r
+
+    go : (b : Bool) → key_at (cond b (Some x) (consumer_of xs s c)) ≡ Some (Own s c) → (key_at (consumer_of xs s c) ≡ Some (Own s c) → is_one_of p xs (Own s c) ≡ p s c) → ((key_eq x.key (Own s c) && p x.session x.id) || is_one_of p xs (Own s c)) ≡ p s c
+    go true e r = own (let same : x.key ≡ Own s c = cc in same)
+    go false e r = later (key_eq x.key (Own s c)) refl (r e)
+
+ends_own : (which : Consumers) (xs : List Consumer) → AllOwnOrQueue xs → (k : Key) → IsOfConsumer xs k → ends (are_meant which) xs k ≡ is_own_of which k
+ends_own which xs own (Own s c) h = one_of (are_meant which) s c xs own h
 ends_own which xs own (Queue name) h = refl
 ends_own which xs own (SharedOwn client name) h = refl
 ends_own which xs own (Durable client name) h = refl
@@ -85,7 +114,7 @@ nothing_of : (ss : List Subscription) → stations_of ss [] ≡ []
 nothing_of [] = refl
 nothing_of (s ∷ ss) = refl
 
-ended : (which : Consumers) (xs : List Consumer) (ss : List Subscription) (bs : List Backlog) → AllOwn xs → All (IsOfConsumer xs) (keys_of ss) →
+ended : (which : Consumers) (xs : List Consumer) (ss : List Subscription) (bs : List Backlog) → AllOwnOrQueue xs → All (IsOfConsumer xs) (keys_of ss) →
     stations_of (without_own which ss) (kept_backlogs which (keys_of ss) bs) ≡ filter (λ x. not (ends (are_meant which) xs x.key)) (stations_of ss bs)
 ended which xs [] bs own h = refl
 ended which xs (s ∷ ss) [] own h = nothing_of (without_own which (s ∷ ss))
@@ -215,13 +244,20 @@ closed_stations limit which xs ss keys bs place h =
     ended_stations limit which xs ss keys (given_back which bs) place (sound_returned limit which xs ss keys bs place h)
     ∙ ap (filter (λ (x : Station). not (ends (are_meant which) xs x.key))) (returned_stations which ss bs)
 
+pub sound_settled : (limit : ℕ) (s : SessionId) (xs : List Consumer) (ss : List Subscription) (keys : List Key) (bs : List Backlog) (place : ℕ) → IsSound limit xs ss keys bs place → IsSound limit xs ss keys (map (settled (of_session s)) bs) place
+sound_settled limit s xs ss keys bs place h = sound_rows limit (settled_rows (of_session s)) xs ss keys bs place (all_settled_hold (λ x. not (is_out (of_session s) x.row)) (stations_of ss bs) h.accepted) h
+
+pub settled_stations : (s : SessionId) (ss : List Subscription) (bs : List Backlog) → stations_of ss (map (settled (of_session s)) bs) ≡ map (with_rows (settled_rows (of_session s))) (stations_of ss bs)
+settled_stations s ss bs = rows_seen (settled_rows (of_session s)) ss bs
+
 pub sound_acknowledged : (limit : ℕ) (mode : Mode) (s : SessionId) (xs : List Consumer) (ss : List Subscription) (keys : List Key) (bs : List Backlog) (place : ℕ) → IsSound limit xs ss keys bs place → IsSound limit xs ss keys (acknowledged mode s bs) place
 sound_acknowledged limit Auto s xs ss keys bs place h = h
-sound_acknowledged limit Client s xs ss keys bs place h =
-    sound_rows limit (settled_rows (of_session s)) xs ss keys bs place (all_settled_hold (λ x. not (is_out (of_session s) x.row)) (stations_of ss bs) h.accepted) h
+sound_acknowledged limit Client s xs ss keys bs place h = sound_settled limit s xs ss keys bs place h
 sound_acknowledged limit Dups s xs ss keys bs place h = h
+sound_acknowledged limit Transacted s xs ss keys bs place h = h
 
 pub acknowledged_stations : (mode : Mode) (s : SessionId) (ss : List Subscription) (bs : List Backlog) → stations_of ss (acknowledged mode s bs) ≡ cond (is_client (Some mode)) (map (with_rows (settled_rows (of_session s))) (stations_of ss bs)) (stations_of ss bs)
 acknowledged_stations Auto s ss bs = refl
-acknowledged_stations Client s ss bs = rows_seen (settled_rows (of_session s)) ss bs
+acknowledged_stations Client s ss bs = settled_stations s ss bs
 acknowledged_stations Dups s ss bs = refl
+acknowledged_stations Transacted s ss bs = refl

@@ -1,4 +1,6 @@
 pub mod Stations
+pub mod QueueRows
+pub mod QueueCounts
 pub mod Publishing
 pub mod Accepted
 pub mod Sound
@@ -7,6 +9,7 @@ pub mod Published
 pub mod Seen
 pub mod Planned
 pub mod Closing
+pub mod Sources
 mod Sends
 mod Reached
 mod Within

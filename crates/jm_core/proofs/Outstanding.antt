@@ -6,30 +6,33 @@ use Rattle.jm_base.specs.declared.mode.Mode.{Mode}
 use Rattle.jm_base.specs.declared.refusal.Refusal.{Refusal}
 use Rattle.jm_base.specs.declared.refusal.Refusal.TheVariants.{IllegalState}
 use Rattle.jm_dest.specs.declared.session.SessionId.{SessionId}
+use Rattle.jm_dest.specs.declared.destination.Destination.{Destination}
+use Rattle.jm_dest.specs.declared.destination.Destination.TheVariants.{Queue, Topic}
 use Rattle.jm_dest.specs.declared.key.Key.{Key}
-use Rattle.jm_dest.specs.declared.key.Key.TheVariants.{Own}
+use Rattle.jm_dest.specs.declared.key.Key.TheVariants.{Own, SharedOwn, Durable, Queue as OfQueue}
 use Rattle.jm_dest.specs.Keys.{key_eq}
-use Rattle.jm_dest.specs.Names.{session_eq}
+use Rattle.jm_dest.specs.Names.{session_eq, text_eq}
 use Rattle.jm_header.specs.declared.content.Content.{Content}
 use Rattle.jm_machine.specs.declared.call.Who.{Who}
 use Rattle.jm_machine.specs.declared.call.Who.TheVariants.{Connection, Session}
 use Rattle.jm_machine.specs.declared.call.Request.{Request}
-use Rattle.jm_machine.specs.declared.call.Request.TheVariants.{CloseConnection, CreateSession, CloseSession, CreateConsumer, CloseConsumer, Receive, Acknowledge, Recover}
+use Rattle.jm_machine.specs.declared.call.Request.TheVariants.{Open, Start, Stop, CloseConnection, CreateSession, CloseSession, CreateConsumer, CloseConsumer, Receive, Acknowledge, Recover, Rollback}
 use Rattle.jm_machine.specs.declared.call.Call.{Call}
-use Rattle.jm_machine.specs.declared.call.Call.TheVariants.{Ask, Publish}
+use Rattle.jm_machine.specs.declared.call.Call.TheVariants.{Ask, Publish, Commit}
 use Rattle.jm_machine.specs.declared.state.Definition.{Definition}
 use Rattle.jm_machine.specs.declared.state.PlacedRow.{PlacedRow}
 use Rattle.jm_machine.specs.declared.state.Row.{Row}
 use Rattle.jm_machine.specs.declared.state.RowState.{RowState}
 use Rattle.jm_machine.specs.declared.state.RowState.TheVariants.{Waiting, Out}
+use Rattle.jm_machine.specs.declared.state.ConnectionState.{ConnectionState}
 use Rattle.jm_machine.specs.declared.state.SessionState.{SessionState}
 use Rattle.jm_machine.specs.declared.state.Station.{Station}
 use Rattle.jm_machine.specs.Life.{Life, open_mode, mode_of, is_started, is_new_session, close_sessions, life_after}
-use Rattle.jm_machine.specs.Rows.{bare, fresh, goes_out, has_lapsed, is_next, is_out, live, settles_at_once, sent_out, left_of, live_placed, change_placed, deliver_placed}
-use Rattle.jm_machine.specs.Machine.{State, Publisher, publisher_of, accepts, is_full, one_missed, brought, offered, with_message, with_rows, at_key, without, published, receive, consumer_of, key_at, defined, unless, of_session, of_connection, settled_rows, returned_rows, settled, returned, closed, with_life, is_client, is_active, held, refusal, publish_refusal, after, moved, step}
+use Rattle.jm_machine.specs.Rows.{bare, fresh, goes_out, has_lapsed, is_next, is_out, live, settles_at_once, sent_out, left_of, live_placed, change_placed, deliver_placed, deliver_chosen, is_next_chosen}
+use Rattle.jm_machine.specs.Machine.{State, Publisher, publisher_of, accepts, is_full, one_missed, brought, offered, with_message, with_rows, at_key, without, published, receive, consumer_of, key_at, made, selected_by, at_queue, at_queue_of, at_queues, queued, defined, of_number, unless, of_session, of_connection, settled_rows, returned_rows, settled, returned, closed, with_life, is_client, is_active, held, refusal, publish_refusal, commit_refusal, after, after_commit, moved, step}
 use Rattle.jm_machine.specs.Isolation.{Reached}
 use Rattle.jm_machine.specs.Isolation.Reached.{New, Stepped}
-use Rattle.jm_core.specs.Outstanding.{IsOutToOpen, AllOutToOpen, HoldsOutToOpen}
+use Rattle.jm_core.specs.Outstanding.{IsOutToOpen, AllOutToOpen, HoldsOutToOpen, QueuesOutToOpen, AreOutToOpen}
 
 -- ---- sessions that stay open
 
@@ -123,6 +126,9 @@ rows_change life mode s c p o (x ∷ rows) h = go (p x.row) (rows_change life mo
 rows_delivered : (life : Life) (mode : Option Mode) (s : SessionId) (c now : ℕ) → is_some (mode_of life s) ≡ true → (rows : List PlacedRow) → AllOutToOpen life rows → AllOutToOpen life (deliver_placed now (left_of mode s c) rows)
 rows_delivered life mode s c now o rows h = rows_change life mode s c (is_next now (live now (bare rows))) o (live_placed now rows) (rows_filter life (λ x. not (has_lapsed now x.row)) rows h)
 
+rows_chosen : (life : Life) (pass : Content → Bool) (mode : Option Mode) (s : SessionId) (c now : ℕ) → is_some (mode_of life s) ≡ true → (rows : List PlacedRow) → AllOutToOpen life rows → AllOutToOpen life (deliver_chosen pass now (left_of mode s c) rows)
+rows_chosen life pass mode s c now o rows h = rows_change life mode s c (is_next_chosen pass now (live now (bare rows))) o (live_placed now rows) (rows_filter life (λ x. not (has_lapsed now x.row)) rows h)
+
 -- what waits again where a session closes, or before it does
 row_returned : (p : SessionId → ℕ → Bool) (life new : Life) → StaysOpen p life new → (r : Row) (t : RowState) → IsOutToOpen life t →
     IsOutToOpen new (cond (goes_out p t) (record r { state = Waiting }) (record r { state = t })).state
@@ -202,34 +208,77 @@ all_kept : (life new : Life) → StaysOpen nobody life new → (xs : List Statio
 all_kept life new f [] h = h
 all_kept life new f (x ∷ xs) h = (rows_kept life new f x.rows h.0, all_kept life new f xs h.1)
 
+-- ---- queues
+
+queue_at : (life : Life) (name : List ℕ) (f : List PlacedRow → List PlacedRow) → KeepsOpen life life f → (queues : List ℕ → List PlacedRow) → QueuesOutToOpen life queues → QueuesOutToOpen life (at_queue name f queues)
+queue_at life name f g queues h other = go (text_eq name other)
+  where
+    go : (b : Bool) → AllOutToOpen life (cond b (f (queues other)) (queues other))
+    go true = g (queues other) (h other)
+    go false = h other
+
+queue_queued : (life : Life) (d : Destination) (m : Content) (n : ℕ) (queues : List ℕ → List PlacedRow) → QueuesOutToOpen life queues → QueuesOutToOpen life (queued d m n queues)
+queue_queued life (Queue name) m n queues h = queue_at life name (λ rows. rows ++ record { place = n; row = fresh m } ∷ []) (rows_push life n m) queues h
+queue_queued life (Topic name) m n queues h = h
+
 -- ---- states
 
-abbrev HasOpen : State → Type 0
-HasOpen state = HoldsOutToOpen state.life state.stations
-
-open_published : (state : State) (ms : List Content) → HasOpen state → HasOpen (published state ms)
+open_published : (state : State) (ms : List Content) → AreOutToOpen state → AreOutToOpen (published state ms)
 unfolding published
 open_published state [] h = h
-open_published state (m ∷ ms) h = open_published (with_message state m) ms (all_offered state.life state.limit (publisher_of state.life m) m state.next_place state.stations h)
+open_published state (m ∷ ms) h = open_published (with_message state m) ms (record {
+  stations = all_offered state.life state.limit (publisher_of state.life m) m state.next_place state.stations h.stations;
+  queues = queue_queued state.life m.destination m state.next_place state.queues h.queues;
+})
 
-open_received : (mode : Option Mode) (s : SessionId) (c now : ℕ) (k : Option Key) (state : State) → is_some (mode_of state.life s) ≡ true → HasOpen state → HasOpen (receive (left_of mode s c) now k state)
-open_received mode s c now None state o h = h
-open_received mode s c now (Some k) state o h = all_at state.life (deliver_placed now (left_of mode s c)) (rows_delivered state.life mode s c now o) k state.stations h
+open_received : (pass : Content → Bool) (mode : Option Mode) (s : SessionId) (c now : ℕ) (k : Option Key) (state : State) → is_some (mode_of state.life s) ≡ true → AreOutToOpen state → AreOutToOpen (receive pass (left_of mode s c) now k state)
+open_received pass mode s c now None state o h = h
+open_received pass mode s c now (Some k) state o h = record {
+  stations = all_at state.life (deliver_placed now (left_of mode s c)) (rows_delivered state.life mode s c now o) k state.stations h.stations;
+  queues = by k;
+}
+  where
+    by : (key : Key) → QueuesOutToOpen state.life (at_queue_of key (deliver_chosen pass now (left_of mode s c)) state.queues)
+    by (OfQueue name) = queue_at state.life name (deliver_chosen pass now (left_of mode s c)) (rows_chosen state.life pass mode s c now o) state.queues h.queues
+    by (Own t d) = h.queues
+    by (SharedOwn client name) = h.queues
+    by (Durable client name) = h.queues
 
-open_settled : (p : SessionId → ℕ → Bool) (state : State) → HasOpen state → HasOpen (settled p state)
-open_settled p state h = all_each state.life state.life (settled_rows p) (rows_filter state.life (λ x. not (is_out p x.row))) state.stations h
+-- a change of the rows of all
+open_each : (new : Life) (f : List PlacedRow → List PlacedRow) (state : State) → KeepsOpen state.life new f → AreOutToOpen state →
+    AreOutToOpen (record state { life = new; stations = map (with_rows f) state.stations; queues = at_queues f state.queues })
+open_each new f state g h = record { stations = all_each state.life new f g state.stations h.stations; queues = λ name. g (state.queues name) (h.queues name) }
+
+open_settled : (p : SessionId → ℕ → Bool) (state : State) → AreOutToOpen state → AreOutToOpen (settled p state)
+open_settled p state h = open_each state.life (settled_rows p) state (rows_filter state.life (λ x. not (is_out p x.row))) h
+
+open_returned : (p : SessionId → ℕ → Bool) (state : State) → AreOutToOpen state → AreOutToOpen (returned p state)
+open_returned p state h = open_each state.life (returned_rows p) state (rows_returned p state.life state.life (stays p state.life)) h
+
+open_ended : (p : SessionId → ℕ → Bool) (state : State) → AreOutToOpen state → AreOutToOpen (closed p state)
+open_ended p state h = record { stations = all_filter state.life _ state.stations h.stations; queues = h.queues }
 
 -- those that close give back first what is out to them
-open_closed : (p : SessionId → ℕ → Bool) (who : Who) (request : Request) (state : State) → StaysOpen p state.life (life_after state.life who request) → HasOpen state → HasOpen (closed p (returned p (with_life who request state)))
+open_closed : (p : SessionId → ℕ → Bool) (who : Who) (request : Request) (state : State) → StaysOpen p state.life (life_after state.life who request) → AreOutToOpen state → AreOutToOpen (closed p (returned p (with_life who request state)))
 open_closed p who request state f h =
     let new = life_after state.life who request in
-    all_filter new _ (map (with_rows (returned_rows p)) state.stations) (all_each state.life new (returned_rows p) (rows_returned p state.life new f) state.stations h)
+    open_ended p (returned p (with_life who request state)) (open_each new (returned_rows p) state (rows_returned p state.life new f) h)
 
-open_if : (b : Bool) (x y : State) → HasOpen x → HasOpen y → HasOpen (cond b x y)
+open_kept : (new : Life) (state : State) → StaysOpen nobody state.life new → AreOutToOpen state → AreOutToOpen (record state { life = new })
+open_kept new state f h = record { stations = all_kept state.life new f state.stations h.stations; queues = λ name. rows_kept state.life new f (state.queues name) (h.queues name) }
+
+open_made : (s : SessionId) (c : ℕ) (destination : Destination) (selector : Option (List ℕ)) (no_local : Bool) (state : State) → AreOutToOpen state → AreOutToOpen (made s c destination selector no_local state)
+open_made s c (Queue name) selector no_local state h = record { stations = h.stations; queues = h.queues }
+open_made s c (Topic name) selector no_local state h = record {
+  stations = all_put state.life (Own s c) (defined name selector no_local) (without (Own s c) state.stations) (all_filter state.life _ state.stations h.stations);
+  queues = h.queues;
+}
+
+open_if : (b : Bool) (x y : State) → AreOutToOpen x → AreOutToOpen y → AreOutToOpen (cond b x y)
 open_if true x y p q = p
 open_if false x y p q = q
 
-open_moved : (o : Option Refusal) (x y : State) → (o ≡ None → HasOpen x) → HasOpen y → HasOpen (moved o x y)
+open_moved : (o : Option Refusal) (x y : State) → (o ≡ None → AreOutToOpen x) → AreOutToOpen y → AreOutToOpen (moved o x y)
 open_moved None x y p q = p refl
 open_moved (Some r) x y p q = q
 
@@ -238,30 +287,45 @@ used_open : (a b : Bool) → unless (a && b) IllegalState ≡ None → a ≡ tru
 used_open true b e = refl
 used_open false b e = absurd cc
 
-open_received_now : (state : State) (s : SessionId) (c now : ℕ) → refusal state.life state.consumers (held state (Session s) (Receive c now)) (Session s) (Receive c now) ≡ None → HasOpen state → HasOpen (after state (Session s) (Receive c now))
+open_received_now : (state : State) (s : SessionId) (c now : ℕ) → refusal state.life state.consumers (held state (Session s) (Receive c now)) (Session s) (Receive c now) ≡ None → AreOutToOpen state → AreOutToOpen (after state (Session s) (Receive c now))
 unfolding after refusal
 open_received_now state s c now e h =
-    open_if (is_started state.life s.connection) (receive (left_of (mode_of state.life s) s c) now (key_at (consumer_of state.consumers s c)) state) state
-    (open_received (mode_of state.life s) s c now (key_at (consumer_of state.consumers s c)) state (used_open (is_some (mode_of state.life s)) (is_active (consumer_of state.consumers s c)) e) h) h
+    let pass = selected_by (consumer_of state.consumers s c) in
+    open_if (is_started state.life s.connection) (receive pass (left_of (mode_of state.life s) s c) now (key_at (consumer_of state.consumers s c)) state) state
+    (open_received pass (mode_of state.life s) s c now (key_at (consumer_of state.consumers s c)) state (used_open (is_some (mode_of state.life s)) (is_active (consumer_of state.consumers s c)) e) h) h
 
-open_after : (state : State) (who : Who) (request : Request) → refusal state.life state.consumers (held state who request) who request ≡ None → HasOpen state → HasOpen (after state who request)
+-- a connection that is opened, started or stopped leaves the sessions
+open_same : (connections : List ConnectionState) (state : State) → AreOutToOpen state → AreOutToOpen (record state { life = record { connections = connections; sessions = state.life.sessions } })
+open_same connections state h = open_kept (record { connections = connections; sessions = state.life.sessions }) state (λ s c n o. o) h
+
+open_after : (state : State) (who : Who) (request : Request) → refusal state.life state.consumers (held state who request) who request ≡ None → AreOutToOpen state → AreOutToOpen (after state who request)
 unfolding after life_after
+open_after state (Connection c) (Open client) e h = open_same _ state h
+open_after state (Connection c) Start e h = open_same _ state h
+open_after state (Connection c) Stop e h = open_same _ state h
 open_after state (Connection c) CloseConnection e h = open_closed (of_connection c) (Connection c) CloseConnection state (stays_ended c state.life) h
-open_after state (Connection c) request e h = h
-open_after state (Session s) (CreateSession mode) e h = all_kept state.life (life_after state.life (Session s) (CreateSession mode)) (stays_opened s mode state.life) state.stations h
+open_after state (Connection c) request e h = open_same _ state h
+open_after state (Session s) (CreateSession mode) e h = open_kept (life_after state.life (Session s) (CreateSession mode)) state (stays_opened s mode state.life) h
 open_after state (Session s) CloseSession e h = open_closed (of_session s) (Session s) CloseSession state (stays_closed s state.life) h
-open_after state (Session s) (CreateConsumer c topic selector) e h = all_put state.life (Own s c) (defined topic selector) (without (Own s c) state.stations) (all_filter state.life _ state.stations h)
+open_after state (Session s) (CreateConsumer c destination selector no_local) e h = open_made s c destination selector no_local state h
 open_after state (Session s) (Receive c now) e h = open_received_now state s c now e h
-open_after state (Session s) (CloseConsumer c) e h = all_filter state.life _ state.stations h
+open_after state (Session s) (CloseConsumer c) e h = open_ended (of_number s c) state h
 open_after state (Session s) Acknowledge e h = open_if (is_client (mode_of state.life s)) (settled (of_session s) state) state (open_settled (of_session s) state h) h
-open_after state (Session s) Recover e h = all_each state.life state.life (returned_rows (of_session s)) (rows_returned (of_session s) state.life state.life (stays (of_session s) state.life)) state.stations h
+open_after state (Session s) Recover e h = open_returned (of_session s) state h
+open_after state (Session s) Rollback e h = open_returned (of_session s) state h
 open_after state (Session s) _ e h = h
 
-open_step : (state : State) (who : Who) (call : Call) → HasOpen state → HasOpen (step state who call)
+open_committed : (state : State) (who : Who) (ms : List Content) → AreOutToOpen state → AreOutToOpen (after_commit state who ms)
+unfolding after_commit
+open_committed state (Connection c) ms h = h
+open_committed state (Session s) ms h = open_published (settled (of_session s) state) ms (open_settled (of_session s) state h)
+
+open_step : (state : State) (who : Who) (call : Call) → AreOutToOpen state → AreOutToOpen (step state who call)
 unfolding step
 open_step state who (Ask request) h = open_moved (refusal state.life state.consumers (held state who request) who request) (after state who request) state (λ e. open_after state who request e h) h
 open_step state who (Publish messages) h = open_moved (publish_refusal state who messages) (published state messages) state (λ e. open_published state messages h) h
+open_step state who (Commit messages) h = open_moved (commit_refusal state who messages) (after_commit state who messages) state (λ e. open_committed state who messages h) h
 
-pub reached_open : (state : State) → Reached state → HoldsOutToOpen state.life state.stations
-reached_open state (New opening limit) = tt
+pub reached_open : (state : State) → Reached state → AreOutToOpen state
+reached_open state (New opening limit) = record { stations = tt; queues = λ name. tt }
 reached_open state (Stepped before who call r) = open_step before who call (reached_open before r)

@@ -1,38 +1,44 @@
 -- What is planned, once it is made, is the machine's step.
 use Rattle.std.proofs.Common.{◌≡◌, ◌≤◌, ◌+◌, ◌∷◌, [], ℕ, Bool, true, false, cond, List, map, length, refl, ap, ◌∙◌, arith, Option, Some, None, Ok, Err}
-use Rattle.std.specs.Prelude.{◌&&◌, IfErr, MatchBool, OnErr, OnOk, Result, is_some, nat_le}
+use Rattle.std.specs.Prelude.{◌&&◌, not, is_some, IfErr, MatchBool, OnErr, OnOk, Result, is_none, nat_le}
 use Rattle.std.proofs.lemmas.Bool.Decides.{nat_tests}
 use Rattle.std.proofs.lemmas.List.{length-map}
 use Rattle.jm_base.specs.declared.mode.Mode.{Mode}
 use Rattle.jm_base.specs.declared.refusal.Refusal.{Refusal}
-use Rattle.jm_base.specs.declared.refusal.Refusal.TheVariants.{Exhausted, IllegalState, Memory}
+use Rattle.jm_base.specs.declared.refusal.Refusal.TheVariants.{Exhausted, IllegalState, InvalidClientId, Memory}
 use Rattle.jm_dest.specs.declared.session.SessionId.{SessionId}
-use Rattle.jm_dest.specs.declared.key.Key.TheVariants.{Own}
+use Rattle.jm_dest.specs.declared.destination.Destination.TheVariants.{Queue, Topic}
+use Rattle.jm_dest.specs.declared.key.Key.{Key}
+use Rattle.jm_dest.specs.declared.key.Key.TheVariants.{Own, Queue as OfQueue}
 use Rattle.jm_header.specs.declared.content.Content.{Content}
 use Rattle.jm_machine.specs.declared.answer.Answer.{Answer}
 use Rattle.jm_machine.specs.declared.answer.Answer.TheVariants.{Done, Missed}
 use Rattle.jm_machine.specs.declared.call.Who.{Who}
 use Rattle.jm_machine.specs.declared.call.Who.TheVariants.{Connection, Session}
 use Rattle.jm_machine.specs.declared.call.Call.{Call}
-use Rattle.jm_machine.specs.declared.call.Call.TheVariants.{Ask, Publish}
+use Rattle.jm_machine.specs.declared.call.Call.TheVariants.{Ask, Publish, Commit}
 use Rattle.jm_machine.specs.declared.call.Request.TheVariants as request
+use Rattle.jm_machine.specs.declared.state.PlacedRow.{PlacedRow}
 use Rattle.jm_machine.specs.declared.state.Station.{Station}
-use Rattle.jm_machine.specs.Life.{life_after, mode_of}
-use Rattle.jm_machine.specs.Machine.{State, after, answer, closed, is_client, is_stamped, joined, may_use, moved, of_connection, of_number, of_session, places_end, publish_refusal, published, put, refusal, replied, reply, returned, settled, settled_rows, step, with_life, with_rows}
+use Rattle.jm_machine.specs.Life.{connection_of, is_client_taken, life_after, mode_of}
+use Rattle.jm_machine.specs.Machine.{State, after, after_commit, answer, at_queues, closed, consumer_of, first_cause, held, holding_at, key_at, selected_by, commit_refusal, has_places, is_client, is_stamped, is_transacted, is_untransacted, joined, may_use, moved, of_connection, of_number, of_session, places_end, publish_refusal, published, put, refusal, replied, reply, returned, settled, settled_rows, step, unless, with_life, with_rows}
 use Rattle.jm_machine.specs.Wants.{is_want, may_want}
-use Rattle.jm_session.specs.Known.{Known}
+use Rattle.jm_session.specs.Known.{Known, open_cause}
 use Rattle.jm_stations.specs.Stations.{Stations}
 use Rattle.jm_sub.specs.Subscriptions.{Subscription, Subscriptions}
 use Rattle.jm_core.specs.declared.publish.Publication.{Publication}
 use Rattle.jm_core.specs.declared.plan.Change.TheVariants as change
-use Rattle.jm_core.specs.Plans.{IsPlan, IsCreating, IsMissing, IsPublishing, IsRefused}
+use Rattle.jm_core.specs.Plans.{IsPlan, IsCommitting, IsCreating, IsCreatingOf, IsMissing, IsOpening, IsPublishing, IsRefused}
+use Rattle.jm_core.specs.Closing.{acknowledged_queues}
 use Rattle.jm_core.specs.Provider.{Provider, state_of}
-use Rattle.jm_core.specs.Steps.{PublishFits, StepFits}
+use Rattle.jm_core.specs.Takings.{missed_at}
+use Rattle.jm_core.specs.Publications.{unprepared}
+use Rattle.jm_core.specs.Steps.{CommitFits, PublishFits, StepFits}
 use Rattle.jm_core.proofs.Fits.{create_made}
 
 -- what callers see, of these parts
-abbrev pub of_parts : ℕ → ℕ → Known → Subscriptions → Stations → Provider
-of_parts opening limit known subscriptions held = record { opening = opening; limit = limit; known = known; subscriptions = subscriptions; held = held }
+abbrev pub of_parts : ℕ → ℕ → Known → Subscriptions → Stations → Stations → Provider
+of_parts opening limit known subscriptions held queues = record { opening = opening; limit = limit; known = known; subscriptions = subscriptions; held = held; queues = queues }
 
 -- ---- a refusal
 
@@ -45,6 +51,7 @@ stays : (old : State) (who : Who) (call : Call) (r : Refusal) → Err r ≡ repl
 unfolding reply step
 stays old who (Ask request) r h = stays_by _ _ _ old r h
 stays old who (Publish messages) r h = stays_by _ _ _ old r h
+stays old who (Commit messages) r h = stays_by _ _ _ old r h
 
 pub refused_fits : (old new : State) (who : Who) (call : Call) (r : Refusal) → new ≡ old → IsRefused old who call r → StepFits old who call (Err r) new
 refused_fits old new who call r e h = go (is_want (Err r)) h
@@ -55,9 +62,18 @@ refused_fits old new who call r e h = go (is_want (Err r)) h
 
 -- ---- changes of connections and sessions
 
-pub opened : (p : Provider) (who : Who) (call : Call) (c : ℕ) (new : State) → IsPlan p who call (change.Open c) → new ≡ record (state_of p) { life = life_after p.known.life (Connection c) request.Open } → StepFits (state_of p) who call (Ok Done) new
+pub opened : (p : Provider) (who : Who) (call : Call) (c : ℕ) (client : Option (List ℕ)) (new : State) → IsOpening p who call c client → new ≡ record (state_of p) { life = life_after p.known.life (Connection c) (request.Open client) } → StepFits (state_of p) who call (Ok Done) new
 unfolding reply step refusal answer after
-opened p who call c new h e = rw (h.0, h.1, h.2) (refl, e)
+opened p who call c client new h e = rw (h.sender, h.asked, h.new, h.free) (refl, e)
+
+pub open_refused : (state : State) (c : ℕ) (client : Option (List ℕ)) (r : Refusal) → r ≡ open_cause (is_some (connection_of state.life.connections c)) (is_client_taken state.life client) → IsRefused state (Connection c) (Ask (request.Open client)) r
+unfolding reply refusal may_want
+open_refused state c client r e = rw e (go (is_some (connection_of state.life.connections c)) (is_client_taken state.life client) (answer state.life state.consumers (held state (Connection c) (request.Open client)) (Connection c) (request.Open client)))
+  where
+    go : (a b : Bool) (told : Answer) → MatchBool (is_want (Err (open_cause a b))) ((not a && not b) ≡ true) (Err (open_cause a b) ≡ replied (first_cause (unless (not a) IllegalState) (unless (not b) InvalidClientId)) told)
+    go true b told = refl
+    go false true told = refl
+    go false false told = refl
 
 pub started : (p : Provider) (who : Who) (call : Call) (c : ℕ) (new : State) → IsPlan p who call (change.Start c) → new ≡ record (state_of p) { life = life_after p.known.life (Connection c) request.Start } → StepFits (state_of p) who call (Ok Done) new
 unfolding reply step refusal answer after
@@ -91,20 +107,29 @@ pub acknowledged : (p : Provider) (who : Who) (call : Call) (s : SessionId) (mod
 unfolding reply step refusal answer after
 acknowledged p who call s mode new h e = rw (h.0, h.1, h.2) (refl, e)
 
-pub acknowledged_state : (state : State) (mode : Mode) (s : SessionId) (xs : List Station) → xs ≡ cond (is_client (Some mode)) (map (with_rows (settled_rows (of_session s))) state.stations) state.stations → record state { stations = xs } ≡ cond (is_client (Some mode)) (settled (of_session s) state) state
-acknowledged_state state mode s xs e = go (is_client (Some mode)) e
+pub acknowledged_state : (state : State) (mode : Mode) (s : SessionId) (xs : List Station) (qs : List ℕ → List PlacedRow) → xs ≡ cond (is_client (Some mode)) (map (with_rows (settled_rows (of_session s))) state.stations) state.stations → qs ≡ acknowledged_queues mode s state.queues →
+    record state { stations = xs; queues = qs } ≡ cond (is_client (Some mode)) (settled (of_session s) state) state
+acknowledged_state state mode s xs qs e f = go (is_client (Some mode)) e f
   where
-    go : (b : Bool) → xs ≡ cond b (map (with_rows (settled_rows (of_session s))) state.stations) state.stations → record state { stations = xs } ≡ cond b (settled (of_session s) state) state
-    go true e = ap (λ (ys : List Station). record state { stations = ys }) e
-    go false e = ap (λ (ys : List Station). record state { stations = ys }) e
+    go : (b : Bool) → xs ≡ cond b (map (with_rows (settled_rows (of_session s))) state.stations) state.stations → qs ≡ cond b (at_queues (settled_rows (of_session s)) state.queues) state.queues → record state { stations = xs; queues = qs } ≡ cond b (settled (of_session s) state) state
+    go true e f = λ i. record state { stations = e i; queues = f i }
+    go false e f = λ i. record state { stations = e i; queues = f i }
 
 pub recovered : (p : Provider) (who : Who) (call : Call) (s : SessionId) (new : State) → IsPlan p who call (change.Recover s) → new ≡ returned (of_session s) (state_of p) → StepFits (state_of p) who call (Ok Done) new
 unfolding reply step refusal answer after
 recovered p who call s new h e = rw (h.0, h.1, h.2) (refl, e)
 
+pub rolled_back : (p : Provider) (who : Who) (call : Call) (s : SessionId) (new : State) → IsPlan p who call (change.Rollback s) → new ≡ returned (of_session s) (state_of p) → StepFits (state_of p) who call (Ok Done) new
+unfolding reply step refusal answer after
+rolled_back p who call s new h e = rw (h.0, h.1, h.2) (refl, e)
+
 pub missing_told : (p : Provider) (who : Who) (call : Call) (n : ℕ) → IsMissing p who call n → StepFits (state_of p) who call (Ok (Missed n)) (state_of p)
 unfolding reply step refusal answer after
-missing_told p who call n h = rw (h.sender, h.asked, h.allowed) (ap (λ x. Ok (Missed x)) h.number, refl)
+missing_told p who call n h = rw (h.sender, h.asked, h.allowed) (ap (λ x. Ok (Missed x)) (h.number ∙ go (key_at (consumer_of p.known.consumers h.session h.consumer))), refl)
+  where
+    go : (k : Option Key) → missed_at k (state_of p).stations ≡ (holding_at (selected_by None) k (state_of p)).missed
+    go None = refl
+    go (Some k) = refl
 
 pub missing_refused : (state : State) (s : SessionId) (c : ℕ) (r : Refusal) → r ≡ IllegalState → may_use state.life state.consumers s c ≡ false → IsRefused state (Session s) (Ask (request.Missed c)) r
 unfolding reply refusal
@@ -112,10 +137,14 @@ missing_refused state s c r e m = rw (e, m) refl
 
 -- ---- a consumer
 
-pub consumer_made : (p : Provider) (who : Who) (call : Call) (s : SessionId) (c : ℕ) (d : Subscription) (new : State) → IsCreating p who call s c d → new ≡ joined s c (Own s c) (put (Own s c) d.definition (state_of p)) → StepFits (state_of p) who call (Ok Done) new
+pub consumer_made : (p : Provider) (who : Who) (call : Call) (s : SessionId) (c : ℕ) (d : Subscription) (new : State) → IsCreating p who call s c d → new ≡ joined s c (Own s c) None (put (Own s c) d.definition (state_of p)) → StepFits (state_of p) who call (Ok Done) new
 consumer_made p who call s c d new h e =
-    let made = ap (λ (x : Subscription). joined s c (Own s c) (put (Own s c) x.definition (state_of p))) h.decided in
-    rw (h.sender, h.asked) (create_made (state_of p) s c h.topic h.selector new h.begins h.valid (e ∙ made))
+    let made = ap (λ (x : Subscription). joined s c (Own s c) None (put (Own s c) x.definition (state_of p))) h.decided in
+    rw (h.sender, h.asked) (create_made (state_of p) s c (Topic h.topic) h.selector h.no_local new h.begins h.valid (e ∙ made))
+
+pub consumer_made_of : (p : Provider) (who : Who) (call : Call) (s : SessionId) (c : ℕ) (queue : List ℕ) (selector : Option (List ℕ)) (new : State) → IsCreatingOf p who call s c queue selector → new ≡ joined s c (OfQueue queue) selector (state_of p) → StepFits (state_of p) who call (Ok Done) new
+consumer_made_of p who call s c queue selector new h e =
+    rw (h.sender, h.asked) (create_made (state_of p) s c (Queue queue) h.text h.no_local new h.begins h.valid (e ∙ ap (λ t. joined s c (OfQueue queue) t (state_of p)) h.read))
 
 -- ---- publications
 
@@ -129,26 +158,68 @@ places_left place n h = grind (arith, nat_tests)
 pub places_within : (place n : ℕ) → nat_le (place + n) places_end ≡ true → place + n ≤ places_end
 places_within place n h = grind (arith, nat_tests)
 
+-- where messages are not prepared, places run out or memory is wanted
+cause_told : (b : Bool) → MatchBool (is_want (Err (cond b Memory Exhausted))) (is_none (unless b Exhausted) ≡ true) (Err (cond b Memory Exhausted) ≡ replied (unless b Exhausted) Done)
+cause_told true = refl
+cause_told false = refl
+
 -- a publication is refused where the session did not stamp the messages, or no places are left; and else may want memory
-pub not_stamped : (state : State) (s : SessionId) (ms : List Content) → (is_some (mode_of state.life s) && is_stamped state.opening s ms) ≡ false → IsRefused state (Session s) (Publish ms) IllegalState
+pub not_stamped : (state : State) (s : SessionId) (ms : List Content) → (is_untransacted (mode_of state.life s) && is_stamped state.opening s ms) ≡ false → IsRefused state (Session s) (Publish ms) IllegalState
 unfolding reply publish_refusal
 not_stamped state s ms e = rw e refl
 
-pub no_places : (state : State) (s : SessionId) (ms : List Content) → (is_some (mode_of state.life s) && is_stamped state.opening s ms) ≡ true → nat_le (state.next_place + length ms) places_end ≡ false → IsRefused state (Session s) (Publish ms) Exhausted
+pub no_places : (state : State) (s : SessionId) (ms : List Content) → (is_untransacted (mode_of state.life s) && is_stamped state.opening s ms) ≡ true → nat_le (state.next_place + length ms) places_end ≡ false → IsRefused state (Session s) (Publish ms) Exhausted
 unfolding reply publish_refusal
 no_places state s ms e f = rw (e, f) refl
 
-pub wants_room : (state : State) (s : SessionId) (ms : List Content) (r : Refusal) → (is_some (mode_of state.life s) && is_stamped state.opening s ms) ≡ true → nat_le (state.next_place + length ms) places_end ≡ true → r ≡ Memory → IsRefused state (Session s) (Publish ms) r
+pub unready : (state : State) (s : SessionId) (ms : List Content) (r : Refusal) → (is_untransacted (mode_of state.life s) && is_stamped state.opening s ms) ≡ true → r ≡ unprepared state.next_place ms → IsRefused state (Session s) (Publish ms) r
+unfolding reply may_want publish_refusal
+unready state s ms r e f = rw (f, e) (cause_told (has_places state.next_place ms))
+
+pub wants_room : (state : State) (s : SessionId) (ms : List Content) (r : Refusal) → (is_untransacted (mode_of state.life s) && is_stamped state.opening s ms) ≡ true → nat_le (state.next_place + length ms) places_end ≡ true → r ≡ Memory → IsRefused state (Session s) (Publish ms) r
 unfolding may_want publish_refusal
 wants_room state s ms r e f m = rw (m, e, f) refl
 
 pub all_published : (p : Provider) (who : Who) (call : Call) (xs : List Publication) (new : State) (h : IsPublishing p who call xs) → new ≡ published (state_of p) h.messages → StepFits (state_of p) who call (Ok Done) new
 unfolding reply step publish_refusal
 all_published p who call xs new h e =
-    rw (h.sender, h.asked, h.stamped, places_left p.held.next_place (length h.messages) h.places) (refl, e)
+    rw (h.sender, h.asked, h.stamped, places_left p.held.next_place (length h.messages) h.prepared.places) (refl, e)
+
+-- where the state stays, who may publish may still
+pub stamped_still : (old new : State) (s : SessionId) (ms : List Content) → new ≡ old → (is_untransacted (mode_of old.life s) && is_stamped old.opening s ms) ≡ true → (is_untransacted (mode_of new.life s) && is_stamped new.opening s ms) ≡ true
+stamped_still old new s ms e h = ap (λ (x : State). is_untransacted (mode_of x.life s) && is_stamped x.opening s ms) e ∙ h
+
+-- ---- commits
+
+-- a commit is refused where the session is not transacted or did not stamp the messages, or they are not prepared
+pub not_committed : (state : State) (s : SessionId) (ms : List Content) → (is_transacted (mode_of state.life s) && is_stamped state.opening s ms) ≡ false → IsRefused state (Session s) (Commit ms) IllegalState
+unfolding reply commit_refusal
+not_committed state s ms e = rw e refl
+
+pub commit_unready : (state : State) (s : SessionId) (ms : List Content) (r : Refusal) → (is_transacted (mode_of state.life s) && is_stamped state.opening s ms) ≡ true → r ≡ unprepared state.next_place ms → IsRefused state (Session s) (Commit ms) r
+unfolding reply may_want commit_refusal
+commit_unready state s ms r e f = rw (f, e) (cause_told (has_places state.next_place ms))
+
+-- where the state stays, who may commit may still
+pub committing_still : (old new : State) (s : SessionId) (ms : List Content) → new ≡ old → (is_transacted (mode_of old.life s) && is_stamped old.opening s ms) ≡ true → (is_transacted (mode_of new.life s) && is_stamped new.opening s ms) ≡ true
+committing_still old new s ms e h = ap (λ (x : State). is_transacted (mode_of x.life s) && is_stamped x.opening s ms) e ∙ h
+
+pub all_committed : (p : Provider) (who : Who) (call : Call) (s : SessionId) (xs : List Publication) (new : State) (h : IsCommitting p who call s xs) → new ≡ published (settled (of_session s) (state_of p)) h.messages → StepFits (state_of p) who call (Ok Done) new
+unfolding reply step commit_refusal after_commit
+all_committed p who call s xs new h e =
+    rw (h.sender, h.asked, h.stamped, places_left p.held.next_place (length h.messages) h.prepared.places) (refl, e)
+
+-- whatever answer a commit gave, it was done
+pub commit_done : (old new : State) (s : SessionId) (ms : List Content) (a : Answer) (u : Unit {0}) → StepFits old (Session s) (Commit ms) (Ok a) new → CommitFits old s ms (Ok u) new
+unfolding reply
+commit_done old new s ms a u f = (go (commit_refusal old (Session s) ms) f.0, f.1)
+  where
+    go : (x : Option Refusal) → Ok a ≡ replied x Done → Ok Done ≡ replied x Done
+    go None e = refl
+    go (Some r) e = cc
 
 -- one message
-pub one_fits : (state new : State) (s : SessionId) (m : Content) (r : Result (Unit {0}) Refusal) → (is_some (mode_of state.life s) && is_stamped state.opening s (m ∷ [])) ≡ true → nat_le (state.next_place + 1) places_end ≡ true →
+pub one_fits : (state new : State) (s : SessionId) (m : Content) (r : Result (Unit {0}) Refusal) → (is_untransacted (mode_of state.life s) && is_stamped state.opening s (m ∷ [])) ≡ true → nat_le (state.next_place + 1) places_end ≡ true →
     OnOk r (new ≡ published state (m ∷ [])) → IfErr r (λ e. e ≡ Memory) → OnErr r (new ≡ state) → PublishFits state s (m ∷ []) r new
 unfolding reply step publish_refusal
 one_fits state new s m (Ok u) e f ok refused err = rw (e, f) (refl, ok)

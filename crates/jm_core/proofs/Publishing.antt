@@ -4,23 +4,32 @@ use Rattle.std.specs.Prelude.{◌||◌, ◌&&◌, filter, position, nat_le, nat_
 use Rattle.std.specs.List.{All, AllByRecursion, IsDistinct, position_or_len}
 use Rattle.std.proofs.lemmas.Bool.Decides.{nat_tests}
 use Rattle.std.proofs.Math.Seq.{take-suc}
-use Rattle.std.proofs.lemmas.List.{append-nil, map-append}
-use Rattle.std.proofs.lemmas.List.Elements.{All-head, All-tail, All-cons, All-push}
+use Rattle.std.proofs.lemmas.List.{append-nil, length-map, map-append}
+use Rattle.std.proofs.lemmas.List.Elements.{All-head, All-tail, All-cons, All-nil, All-push}
 use Rattle.std.proofs.lemmas.List.Sums.{fails_before_first}
+use Rattle.jm_dest.specs.declared.session.SessionId.{SessionId}
+use Rattle.jm_dest.specs.declared.destination.Destination.{Destination}
+use Rattle.jm_dest.specs.declared.destination.Destination.TheVariants.{Queue, Topic}
 use Rattle.jm_dest.specs.declared.key.Key.{Key}
+use Rattle.jm_dest.specs.declared.key.Key.TheVariants.{Queue as OfQueue}
 use Rattle.jm_dest.specs.Keys.{key_eq}
 use Rattle.jm_header.specs.declared.content.Content.{Content}
 use Rattle.jm_machine.specs.Life.{Life}
-use Rattle.jm_machine.specs.Machine.{Publisher, State, publisher_of, accepts, brought, is_full, is_limited, offered, one_missed, published, with_message, with_rows}
+use Rattle.jm_machine.specs.Machine.{Publisher, State, publisher_of, accepts, brought, is_full, is_limited, offered, one_missed, published, queued, with_message, with_rows}
+use Rattle.jm_machine.specs.declared.state.PlacedRow.{PlacedRow}
 use Rattle.jm_machine.specs.Rows.{fresh}
 use Rattle.jm_pending.specs.Rows.{is_at_limit}
-use Rattle.jm_stations.specs.Backlogs.{Backlog, IsPublished, HasMoreRoom, is_named, added}
+use Rattle.jm_stations.specs.Backlogs.{Backlog, IsPublished, HasMoreRoom, is_named, added, settled}
+use Rattle.jm_stations.specs.Stations.{Stations, index_in}
 use Rattle.jm_stations.proofs.Keys.{key_refl}
 use Rattle.jm_sub.specs.Subscriptions.{Subscription, takes, accepting}
 use Rattle.jm_core.specs.State.{HasLimit, station, stations_of, keys_of}
 use Rattle.jm_core.specs.Steps.{published_stations}
 use Rattle.jm_core.specs.declared.publish.Publication.{Publication}
-use Rattle.jm_core.specs.Publications.{IsReserved, IsRouted, IsReady, ArePublished}
+use Rattle.jm_core.specs.declared.publish.Goal.{Goal}
+use Rattle.jm_core.specs.declared.publish.Goal.TheVariants as to
+use Rattle.jm_core.specs.Publications.{IsReserved, IsRouted, IsReady, ArePublished, HasMessageRoom, HasRoom, queue_indexes, station_indexes}
+use Rattle.jm_core.specs.Queues.{HaveMoreRoom, IsQueued, published_queues}
 use Rattle.jm_core.proofs.Stations.{found_at}
 
 -- where a key stands, or how many keys there are
@@ -126,12 +135,18 @@ named_places t (s ∷ ss) k d h l = go (t s) refl (λ j within. named_places t s
     go false e later zero l = ap (λ is. is_named is 0) places ∙ named_first (map (place_in (keys_of ss)) (keys_of (filter t ss))) ∙ sym e
     go false e later (suc k) l = ap (λ is. is_named is (suc k)) places ∙ named_later (map (place_in (keys_of ss)) (keys_of (filter t ss))) k ∙ later k (omega arith)
 
-pub routed : (ss : List Subscription) (keys : List Key) (m : Content) (accepted : List Key) (is : List ℕ) → keys_of ss ≡ keys → IsDistinct key_eq keys → ((p : Publisher) → accepted ≡ accepting p m ss) → map Some is ≡ map (λ y. position (λ x. key_eq x y) keys) accepted → IsRouted ss m is
-routed ss keys m accepted is e h a s = record {
-  each = λ p k d l.
-      let at : is ≡ map (place_in (keys_of ss)) (accepting p m ss) = rw (e, ← a p) (places_are keys accepted is s) in
+pub routed : (life : Life) (ss : List Subscription) (keys : List Key) (m : Content) (accepted : List Key) (is : List ℕ) → keys_of ss ≡ keys → IsDistinct key_eq keys → accepted ≡ accepting (publisher_of life m) m ss → map Some is ≡ map (λ y. position (λ x. key_eq x y) keys) accepted → IsRouted life ss m is
+routed life ss keys m accepted is e h a s = record {
+  each = λ k d l.
+      let p = publisher_of life m in
+      let at : is ≡ map (place_in (keys_of ss)) (accepting p m ss) = rw (e, ← a) (places_are keys accepted is s) in
       ap (λ js. is_named js k) at ∙ named_places (takes p m) ss k d (subst (IsDistinct key_eq) (sym e) h) l;
 }
+
+-- no subscription accepts what is sent to a queue
+pub none_routed : (life : Life) (ss : List Subscription) (m : Content) (name : List ℕ) → m.destination ≡ Queue name → IsRouted life ss m []
+unfolding accepts
+none_routed life ss m name e = record { each = λ k d l. rw e refl }
 
 -- ---- what callers see of a publication
 
@@ -168,9 +183,9 @@ offered_each limit p m place (s ∷ ss) (x ∷ old) (y ∷ new) named n n' l u t
     go true false e = absurd (cc)
     go false true e = absurd (cc)
 
-pub published_one : (limit : ℕ) (p : Publisher) (m : Content) (place : ℕ) (ss : List Subscription) (old new : List Backlog) (is : List ℕ) → length old ≡ length ss → All IsLimited (keys_of ss) → All (HasLimit limit) old → IsRouted ss m is → IsPublished is place m old new →
-    stations_of ss new ≡ map (offered limit p m place) (stations_of ss old)
-published_one limit p m place ss old new is n l u r h = offered_each limit p m place ss old new (is_named is) n (h.number ∙ n) l u (r.each p) h.each
+pub published_one : (limit : ℕ) (life : Life) (m : Content) (place : ℕ) (ss : List Subscription) (old new : List Backlog) (is : List ℕ) → length old ≡ length ss → All IsLimited (keys_of ss) → All (HasLimit limit) old → IsRouted life ss m is → IsPublished is place m old new →
+    stations_of ss new ≡ map (offered limit (publisher_of life m) m place) (stations_of ss old)
+published_one limit life m place ss old new is n l u r h = offered_each limit (publisher_of life m) m place ss old new (is_named is) n (h.number ∙ n) l u r.each h.each
 
 pub limited_one : (limit : ℕ) (m : Content) (place : ℕ) (old new : List Backlog) (is : List ℕ) → All (HasLimit limit) old → IsPublished is place m old new → All (HasLimit limit) new
 limited_one limit m place old new is u h = λ k d l.
@@ -186,28 +201,49 @@ limited_one limit m place old new is u h = λ k d l.
     go false x = refl
 
 -- many in turn
-pub published_all : (limit : ℕ) (life : Life) (ss : List Subscription) (xs : List Publication) (place : ℕ) (old new : List Backlog) → length old ≡ length ss → All IsLimited (keys_of ss) → All (HasLimit limit) old → All (λ (x : Publication). IsRouted ss x.message x.indexes.items) xs → ArePublished xs place old new →
+pub published_all : (limit : ℕ) (life : Life) (ss : List Subscription) (xs : List Publication) (place : ℕ) (old new : List Backlog) → length old ≡ length ss → All IsLimited (keys_of ss) → All (HasLimit limit) old → All (λ (x : Publication). IsRouted life ss x.message (station_indexes x.goal)) xs → ArePublished xs place old new →
     (stations_of ss new ≡ published_stations limit life place (map (λ (x : Publication). x.message) xs) (stations_of ss old)) × (length new ≡ length ss) × All (HasLimit limit) new
 published_all limit life ss [] place old new n l u r h = (ap (stations_of ss) h, ap (λ (l : List Backlog). length l) h ∙ n, subst (All (HasLimit limit)) (sym h) u)
 published_all limit life ss (x ∷ xs) place old new n l u r h =
-    let routes = All-head (λ (x : Publication). IsRouted ss x.message x.indexes.items) x xs r in
-    let one = published_one limit (publisher_of life x.message) x.message place ss old h.0 x.indexes.items n l u routes h.1 in
-    let rest = published_all limit life ss xs (place + 1) h.0 new (h.1.number ∙ n) l (limited_one limit x.message place old h.0 x.indexes.items u h.1) (All-tail (λ (x : Publication). IsRouted ss x.message x.indexes.items) x xs r) h.2 in
+    let routes = All-head (λ (x : Publication). IsRouted life ss x.message (station_indexes x.goal)) x xs r in
+    let one = published_one limit life x.message place ss old h.0 (station_indexes x.goal) n l u routes h.1 in
+    let rest = published_all limit life ss xs (place + 1) h.0 new (h.1.number ∙ n) l (limited_one limit x.message place old h.0 (station_indexes x.goal) u h.1) (All-tail (λ (x : Publication). IsRouted life ss x.message (station_indexes x.goal)) x xs r) h.2 in
     (rest.0 ∙ ap (published_stations limit life (place + 1) (map (λ (x : Publication). x.message) xs)) one, rest.1, rest.2)
 
--- the state after messages is that of its stations, and as many places further
-pub published_is : (state : State) (ms : List Content) → published state ms ≡ record state { stations = published_stations state.limit state.life state.next_place ms state.stations; next_place = state.next_place + length ms }
+-- the state after messages is that of its stations and queues, and as many places further
+pub published_is : (state : State) (ms : List Content) →
+    published state ms ≡ record state { stations = published_stations state.limit state.life state.next_place ms state.stations; queues = published_queues state.next_place ms state.queues; next_place = state.next_place + length ms }
 unfolding published
 published_is state [] = ap (λ n. record state { next_place = n }) (omega arith)
 published_is state (m ∷ ms) =
     published_is (with_message state m) ms
-    ∙ ap (λ n. record state { stations = published_stations state.limit state.life (state.next_place + 1) ms (map (offered state.limit (publisher_of state.life m) m state.next_place) state.stations); next_place = n }) (omega arith)
+    ∙ ap (λ n. record state { stations = published_stations state.limit state.life (state.next_place + 1) ms (map (offered state.limit (publisher_of state.life m) m state.next_place) state.stations); queues = published_queues (state.next_place + 1) ms (queued m.destination m state.next_place state.queues); next_place = n }) (omega arith)
+
+-- nothing comes where no index is named
+pub none_published : (place : ℕ) (m : Content) (list : List Backlog) → IsPublished [] place m list list
+none_published place m list = record { number = refl; each = λ k d l. refl }
 
 -- ---- one publication more
 
-pub are_published_push : (xs : List Publication) (x : Publication) (place at : ℕ) (old mid new : List Backlog) → at ≡ place + length xs → ArePublished xs place old mid → IsPublished x.indexes.items at x.message mid new → ArePublished (xs ++ x ∷ []) place old new
-are_published_push [] x place at old mid new e h k = (new, subst (λ (l : List Backlog). IsPublished x.indexes.items place x.message l new) h (subst (λ n. IsPublished x.indexes.items n x.message mid new) (omega arith) k), refl)
+pub are_published_push : (xs : List Publication) (x : Publication) (place at : ℕ) (old mid new : List Backlog) → at ≡ place + length xs → ArePublished xs place old mid → IsPublished (station_indexes x.goal) at x.message mid new → ArePublished (xs ++ x ∷ []) place old new
+are_published_push [] x place at old mid new e h k = (new, subst (λ (l : List Backlog). IsPublished (station_indexes x.goal) place x.message l new) h (subst (λ n. IsPublished (station_indexes x.goal) n x.message mid new) (omega arith) k), refl)
 are_published_push (y ∷ xs) x place at old mid new e h k = (h.0, h.1, are_published_push xs x (place + 1) at h.0 mid new (omega arith) h.2 k)
+
+pub queues_push : (xs : List Publication) (x : Publication) (place at : ℕ) (old mid new : List ℕ → List PlacedRow) → at ≡ place + length xs → mid ≡ published_queues place (map (λ (x : Publication). x.message) xs) old → new ≡ queued x.message.destination x.message at mid →
+    new ≡ published_queues place (map (λ (x : Publication). x.message) (xs ++ x ∷ [])) old
+queues_push [] x place at old mid new e h k =
+    let here : at ≡ place = omega (arith, e) in
+    k ∙ (λ i. queued x.message.destination x.message (here i) (h i))
+queues_push (y ∷ xs) x place at old mid new e h k = queues_push xs x (place + 1) at (queued y.message.destination y.message place old) mid new (omega (arith, e)) h k
+
+-- a message is received by the queue that it was sent to, and by none where it was sent to a topic
+pub nothing_queued : (keys : List Key) (d : Destination) (m : Content) (place : ℕ) (queues : List ℕ → List PlacedRow) → IsQueued keys d [] → queues ≡ queued d m place queues
+nothing_queued keys (Queue name) m place queues h = absurd (let no : [] ≡ h.0 ∷ [] = h.1 in cc)
+nothing_queued keys (Topic name) m place queues h = refl
+
+pub one_queued : (keys : List Key) (d : Destination) (m : Content) (place index : ℕ) (old new : List ℕ → List PlacedRow) → IsQueued keys d (index ∷ []) → ((name : List ℕ) → index_in keys (OfQueue name) ≡ Some index → new ≡ queued (Queue name) m place old) → new ≡ queued d m place old
+one_queued keys (Queue name) m place index old new h f = let same : index ≡ h.0 = let e : index ∷ [] ≡ h.0 ∷ [] = h.1 in cc in f name (h.2 ∙ ap (λ n. Some n) (sym same))
+one_queued keys (Topic name) m place index old new h f = absurd (let e : index ∷ [] ≡ [] = h in cc)
 
 -- ---- room
 
@@ -215,20 +251,17 @@ are_published_push (y ∷ xs) x place at old mid new e h k = (h.0, h.1, are_publ
 pub reserved_for : (n m : ℕ) (list : List Backlog) (is : List ℕ) → m ≤ n → IsReserved n list is → IsReserved m list is
 reserved_for n m list is le r = record { within = r.within; once = r.once; room = λ k d l e. let was = r.room k d l e in omega (arith, le, was) }
 
--- nobody that publishes
-abbrev pub nobody : Publisher
-nobody = record { connection = 0; client = None }
+pub none_reserved : (n : ℕ) (list : List Backlog) → IsReserved n list []
+unfolding IsDistinct
+none_reserved n list = record { within = All-nil (λ i. i < length list); once = tt; room = All-nil (λ i. (d : Backlog) → n ≤ (get_or list i d).room) }
 
--- where the indexes of the keys that accept a message were found, and room was made there, a publication is ready
-pub ready_there : (n : ℕ) (ss : List Subscription) (keys : List Key) (old new : List Backlog) (accepted : List Key) (x : Publication) → keys_of ss ≡ keys → IsDistinct key_eq keys → ((p : Publisher) → accepted ≡ accepting p x.message ss) →
-    map Some x.indexes.items ≡ map (λ y. position (λ z. key_eq z y) keys) accepted → All (λ i. i < length old) x.indexes.items → (IsDistinct key_eq accepted → IsDistinct nat_eq x.indexes.items) → HasMoreRoom old new → All (λ i. (d : Backlog) → n ≤ (get_or new i d).room) x.indexes.items → IsReady n ss new x
-ready_there n ss keys old new accepted x e h a at within once more room = record {
-  reserved = record {
-    within = λ k d l. let was = within k d l in omega (arith, more.number, was);
-    once = once (subst (IsDistinct key_eq) (sym (a nobody)) (accepting_once nobody x.message ss keys e h));
-    room = room;
-  };
-  routed = routed ss keys x.message accepted x.indexes.items e h a at;
+-- where the indexes of the keys that accept a message were found, and room was made there, it is reserved
+pub reserved_there : (n : ℕ) (p : Publisher) (m : Content) (ss : List Subscription) (keys : List Key) (old new : List Backlog) (accepted : List Key) (is : List ℕ) → keys_of ss ≡ keys → IsDistinct key_eq keys → accepted ≡ accepting p m ss →
+    All (λ i. i < length old) is → (IsDistinct key_eq accepted → IsDistinct nat_eq is) → HasMoreRoom old new → All (λ i. (d : Backlog) → n ≤ (get_or new i d).room) is → IsReserved n new is
+reserved_there n p m ss keys old new accepted is e h a within once more room = record {
+  within = λ k d l. let was = within k d l in omega (arith, more.number, was);
+  once = once (subst (IsDistinct key_eq) (sym a) (accepting_once p m ss keys e h));
+  room = room;
 }
 
 -- further room leaves what is there
@@ -243,8 +276,40 @@ reserved_more n old new is h r = record {
       omega (arith, was, more);
 }
 
-pub ready_more : (n : ℕ) (ss : List Subscription) (old new : List Backlog) (xs : List Publication) → HasMoreRoom old new → All (IsReady n ss old) xs → All (IsReady n ss new) xs
-ready_more n ss old new xs h r = λ k d l. let x = r k d l in record { reserved = reserved_more n old new (get_or xs k d).indexes.items h x.reserved; routed = x.routed }
+pub reserved_wider : (n : ℕ) (old new : Stations) (is : List ℕ) → HaveMoreRoom old new → IsReserved n old.list is → IsReserved n new.list is
+reserved_wider n old new is h r = record {
+  within = λ k d l. let at = r.within k d l in omega (arith, h.number, at);
+  once = r.once;
+  room = λ k d l e.
+      let at = r.within k d l in
+      let was = r.room k d l e in
+      let more = h.room (get_or is k d) e at in
+      omega (arith, was, more);
+}
+
+message_room : (n m : ℕ) (held queues after queues_after : Stations) (g : Goal) → (n ≤ held.message_room → m ≤ after.message_room) → (n ≤ queues.message_room → m ≤ queues_after.message_room) → HasMessageRoom n held queues g → HasMessageRoom m after queues_after g
+message_room n m held queues after queues_after (to.Subscriptions is) f g h = f h
+message_room n m held queues after queues_after (to.Queue i) f g h = g h
+
+pub room_more : (n : ℕ) (held queues after queues_after : Stations) (g : Goal) → HasMoreRoom held.list after.list → held.message_room ≤ after.message_room → HaveMoreRoom queues queues_after → HasRoom n held queues g → HasRoom n after queues_after g
+room_more n held queues after queues_after g h m q r = record {
+  subscriptions = reserved_more n held.list after.list (station_indexes g) h r.subscriptions;
+  queue = reserved_wider n queues queues_after (queue_indexes g) q r.queue;
+  messages = message_room n n held queues after queues_after g (λ e. omega (arith, e, m)) (λ e. omega (arith, e, q.messages)) r.messages;
+}
+
+queued_still : (old new : List Key) (d : Destination) (is : List ℕ) → ((key : Key) (i : ℕ) → index_in old key ≡ Some i → index_in new key ≡ Some i) → IsQueued old d is → IsQueued new d is
+queued_still old new (Queue name) is f h = (h.0, h.1, f (OfQueue name) h.0 h.2)
+queued_still old new (Topic name) is f h = h
+
+pub ready_more : (n : ℕ) (life : Life) (ss : List Subscription) (held queues after queues_after : Stations) (xs : List Publication) → HasMoreRoom held.list after.list → held.message_room ≤ after.message_room → HaveMoreRoom queues queues_after →
+    All (IsReady n life ss held queues) xs → All (IsReady n life ss after queues_after) xs
+ready_more n life ss held queues after queues_after xs h m q r = λ k d l.
+    let x = r k d l in
+    record {
+      room = room_more n held queues after queues_after (get_or xs k d).goal h m q x.room;
+      aimed = record { routed = x.aimed.routed; queued = queued_still queues.keys queues_after.keys (get_or xs k d).message.destination (queue_indexes (get_or xs k d).goal) q.found x.aimed.queued };
+    }
 
 -- a publication uses room for one row at most
 pub reserved_less : (n : ℕ) (m : Content) (place : ℕ) (old new : List Backlog) (named is : List ℕ) → IsPublished named place m old new → IsReserved (n + 1) old is → IsReserved n new is
@@ -265,19 +330,80 @@ reserved_less n m place old new named is h r = record {
     go true x w = inside (is_at_limit x.limit (length x.rows)) x w
     go false x w = omega (arith, w)
 
--- the first of those that are left has room for one at least, and all others for one less
-pub first_reserved : (list : List Backlog) (x : Publication) (xs left : List Publication) → left ≡ x ∷ xs → All (λ (y : Publication). IsReserved (length left) list y.indexes.items) left → IsReserved 1 list x.indexes.items
-first_reserved list x xs left e r =
-    let all = subst (λ (ys : List Publication). All (λ (y : Publication). IsReserved (length ys) list y.indexes.items) ys) e r in
-    reserved_for (length (x ∷ xs)) 1 list x.indexes.items (omega arith) (All-head (λ (y : Publication). IsReserved (length (x ∷ xs)) list y.indexes.items) x xs all)
+-- a publication that is made leaves room for one less
+pub record IsMade (x : Publication) (place : ℕ) (held queues after queues_after : Stations) : Type 0 where
+  pub list : IsPublished (station_indexes x.goal) place x.message held.list after.list
+  pub room : held.message_room ≤ after.message_room + 1
+  pub queue_list : IsPublished (queue_indexes x.goal) place x.message queues.list queues_after.list
+  pub queue_room : queues.message_room ≤ queues_after.message_room + 1
 
-pub others_reserved : (place : ℕ) (old new : List Backlog) (x : Publication) (xs left : List Publication) → left ≡ x ∷ xs → IsPublished x.indexes.items place x.message old new → All (λ (y : Publication). IsReserved (length left) old y.indexes.items) left →
-    All (λ (y : Publication). IsReserved (length xs) new y.indexes.items) xs
-others_reserved place old new x xs left e h r =
-    let all = subst (λ (ys : List Publication). All (λ (y : Publication). IsReserved (length ys) old y.indexes.items) ys) e r in
-    let rest = All-tail (λ (y : Publication). IsReserved (length (x ∷ xs)) old y.indexes.items) x xs all in
+room_less : (n place : ℕ) (x : Publication) (held queues after queues_after : Stations) (g : Goal) → IsMade x place held queues after queues_after → HasRoom (n + 1) held queues g → HasRoom n after queues_after g
+room_less n place x held queues after queues_after g h r = record {
+  subscriptions = reserved_less n x.message place held.list after.list (station_indexes x.goal) (station_indexes g) h.list r.subscriptions;
+  queue = reserved_less n x.message place queues.list queues_after.list (queue_indexes x.goal) (queue_indexes g) h.queue_list r.queue;
+  messages = message_room (n + 1) n held queues after queues_after g (λ e. omega (arith, e, h.room)) (λ e. omega (arith, e, h.queue_room)) r.messages;
+}
+
+room_for : (n m : ℕ) (held queues : Stations) (g : Goal) → m ≤ n → HasRoom n held queues g → HasRoom m held queues g
+room_for n m held queues g le r = record {
+  subscriptions = reserved_for n m held.list (station_indexes g) le r.subscriptions;
+  queue = reserved_for n m queues.list (queue_indexes g) le r.queue;
+  messages = message_room n m held queues held queues g (λ e. omega (arith, e, le)) (λ e. omega (arith, e, le)) r.messages;
+}
+
+-- what is settled leaves the room that there is
+room_settled : (p : SessionId → ℕ → Bool) (bs : List Backlog) (k : ℕ) (d : Backlog) → (get_or (map (settled p) bs) k d).room ≡ (get_or bs k d).room
+room_settled p [] k d = refl
+room_settled p (b ∷ bs) zero d = refl
+room_settled p (b ∷ bs) (suc k) d = room_settled p bs k d
+
+reserved_settled : (p : SessionId → ℕ → Bool) (n : ℕ) (list : List Backlog) (is : List ℕ) → IsReserved n list is → IsReserved n (map (settled p) list) is
+reserved_settled p n list is r = record {
+  within = λ k d l. let at = r.within k d l in omega (arith, length-map list (settled p), at);
+  once = r.once;
+  room = λ k d l e. let was = r.room k d l e in let same = room_settled p list (get_or is k d) e in omega (arith, was, same);
+}
+
+pub room_after_settling : (p : SessionId → ℕ → Bool) (n m : ℕ) (life : Life) (ss : List Subscription) (held queues after queues_after : Stations) (xs : List Publication) → m ≡ n → after.list ≡ map (settled p) held.list → held.message_room ≤ after.message_room → queues_after.list ≡ map (settled p) queues.list → queues.message_room ≤ queues_after.message_room →
+    All (IsReady n life ss held queues) xs → All (λ (x : Publication). HasRoom m after queues_after x.goal) xs
+room_after_settling p n m life ss held queues after queues_after xs e list room queue_list queue_room r = λ k d l.
+    let g = (get_or xs k d).goal in
+    let was = (r k d l).room in
+    record {
+      subscriptions = subst (λ (ys : List Backlog). IsReserved m ys (station_indexes g)) (sym list) (reserved_settled p m held.list (station_indexes g) (subst (λ j. IsReserved j held.list (station_indexes g)) (sym e) was.subscriptions));
+      queue = subst (λ (ys : List Backlog). IsReserved m ys (queue_indexes g)) (sym queue_list) (reserved_settled p m queues.list (queue_indexes g) (subst (λ j. IsReserved j queues.list (queue_indexes g)) (sym e) was.queue));
+      messages = message_room n m held queues after queues_after g (λ h. omega (arith, h, e, room)) (λ h. omega (arith, h, e, queue_room)) was.messages;
+    }
+
+-- what is ready has room, and is sent where it belongs
+pub ready_room : (n m : ℕ) (life : Life) (ss : List Subscription) (held queues : Stations) (xs : List Publication) → m ≡ n → All (IsReady n life ss held queues) xs → All (λ (x : Publication). HasRoom m held queues x.goal) xs
+ready_room n m life ss held queues xs e r = λ k d l. subst (λ j. HasRoom j held queues (get_or xs k d).goal) (sym e) (r k d l).room
+
+pub ready_queued : (n : ℕ) (life : Life) (ss : List Subscription) (held queues : Stations) (xs : List Publication) → All (IsReady n life ss held queues) xs → All (λ (x : Publication). IsQueued queues.keys x.message.destination (queue_indexes x.goal)) xs
+ready_queued n life ss held queues xs r = λ k d l. (r k d l).aimed.queued
+
+-- the first of those that are left has room for one at least, and all others for one less
+pub first_room : (held queues : Stations) (x : Publication) (xs left : List Publication) → left ≡ x ∷ xs → All (λ (y : Publication). HasRoom (length left) held queues y.goal) left → HasRoom 1 held queues x.goal
+first_room held queues x xs left e r =
+    let all = subst (λ (ys : List Publication). All (λ (y : Publication). HasRoom (length ys) held queues y.goal) ys) e r in
+    room_for (length (x ∷ xs)) 1 held queues x.goal (omega arith) (All-head (λ (y : Publication). HasRoom (length (x ∷ xs)) held queues y.goal) x xs all)
+
+pub others_room : (place : ℕ) (held queues after queues_after : Stations) (x : Publication) (xs left : List Publication) → left ≡ x ∷ xs → IsMade x place held queues after queues_after → All (λ (y : Publication). HasRoom (length left) held queues y.goal) left →
+    All (λ (y : Publication). HasRoom (length xs) after queues_after y.goal) xs
+others_room place held queues after queues_after x xs left e h r =
+    let all = subst (λ (ys : List Publication). All (λ (y : Publication). HasRoom (length ys) held queues y.goal) ys) e r in
+    let rest = All-tail (λ (y : Publication). HasRoom (length (x ∷ xs)) held queues y.goal) x xs all in
     let more : length (x ∷ xs) ≡ length xs + 1 = omega arith in
-    λ k d l. reserved_less (length xs) x.message place old new x.indexes.items (get_or xs k d).indexes.items h (subst (λ n. IsReserved n old (get_or xs k d).indexes.items) more (rest k d l))
+    λ k d l. room_less (length xs) place x held queues after queues_after (get_or xs k d).goal h (subst (λ n. HasRoom n held queues (get_or xs k d).goal) more (rest k d l))
+
+-- where they are queued
+pub first_queued : (keys : List Key) (x : Publication) (xs left : List Publication) → left ≡ x ∷ xs → All (λ (y : Publication). IsQueued keys y.message.destination (queue_indexes y.goal)) left → IsQueued keys x.message.destination (queue_indexes x.goal)
+first_queued keys x xs left e r = All-head (λ (y : Publication). IsQueued keys y.message.destination (queue_indexes y.goal)) x xs (subst (All (λ (y : Publication). IsQueued keys y.message.destination (queue_indexes y.goal))) e r)
+
+pub others_queued : (old new : List Key) (x : Publication) (xs left : List Publication) → left ≡ x ∷ xs → new ≡ old → All (λ (y : Publication). IsQueued old y.message.destination (queue_indexes y.goal)) left → All (λ (y : Publication). IsQueued new y.message.destination (queue_indexes y.goal)) xs
+others_queued old new x xs left e same r =
+    let rest = All-tail (λ (y : Publication). IsQueued old y.message.destination (queue_indexes y.goal)) x xs (subst (All (λ (y : Publication). IsQueued old y.message.destination (queue_indexes y.goal))) e r) in
+    subst (λ ks. All (λ (y : Publication). IsQueued ks y.message.destination (queue_indexes y.goal)) xs) (sym same) rest
 
 nothing_in : {A : Type 0} (xs : List A) → length xs ≡ 0 → xs ≡ []
 nothing_in [] h = refl
@@ -299,5 +425,6 @@ one_more i xs x h e = ap (λ y. take i xs ++ y ∷ []) e ∙ sym (rw add-one (ta
 pub messages_more : (xs : List Publication) (x : Publication) (i : ℕ) (ms : List Content) (m : Content) → i < length ms → m ≡ get_or ms i m → map (λ (x : Publication). x.message) xs ≡ take i ms → x.message ≡ m → map (λ (x : Publication). x.message) (xs ++ x ∷ []) ≡ take (i + 1) ms
 messages_more xs x i ms m l at w e = map-append (λ (x : Publication). x.message) xs (x ∷ []) ∙ (λ j. w j ++ e j ∷ []) ∙ one_more i ms m l at
 
-pub ready_push : (n : ℕ) (ss : List Subscription) (old new : List Backlog) (xs : List Publication) (x : Publication) → HasMoreRoom old new → All (IsReady n ss old) xs → IsReady n ss new x → All (IsReady n ss new) (xs ++ x ∷ [])
-ready_push n ss old new xs x h r y = All-push (IsReady n ss new) xs x (ready_more n ss old new xs h r) y
+pub ready_push : (n : ℕ) (life : Life) (ss : List Subscription) (held queues after queues_after : Stations) (xs : List Publication) (x : Publication) → HasMoreRoom held.list after.list → held.message_room ≤ after.message_room → HaveMoreRoom queues queues_after →
+    All (IsReady n life ss held queues) xs → IsReady n life ss after queues_after x → All (IsReady n life ss after queues_after) (xs ++ x ∷ [])
+ready_push n life ss held queues after queues_after xs x h m q r y = All-push (IsReady n life ss after queues_after) xs x (ready_more n life ss held queues after queues_after xs h m q r) y

@@ -15,15 +15,15 @@ use Rattle.jm_machine.specs.declared.state.Definition.{Definition}
 use Rattle.jm_machine.specs.declared.state.Station.{Station}
 use Rattle.jm_machine.specs.Life.{Life, mode_of}
 use Rattle.jm_machine.specs.Rows.{deliver_placed, left_of}
-use Rattle.jm_machine.specs.Machine.{has_number, consumer_of, may_begin, new_consumer, places_end, without}
+use Rattle.jm_machine.specs.Machine.{has_number, consumer_of, key_at, may_begin, new_consumer, places_end, without}
 use Rattle.jm_stations.specs.Backlogs.{Backlog, HasMoreRoom, changed_at, empty}
 use Rattle.jm_stations.proofs.Keys.{key_refl, key_same}
 use Rattle.jm_sub.specs.Subscriptions as subs
 use Rattle.jm_sub.specs.Subscriptions.{Subscription}
 use Rattle.jm_core.specs.declared.publish.Publication.{Publication}
 use Rattle.jm_core.specs.Accepted.{HoldsAccepted}
-use Rattle.jm_core.specs.Publications.{IsRouted, ArePublished}
-use Rattle.jm_core.specs.State.{AllOwn, HasLimit, station, stations_of, keys_of, IsOfConsumer, IsSound}
+use Rattle.jm_core.specs.Publications.{IsRouted, ArePublished, station_indexes}
+use Rattle.jm_core.specs.State.{AllOwnOrQueue, HasLimit, IsOwnOrQueue, station, stations_of, keys_of, IsOfConsumer, IsSound}
 use Rattle.jm_core.specs.Takings.{with_delivery}
 use Rattle.jm_core.proofs.Accepted.{published_hold, with_empty, at_key_holds}
 use Rattle.jm_core.proofs.Stations.{found_at, key_found, key_missing, subscription_missing, stations_push, more_room, room_limited, length-changed, changed_limited, length-keys}
@@ -77,7 +77,7 @@ pub all_limited : (limit : ℕ) (consumers : List Consumer) (ss : List Subscript
 all_limited limit consumers ss keys list place h = subst (All IsLimited) (sym h.same) (All-weaker (IsOfConsumer consumers) IsLimited (limited_key consumers) keys h.made)
 
 -- after publications
-pub sound_published : (limit : ℕ) (life : Life) (consumers : List Consumer) (ss : List Subscription) (keys : List Key) (old new : List Backlog) (place next : ℕ) (xs : List Publication) → IsSound limit consumers ss keys old place → All (λ (x : Publication). IsRouted ss x.message x.indexes.items) xs → ArePublished xs place old new → next ≤ places_end →
+pub sound_published : (limit : ℕ) (life : Life) (consumers : List Consumer) (ss : List Subscription) (keys : List Key) (old new : List Backlog) (place next : ℕ) (xs : List Publication) → IsSound limit consumers ss keys old place → All (λ (x : Publication). IsRouted life ss x.message (station_indexes x.goal)) xs → ArePublished xs place old new → next ≤ places_end →
     IsSound limit consumers ss keys new next
 sound_published limit life consumers ss keys old new place next xs h r p le =
     let all = published_all limit life ss xs place old new h.number (all_limited limit consumers ss keys old place h) h.limited r p in
@@ -94,24 +94,29 @@ sound_published limit life consumers ss keys old new place next xs h r p le =
 
 -- ---- a new consumer's key
 
-found_still : {A : Type 0} (p : A → Bool) (xs ys : List A) → is_some (find p xs) ≡ true → is_some (find p (xs ++ ys)) ≡ true
-found_still p [] ys h = cc
-found_still p (x ∷ xs) ys h = go (p x) h (found_still p xs ys)
+key_still : (p : Consumer → Bool) (xs ys : List Consumer) (k : Key) → key_at (find p xs) ≡ Some k → key_at (find p (xs ++ ys)) ≡ Some k
+key_still p [] ys k h = cc
+key_still p (x ∷ xs) ys k h = go (p x) h (key_still p xs ys k)
   where
-    go : (b : Bool) → is_some (cond b (Some x) (find p xs)) ≡ true → (is_some (find p xs) ≡ true → is_some (find p (xs ++ ys)) ≡ true) → is_some (cond b (Some x) (find p (xs ++ ys))) ≡ true
-    go true h rest = refl
+    go : (b : Bool) → key_at (cond b (Some x) (find p xs)) ≡ Some k → (key_at (find p xs) ≡ Some k → key_at (find p (xs ++ ys)) ≡ Some k) → key_at (cond b (Some x) (find p (xs ++ ys))) ≡ Some k
+    go true h rest = h
     go false h rest = rest h
 
-found_last : {A : Type 0} (p : A → Bool) (xs : List A) (y : A) → p y ≡ true → is_some (find p (xs ++ y ∷ [])) ≡ true
-found_last p [] y h = rw h refl
-found_last p (x ∷ xs) y h = go (p x) (found_last p xs y h)
+key_last : (p : Consumer → Bool) (xs : List Consumer) (y : Consumer) → is_some (find p xs) ≡ false → p y ≡ true → key_at (find p (xs ++ y ∷ [])) ≡ Some y.key
+key_last p [] y n h = rw h refl
+key_last p (x ∷ xs) y n h = go (p x) n (λ m. key_last p xs y m h)
   where
-    go : (b : Bool) → is_some (find p (xs ++ y ∷ [])) ≡ true → is_some (cond b (Some x) (find p (xs ++ y ∷ []))) ≡ true
-    go true rest = refl
-    go false rest = rest
+    go : (b : Bool) → is_some (cond b (Some x) (find p xs)) ≡ false → (is_some (find p xs) ≡ false → key_at (find p (xs ++ y ∷ [])) ≡ Some y.key) → key_at (cond b (Some x) (find p (xs ++ y ∷ []))) ≡ Some y.key
+    go true n rest = cc
+    go false n rest = rest n
+
+-- a consumer that has a key was made
+has_key : (o : Option Consumer) (k : Key) → key_at o ≡ Some k → is_some o ≡ true
+has_key None k h = cc
+has_key (Some x) k h = refl
 
 still_made : (consumers : List Consumer) (y : Consumer) (k : Key) → IsOfConsumer consumers k → IsOfConsumer (consumers ++ y ∷ []) k
-still_made consumers y (Own s c) h = found_still (has_number s c) consumers (y ∷ []) h
+still_made consumers y (Own s c) h = key_still (has_number s c) consumers (y ∷ []) (Own s c) h
 still_made consumers y (Queue name) h = h
 still_made consumers y (SharedOwn client name) h = h
 still_made consumers y (Durable client name) h = h
@@ -130,6 +135,7 @@ other_key consumers s c (Own t d) n h = go (key_eq (Own t d) (Own s c)) refl
     go true e =
         let parts = key_parts t s d c (key_same (Own t d) (Own s c) e) in
         let same : is_some (consumer_of consumers t d) ≡ is_some (consumer_of consumers s c) = λ i. is_some (consumer_of consumers (parts.0 i) (parts.1 i)) in
+        let made = has_key (consumer_of consumers t d) (Own t d) h in
         cc
 other_key consumers s c (Queue name) n h = refl
 other_key consumers s c (SharedOwn client name) n h = refl
@@ -169,24 +175,24 @@ unfolding IsDistinct
 distinct_push [] k h n = (tt, tt)
 distinct_push (x ∷ keys) k h n = (apart_push x k keys h.0 (All-head (λ x. key_eq x k ≡ false) x keys n), distinct_push keys k h.1 (All-tail (λ x. key_eq x k ≡ false) x keys n))
 
-own_push : (y : Consumer) → y.key ≡ Own y.session y.id → (xs : List Consumer) → AllOwn xs → AllOwn (xs ++ y ∷ [])
+own_push : (y : Consumer) → IsOwnOrQueue y.session y.id y.key → (xs : List Consumer) → AllOwnOrQueue xs → AllOwnOrQueue (xs ++ y ∷ [])
 own_push y h [] k = (h, tt)
 own_push y h (x ∷ xs) k = (k.0, own_push y h xs k.1)
 
 -- after a consumer is made
 pub sound_created : (limit : ℕ) (life : Life) (consumers : List Consumer) (ss : List Subscription) (keys : List Key) (list : List Backlog) (place : ℕ) (s : SessionId) (c : ℕ) (d : Definition) → IsSound limit consumers ss keys list place → may_begin life consumers s c ≡ true →
-    IsSound limit (consumers ++ new_consumer s c (Own s c) ∷ []) (subs.put (record { key = Own s c; definition = d }) ss) (keys ++ Own s c ∷ []) (list ++ empty (Some limit) ∷ []) place
+    IsSound limit (consumers ++ new_consumer s c (Own s c) None ∷ []) (subs.put (record { key = Own s c; definition = d }) ss) (keys ++ Own s c ∷ []) (list ++ empty (Some limit) ∷ []) place
 sound_created limit life consumers ss keys list place s c d h b =
     let k : Key = Own s c in
     let x : Subscription = record { key = k; definition = d } in
-    let y : Consumer = new_consumer s c k in
+    let y : Consumer = new_consumer s c k None in
     let new = new_key life consumers keys s c b h.made in
     let put : subs.put x ss ≡ ss ++ x ∷ [] = ap (λ (xs : List Subscription). xs ++ x ∷ []) (subscription_missing k ss (subst (All (λ x. key_eq x k ≡ false)) (sym h.same) new)) in
     rw put (record {
       same = map-append (λ (s : Subscription). s.key) ss (x ∷ []) ∙ ap (λ (ks : List Key). ks ++ k ∷ []) h.same;
       number = omega (arith, length-append list (empty (Some limit) ∷ []), length-append ss (x ∷ []), h.number);
       once = distinct_push keys k h.once new;
-      made = All-push (IsOfConsumer (consumers ++ y ∷ [])) keys k (All-weaker (IsOfConsumer consumers) (IsOfConsumer (consumers ++ y ∷ [])) (still_made consumers y) keys h.made) (found_last (has_number s c) consumers y (own_number s c));
+      made = All-push (IsOfConsumer (consumers ++ y ∷ [])) keys k (All-weaker (IsOfConsumer consumers) (IsOfConsumer (consumers ++ y ∷ [])) (still_made consumers y) keys h.made) (key_last (has_number s c) consumers y (not_used (is_some (mode_of life s)) (is_some (consumer_of consumers s c)) b) (own_number s c));
       own = own_push y refl consumers h.own;
       limited = All-push (HasLimit limit) list (empty (Some limit)) h.limited refl;
       accepted = subst HoldsAccepted (sym (stations_push ss list x (empty (Some limit)) h.number)) (with_empty k d (stations_of ss list) h.accepted);
@@ -203,3 +209,19 @@ created_stations limit life consumers ss keys list place s c d h b =
     ap (λ (xs : List Subscription). stations_of (xs ++ x ∷ []) (list ++ empty (Some limit) ∷ [])) (subscription_missing k ss new)
     ∙ stations_push ss list x (empty (Some limit)) h.number
     ∙ ap (λ (xs : List Station). xs ++ station x (empty (Some limit)) ∷ []) (sym (key_missing k (λ y. y) ss list new).2)
+
+-- after a queue's consumer is made
+pub sound_joined : (limit : ℕ) (consumers : List Consumer) (ss : List Subscription) (keys : List Key) (list : List Backlog) (place : ℕ) (s : SessionId) (c : ℕ) (name : List ℕ) (selector : Option (List ℕ)) → IsSound limit consumers ss keys list place →
+    IsSound limit (consumers ++ new_consumer s c (Queue name) selector ∷ []) ss keys list place
+sound_joined limit consumers ss keys list place s c name selector h =
+    let y : Consumer = new_consumer s c (Queue name) selector in
+    record {
+      same = h.same;
+      number = h.number;
+      once = h.once;
+      made = All-weaker (IsOfConsumer consumers) (IsOfConsumer (consumers ++ y ∷ [])) (still_made consumers y) keys h.made;
+      own = own_push y tt consumers h.own;
+      limited = h.limited;
+      accepted = h.accepted;
+      places = h.places;
+    }

@@ -12,7 +12,7 @@ use Rattle.jm_machine.specs.declared.state.PlacedRow.{PlacedRow}
 use Rattle.jm_machine.specs.declared.state.Station.{Station}
 use Rattle.jm_machine.specs.Machine.{station_of, at_key, missed_of, with_rows, without}
 use Rattle.jm_machine.specs.Rows.{settles_at_once}
-use Rattle.jm_machine.specs.Wants.{holders_of, placed_rows, is_copied, is_next_copied}
+use Rattle.jm_machine.specs.Wants.{holders_of, placed_rows, is_copied}
 use Rattle.jm_stations.specs.Backlogs.{Backlog, HasMoreRoom, changed_at, holders_at, kept_message, copy_wanted, next_placed, placed_at}
 use Rattle.jm_sub.specs.Subscriptions as subs
 use Rattle.jm_sub.specs.Subscriptions.{Subscription}
@@ -157,9 +157,9 @@ copied_same mode ss bs (Some x) n = go (settles_at_once mode) (holders_at x.plac
     go true false = refl
     go false b = refl
 
--- where a delivery wants a copy, the machine's hands one out
+-- where a delivery from a subscription wants a copy, the machine's hands one out
 pub copy_is_copied : (mode : Option Mode) (now : ℕ) (k : Key) (ss : List Subscription) (bs : List Backlog) (i : ℕ) (d : Backlog) → length bs ≡ length ss → position (λ x. key_eq x k) (keys_of ss) ≡ Some i →
-    is_some (copy_wanted (settles_at_once mode) now bs (get_or bs i d).rows) ≡ is_next_copied mode now (Some k) (stations_of ss bs)
+    is_some (copy_wanted (settles_at_once mode) now bs (get_or bs i d).rows) ≡ is_copied mode (stations_of ss bs) (next_placed now (placed_rows (station_of k (stations_of ss bs))))
 copy_is_copied mode now k ss bs i d n e =
     let at = found_at (λ x. key_eq x k) (keys_of ss) i e in
     let found = key_found k (λ rows. rows) ss bs d i n at.0 (omega (arith, at.1, length-keys ss)) in

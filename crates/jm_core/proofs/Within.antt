@@ -6,6 +6,8 @@ use Rattle.std.proofs.lemmas.List.{length-append, length-map}
 use Rattle.jm_base.specs.declared.mode.Mode.{Mode}
 use Rattle.jm_base.specs.declared.refusal.Refusal.{Refusal}
 use Rattle.jm_dest.specs.declared.session.SessionId.{SessionId}
+use Rattle.jm_dest.specs.declared.destination.Destination.{Destination}
+use Rattle.jm_dest.specs.declared.destination.Destination.TheVariants.{Queue, Topic}
 use Rattle.jm_dest.specs.declared.key.Key.{Key}
 use Rattle.jm_dest.specs.declared.key.Key.TheVariants.{Own}
 use Rattle.jm_dest.specs.Keys.{key_eq}
@@ -13,16 +15,16 @@ use Rattle.jm_header.specs.declared.content.Content.{Content}
 use Rattle.jm_machine.specs.declared.call.Who.{Who}
 use Rattle.jm_machine.specs.declared.call.Who.TheVariants.{Connection, Session}
 use Rattle.jm_machine.specs.declared.call.Request.{Request}
-use Rattle.jm_machine.specs.declared.call.Request.TheVariants.{CloseConnection, CreateSession, CloseSession, CreateConsumer, CloseConsumer, Receive, Acknowledge, Recover}
+use Rattle.jm_machine.specs.declared.call.Request.TheVariants.{CloseConnection, CreateSession, CloseSession, CreateConsumer, CloseConsumer, Receive, Acknowledge, Recover, Rollback}
 use Rattle.jm_machine.specs.declared.call.Call.{Call}
-use Rattle.jm_machine.specs.declared.call.Call.TheVariants.{Ask, Publish}
+use Rattle.jm_machine.specs.declared.call.Call.TheVariants.{Ask, Publish, Commit}
 use Rattle.jm_machine.specs.declared.state.Definition.{Definition}
 use Rattle.jm_machine.specs.declared.state.PlacedRow.{PlacedRow}
 use Rattle.jm_machine.specs.declared.state.Row.{Row}
 use Rattle.jm_machine.specs.declared.state.Station.{Station}
 use Rattle.jm_machine.specs.Life.{mode_of, is_started}
 use Rattle.jm_machine.specs.Rows.{bare, fresh, has_lapsed, is_next, is_out, live, settles_at_once, sent_out, left_of, live_placed, change_placed, deliver_placed}
-use Rattle.jm_machine.specs.Machine.{State, Publisher, publisher_of, accepts, is_full, one_missed, brought, offered, with_message, with_rows, at_key, without, published, receive, consumer_of, key_at, defined, of_session, of_connection, of_number, settled_rows, returned_row, returned_rows, settled, returned, closed, with_life, is_client, held, refusal, publish_refusal, after, moved, step}
+use Rattle.jm_machine.specs.Machine.{State, Publisher, publisher_of, accepts, is_full, one_missed, brought, offered, with_message, with_rows, at_key, without, published, receive, consumer_of, key_at, made, selected_by, defined, of_session, of_connection, of_number, settled_rows, returned_row, returned_rows, settled, returned, closed, with_life, is_client, held, refusal, publish_refusal, commit_refusal, after, after_commit, moved, step}
 use Rattle.jm_machine.specs.Isolation.{Reached}
 use Rattle.jm_machine.specs.Isolation.Reached.{New, Stepped}
 use Rattle.jm_core.specs.Limits.{AllWithin, IsWithin}
@@ -125,9 +127,9 @@ unfolding published
 within_published state [] h = h
 within_published state (m ∷ ms) h = within_published (with_message state m) ms (all_offered state.limit (publisher_of state.life m) m state.next_place state.stations h)
 
-within_received : (mode : Option Mode) (s : SessionId) (c now : ℕ) (k : Option Key) (state : State) → HasLimits state → HasLimits (receive (left_of mode s c) now k state)
-within_received mode s c now None state h = h
-within_received mode s c now (Some k) state h = all_at state.limit (deliver_placed now (left_of mode s c)) (fewer_delivered mode s c now) k state.stations h
+within_received : (p : Content → Bool) (mode : Option Mode) (s : SessionId) (c now : ℕ) (k : Option Key) (state : State) → HasLimits state → HasLimits (receive p (left_of mode s c) now k state)
+within_received p mode s c now None state h = h
+within_received p mode s c now (Some k) state h = all_at state.limit (deliver_placed now (left_of mode s c)) (fewer_delivered mode s c now) k state.stations h
 
 within_settled : (p : SessionId → ℕ → Bool) (state : State) → HasLimits state → HasLimits (settled p state)
 within_settled p state h = all_each state.limit (settled_rows p) (fewer_filter (λ x. not (is_out p x.row))) state.stations h
@@ -137,6 +139,10 @@ within_closed p state h = all_filter state.limit _ state.stations h
 
 within_given : (p : SessionId → ℕ → Bool) (state : State) → HasLimits state → HasLimits (returned p state)
 within_given p state h = all_each state.limit (returned_rows p) (fewer_returned p) state.stations h
+
+within_made : (s : SessionId) (c : ℕ) (destination : Destination) (selector : Option (List ℕ)) (no_local : Bool) (state : State) → HasLimits state → HasLimits (made s c destination selector no_local state)
+within_made s c (Queue name) selector no_local state h = h
+within_made s c (Topic name) selector no_local state h = all_put state.limit (Own s c) (defined name selector no_local) (without (Own s c) state.stations) (all_filter state.limit _ state.stations h)
 
 within_if : (b : Bool) (x y : State) → HasLimits x → HasLimits y → HasLimits (cond b x y)
 within_if true x y p q = p
@@ -152,19 +158,26 @@ within_after state (Connection c) CloseConnection h = within_closed (of_connecti
 within_after state (Connection c) request h = h
 within_after state (Session s) (CreateSession mode) h = h
 within_after state (Session s) CloseSession h = within_closed (of_session s) (returned (of_session s) (with_life (Session s) CloseSession state)) (within_given (of_session s) (with_life (Session s) CloseSession state) h)
-within_after state (Session s) (CreateConsumer c topic selector) h = all_put state.limit (Own s c) (defined topic selector) (without (Own s c) state.stations) (all_filter state.limit _ state.stations h)
+within_after state (Session s) (CreateConsumer c destination selector no_local) h = within_made s c destination selector no_local state h
 within_after state (Session s) (Receive c now) h =
-    within_if (is_started state.life s.connection) (receive (left_of (mode_of state.life s) s c) now (key_at (consumer_of state.consumers s c)) state) state
-    (within_received (mode_of state.life s) s c now (key_at (consumer_of state.consumers s c)) state h) h
+    within_if (is_started state.life s.connection) (receive (selected_by (consumer_of state.consumers s c)) (left_of (mode_of state.life s) s c) now (key_at (consumer_of state.consumers s c)) state) state
+    (within_received (selected_by (consumer_of state.consumers s c)) (mode_of state.life s) s c now (key_at (consumer_of state.consumers s c)) state h) h
 within_after state (Session s) (CloseConsumer c) h = within_closed (of_number s c) state h
 within_after state (Session s) Acknowledge h = within_if (is_client (mode_of state.life s)) (settled (of_session s) state) state (within_settled (of_session s) state h) h
 within_after state (Session s) Recover h = within_given (of_session s) state h
+within_after state (Session s) Rollback h = within_given (of_session s) state h
 within_after state (Session s) _ h = h
+
+within_committed : (state : State) (who : Who) (ms : List Content) → HasLimits state → HasLimits (after_commit state who ms)
+unfolding after_commit
+within_committed state (Connection c) ms h = h
+within_committed state (Session s) ms h = within_published (settled (of_session s) state) ms (within_settled (of_session s) state h)
 
 within_step : (state : State) (who : Who) (call : Call) → HasLimits state → HasLimits (step state who call)
 unfolding step
 within_step state who (Ask request) h = within_moved (refusal state.life state.consumers (held state who request) who request) (after state who request) state (within_after state who request h) h
 within_step state who (Publish messages) h = within_moved (publish_refusal state who messages) (published state messages) state (within_published state messages h) h
+within_step state who (Commit messages) h = within_moved (commit_refusal state who messages) (after_commit state who messages) state (within_committed state who messages h) h
 
 pub reached_within : (state : State) → Reached state → AllWithin state.limit state.stations
 reached_within state (New opening limit) = tt

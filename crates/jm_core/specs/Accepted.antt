@@ -8,7 +8,7 @@ use Rattle.jm_machine.specs.declared.state.Definition.{Definition}
 use Rattle.jm_machine.specs.declared.state.PlacedRow.{PlacedRow}
 use Rattle.jm_machine.specs.declared.state.Station.{Station}
 use Rattle.jm_machine.specs.Machine.{is_to}
-use Rattle.jm_machine.specs.Selectors.{selector_read}
+use Rattle.jm_selector.specs.Selectors.{selector_read}
 
 -- the message goes to the topic, and the tree of the selector is TRUE for it, or there is no tree
 abbrev pub IsAccepted : Definition → Content → Type 0

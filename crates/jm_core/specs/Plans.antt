@@ -1,18 +1,20 @@
 -- Plans: steps that are prepared. No cause stands against the step, and there is room for what it changes.
-use Rattle.std.specs.Prelude.{◌≡◌, ◌≤◌, ◌<◌, ◌+◌, ◌&&◌, ℕ, true, All, IfSome, List, Option, Some, None, Result, Ok, Err, MatchBool, MatchResult, map, length, is_some}
+use Rattle.std.specs.Prelude.{◌≡◌, ◌<◌, ◌&&◌, ℕ, Bool, true, false, IfSome, List, Option, Some, None, Result, Ok, Err, MatchBool, MatchResult, length, is_some}
 use Rattle.jm_base.specs.declared.refusal.Refusal.{Refusal}
 use Rattle.jm_dest.specs.declared.session.SessionId.{SessionId}
-use Rattle.jm_dest.specs.declared.key.Key.TheVariants.{Own}
+use Rattle.jm_dest.specs.declared.key.Key.TheVariants.{Own, Queue as OfQueue}
+use Rattle.jm_dest.specs.declared.destination.Destination.TheVariants.{Queue, Topic}
 use Rattle.jm_header.specs.declared.content.Content.{Content}
 use Rattle.jm_machine.specs.declared.answer.Answer.{Answer}
 use Rattle.jm_machine.specs.declared.call.Who.{Who}
 use Rattle.jm_machine.specs.declared.call.Who.TheVariants.{Connection, Session}
 use Rattle.jm_machine.specs.declared.call.Call.{Call}
-use Rattle.jm_machine.specs.declared.call.Call.TheVariants.{Ask, Publish}
+use Rattle.jm_machine.specs.declared.call.Call.TheVariants.{Ask, Publish, Commit}
 use Rattle.jm_machine.specs.declared.call.Request.TheVariants as request
-use Rattle.jm_machine.specs.Life.{connection_of, is_new_session, is_open_connection, mode_of}
-use Rattle.jm_machine.specs.Machine.{State, consumer_of, defined, holding_at, is_stamped, key_at, may_begin, may_close_consumer, may_close_session, places_end, reply}
-use Rattle.jm_machine.specs.Selectors.{selector_refusal}
+use Rattle.jm_machine.specs.declared.state.Consumer.{Consumer}
+use Rattle.jm_machine.specs.Life.{connection_of, is_client_taken, is_new_session, is_open_connection, mode_of}
+use Rattle.jm_machine.specs.Machine.{State, consumer_of, defined, is_stamped, is_transacted, is_untransacted, key_at, may_begin, may_close_consumer, may_close_session, reply, selected_by, standing_as}
+use Rattle.jm_selector.specs.Selectors.{selector_refusal}
 use Rattle.jm_machine.specs.Wants.{is_want, may_want}
 use Rattle.jm_session.specs.Known.{may_receive}
 use Rattle.jm_sub.specs.Subscriptions.{Subscription}
@@ -22,33 +24,68 @@ use Rattle.jm_core.specs.declared.receive.Taking.{Taking}
 use Rattle.jm_core.specs.declared.plan.Change.{Change}
 use Rattle.jm_core.specs.declared.plan.Change.TheVariants as change
 use Rattle.jm_core.specs.Provider.{Provider, state_of}
-use Rattle.jm_core.specs.Publications.{IsReady}
+use Rattle.jm_core.specs.Publications.{ArePrepared}
 use Rattle.jm_core.specs.Steps.{StepFits}
-use Rattle.jm_core.specs.Takings.{IsTaken, receiving}
+use Rattle.jm_core.specs.Takings.{IsTaken, IsTakenFrom, is_queue, missed_at, source_of}
 
--- the call makes the session's consumer of that number: the number is free, the decision is that of the call's topic and
--- selector, which is read, and there is room for the consumer, its subscription and its key
+-- the call opens the connection for that client, or for none: the number was not used, no open connection has the client,
+-- and there is room for it
+pub record IsOpening (p : Provider) (who : Who) (call : Call) (c : ℕ) (client : Option (List ℕ)) : Type 0 where
+  pub sender : who ≡ Connection c
+  pub asked : call ≡ Ask (request.Open client)
+  pub new : connection_of p.known.life.connections c ≡ None
+  pub free : is_client_taken p.known.life client ≡ false
+  pub room : 0 < p.known.spare
+
+-- the call makes the session's consumer of a topic: the number is free, the decision is that of the topic, the selector,
+-- which is read, and no_local, and there is room for the consumer, its subscription and its key
 pub record IsCreating (p : Provider) (who : Who) (call : Call) (s : SessionId) (c : ℕ) (decision : Subscription) : Type 0 where
   pub topic : List ℕ
   pub selector : Option (List ℕ)
+  pub no_local : Bool
   pub sender : who ≡ Session s
-  pub asked : call ≡ Ask (request.CreateConsumer c topic selector)
-  pub decided : decision ≡ record { key = Own s c; definition = defined topic selector }
+  pub asked : call ≡ Ask (request.CreateConsumer c (Topic topic) selector no_local)
+  pub decided : decision ≡ record { key = Own s c; definition = defined topic selector no_local }
   pub valid : selector_refusal selector ≡ None
   pub begins : may_begin p.known.life p.known.consumers s c ≡ true
   pub room : 0 < p.known.spare
   pub subs_room : 0 < p.subscriptions.spare
   pub key_room : 0 < p.held.key_room
 
+-- the call makes the session's consumer of that queue: the number is free, the selector is read, and stands as it was read,
+-- and there is room for the consumer
+pub record IsCreatingOf (p : Provider) (who : Who) (call : Call) (s : SessionId) (c : ℕ) (queue : List ℕ) (selector : Option (List ℕ)) : Type 0 where
+  pub text : Option (List ℕ)
+  pub no_local : Bool
+  pub sender : who ≡ Session s
+  pub asked : call ≡ Ask (request.CreateConsumer c (Queue queue) text no_local)
+  pub read : selector ≡ standing_as text
+  pub valid : selector_refusal text ≡ None
+  pub begins : may_begin p.known.life p.known.consumers s c ≡ true
+  pub room : 0 < p.known.spare
+
 -- the call is the receiver's, in the mode of its session: it receives at that moment, as it may, and takes what stands under
--- the consumer's key, with the copy that it wants
+-- the consumer's key, which is no queue's, with the copy that it wants
 pub record IsReceiving (p : Provider) (who : Who) (call : Call) (r : Receiver) (taking : Option Taking) : Type 0 where
   pub sender : who ≡ Session r.session
   pub asked : call ≡ Ask (request.Receive r.consumer r.moment)
   pub mode : mode_of p.known.life r.session ≡ Some r.mode
   pub allowed : may_receive p.known.life p.known.consumers r.session r.consumer ≡ true
-  pub taken : IsTaken (receiving p.known.life p.known.consumers r.session r.consumer) r p.held.keys p.held.list taking
+  pub apart : is_queue (key_at (source_of p.known.life p.known.consumers r.session r.consumer)) ≡ false
+  pub taken : IsTaken (key_at (source_of p.known.life p.known.consumers r.session r.consumer)) r p.held.keys p.held.list taking
   pub within : IfSome taking (λ x. x.index < length p.held.list)
+
+-- the same where the consumer is one of a queue: it takes what stands there and its selector selects
+pub record IsReceivingFrom (p : Provider) (who : Who) (call : Call) (r : Receiver) (taking : Option Taking) : Type 0 where
+  pub consumer : Consumer
+  pub queue : List ℕ
+  pub sender : who ≡ Session r.session
+  pub asked : call ≡ Ask (request.Receive r.consumer r.moment)
+  pub mode : mode_of p.known.life r.session ≡ Some r.mode
+  pub allowed : may_receive p.known.life p.known.consumers r.session r.consumer ≡ true
+  pub source : source_of p.known.life p.known.consumers r.session r.consumer ≡ Some consumer
+  pub key : consumer.key ≡ OfQueue queue
+  pub taken : IsTakenFrom queue (selected_by (Some consumer)) r p.queues taking
 
 -- the call asks, as it may, what the consumer's subscription missed, and that is so many publications
 pub record IsMissing (p : Provider) (who : Who) (call : Call) (n : ℕ) : Type 0 where
@@ -57,25 +94,30 @@ pub record IsMissing (p : Provider) (who : Who) (call : Call) (n : ℕ) : Type 0
   pub sender : who ≡ Session session
   pub asked : call ≡ Ask (request.Missed consumer)
   pub allowed : may_receive p.known.life p.known.consumers session consumer ≡ true
-  pub number : n ≡ (holding_at (key_at (consumer_of p.known.consumers session consumer)) (state_of p)).missed
+  pub number : n ≡ missed_at (key_at (consumer_of p.known.consumers session consumer)) (state_of p).stations
 
--- the call publishes those messages: its open session stamped them, each goes to the subscriptions that accept it, and
--- there are places and room for all of them
+-- the call publishes those messages: its session is open and not transacted and stamped them, and the publications are
+-- prepared
 pub record IsPublishing (p : Provider) (who : Who) (call : Call) (publications : List Publication) : Type 0 where
   pub session : SessionId
   pub messages : List Content
   pub sender : who ≡ Session session
   pub asked : call ≡ Publish messages
-  pub same : map (λ (x : Publication). x.message) publications ≡ messages
-  pub stamped : (is_some (mode_of p.known.life session) && is_stamped p.opening session messages) ≡ true
-  pub places : p.held.next_place + length messages ≤ places_end
-  pub ready : All (IsReady (length messages) p.subscriptions.list p.held.list) publications
-  pub room : length messages ≤ p.held.message_room
+  pub stamped : (is_untransacted (mode_of p.known.life session) && is_stamped p.opening session messages) ≡ true
+  pub prepared : ArePrepared p messages publications
+
+-- the call commits the session's transaction, which sent those messages: the session is open and transacted and stamped
+-- them, and the publications are prepared
+pub record IsCommitting (p : Provider) (who : Who) (call : Call) (s : SessionId) (publications : List Publication) : Type 0 where
+  pub messages : List Content
+  pub sender : who ≡ Session s
+  pub asked : call ≡ Commit messages
+  pub stamped : (is_transacted (mode_of p.known.life s) && is_stamped p.opening s messages) ≡ true
+  pub prepared : ArePrepared p messages publications
 
 -- the plan is that of the caller's call, on what is held: no cause stands against it, and there is room for it
 abbrev pub IsPlan : Provider → Who → Call → Change → Type 0
-IsPlan p who call (change.Open c) =
-    (who ≡ Connection c) × (call ≡ Ask request.Open) × (connection_of p.known.life.connections c ≡ None) × (0 < p.known.spare)
+IsPlan p who call (change.Open c client) = IsOpening p who call c client
 IsPlan p who call (change.Start c) =
     (who ≡ Connection c) × (call ≡ Ask request.Start) × (is_open_connection (connection_of p.known.life.connections c) ≡ true)
 IsPlan p who call (change.Stop c) =
@@ -87,15 +129,20 @@ IsPlan p who call (change.CreateSession s mode) =
 IsPlan p who call (change.CloseSession s) =
     (who ≡ Session s) × (call ≡ Ask request.CloseSession) × (may_close_session p.known.life s ≡ true)
 IsPlan p who call (change.CreateConsumer s c decision) = IsCreating p who call s c decision
+IsPlan p who call (change.CreateConsumerOf s c queue selector) = IsCreatingOf p who call s c queue selector
 IsPlan p who call (change.CloseConsumer s c) =
     (who ≡ Session s) × (call ≡ Ask (request.CloseConsumer c)) × (may_close_consumer p.known.life p.known.consumers s c ≡ true)
 IsPlan p who call (change.Receive r taking) = IsReceiving p who call r taking
+IsPlan p who call (change.ReceiveFrom r taking) = IsReceivingFrom p who call r taking
 IsPlan p who call (change.Acknowledge s mode) =
     (who ≡ Session s) × (call ≡ Ask request.Acknowledge) × (mode_of p.known.life s ≡ Some mode)
 IsPlan p who call (change.Recover s) =
-    (who ≡ Session s) × (call ≡ Ask request.Recover) × (is_some (mode_of p.known.life s) ≡ true)
+    (who ≡ Session s) × (call ≡ Ask request.Recover) × (is_untransacted (mode_of p.known.life s) ≡ true)
+IsPlan p who call (change.Rollback s) =
+    (who ≡ Session s) × (call ≡ Ask request.Rollback) × (is_transacted (mode_of p.known.life s) ≡ true)
 IsPlan p who call (change.Missed n) = IsMissing p who call n
 IsPlan p who call (change.Publish publications) = IsPublishing p who call publications.items
+IsPlan p who call (change.Commit s publications) = IsCommitting p who call s publications.items
 
 -- the plan is that of some call, on what is held
 abbrev pub IsPlanned : Provider → Change → Type 0

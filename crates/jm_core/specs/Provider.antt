@@ -4,16 +4,18 @@ use Rattle.jm_machine.specs.Machine.{State}
 use Rattle.jm_session.specs.Known.{Known}
 use Rattle.jm_stations.specs.Stations.{Stations}
 use Rattle.jm_sub.specs.Subscriptions.{Subscriptions}
+use Rattle.jm_core.specs.Queues.{rows_in}
 use Rattle.jm_core.specs.State.{stations_of}
 
 -- the number of the opening, how many rows a subscription may hold, what is known by number, the subscriptions, and what
--- is held under their keys
+-- is held under their keys, and what the queues hold
 pub record Provider : Type 0 where
   pub opening : ℕ
   pub limit : ℕ
   pub known : Known
   pub subscriptions : Subscriptions
   pub held : Stations
+  pub queues : Stations
 
 -- the machine's state, in which no room shows
 abbrev pub state_of : Provider → State
@@ -23,6 +25,7 @@ state_of p = record {
   life = p.known.life;
   consumers = p.known.consumers;
   stations = stations_of p.subscriptions.list p.held.list;
+  queues = rows_in p.queues;
   next_place = p.held.next_place;
 }
 

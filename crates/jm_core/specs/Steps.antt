@@ -5,7 +5,7 @@ use Rattle.jm_header.specs.declared.content.Content.{Content}
 use Rattle.jm_dest.specs.declared.session.SessionId.{SessionId}
 use Rattle.jm_machine.specs.declared.call.Who.{Who}
 use Rattle.jm_machine.specs.declared.call.Who.TheVariants.{Session}
-use Rattle.jm_machine.specs.declared.call.Call.TheVariants.{Publish}
+use Rattle.jm_machine.specs.declared.call.Call.TheVariants.{Publish, Commit}
 use Rattle.jm_machine.specs.declared.answer.Answer.TheVariants.{Done}
 use Rattle.jm_machine.specs.declared.call.Call.{Call}
 use Rattle.jm_machine.specs.declared.answer.Answer.{Answer}
@@ -22,7 +22,7 @@ StepFits old who call result new =
     ((may_want old who call ≡ true) × (new ≡ old))
     ((result ≡ reply old who call) × (new ≡ step old who call))
 
--- the reply to a publication that ended so
+-- the reply to a publication or a commit that ended so
 abbrev pub published_reply : Result (Unit {0}) Refusal → Result Answer Refusal
 published_reply (Ok u) = Ok Done
 published_reply (Err r) = Err r
@@ -30,6 +30,10 @@ published_reply (Err r) = Err r
 -- what a publication by a session owes
 abbrev pub PublishFits : State → SessionId → List Content → Result (Unit {0}) Refusal → State → Type 0
 PublishFits old s messages result new = StepFits old (Session s) (Publish messages) (published_reply result) new
+
+-- what a commit by a session owes
+abbrev pub CommitFits : State → SessionId → List Content → Result (Unit {0}) Refusal → State → Type 0
+CommitFits old s messages result new = StepFits old (Session s) (Commit messages) (published_reply result) new
 
 -- the stations after messages are published, the first at that place, with that limit, the connections being these
 abbrev pub published_stations : ℕ → Life → ℕ → List Content → List Station → List Station

@@ -1,22 +1,35 @@
 -- Deliveries that are prepared: from which rows, and with which copy.
-use Rattle.std.specs.Prelude.{◌≡◌, ℕ, Bool, false, List, Option, Some, None, is_some, slice_get, slice_index_or, if◌then◌else◌}
+use Rattle.std.specs.Prelude.{◌≡◌, ◌<◌, ℕ, Bool, true, false, List, Option, Some, None, is_some, length, slice_get, slice_index_or, if◌then◌else◌}
 use Rattle.jm_dest.specs.declared.session.SessionId.{SessionId}
 use Rattle.jm_dest.specs.declared.key.Key.{Key}
+use Rattle.jm_dest.specs.declared.key.Key.TheVariants.{Queue, Own, SharedOwn, Durable}
+use Rattle.jm_header.specs.declared.content.Content.{Content}
 use Rattle.jm_machine.specs.declared.answer.Answer.{Answer}
 use Rattle.jm_machine.specs.declared.answer.Answer.TheVariants.{Nothing}
 use Rattle.jm_machine.specs.declared.state.Consumer.{Consumer}
+use Rattle.jm_machine.specs.declared.state.PlacedRow.{PlacedRow}
 use Rattle.jm_machine.specs.declared.state.Row.{Row}
+use Rattle.jm_machine.specs.declared.state.Station.{Station}
 use Rattle.jm_machine.specs.Life.{Life, is_started}
 use Rattle.jm_machine.specs.Rows.{deliver_placed, left_of, settles_at_once}
-use Rattle.jm_machine.specs.Machine.{consumer_of, key_at}
-use Rattle.jm_stations.specs.Backlogs.{Backlog, answered, changed_at, copy_wanted}
-use Rattle.jm_stations.specs.Stations.{index_in}
+use Rattle.jm_machine.specs.Machine.{consumer_of, missed_of, station_of}
+use Rattle.jm_machine.specs.Wants.{is_kept, next_chosen}
+use Rattle.jm_stations.specs.Backlogs.{Backlog, answered, changed_at, copy_wanted, copy_wanted_where}
+use Rattle.jm_stations.specs.Stations.{Stations, index_in}
 use Rattle.jm_core.specs.declared.receive.Receiver.{Receiver}
 use Rattle.jm_core.specs.declared.receive.Taking.{Taking}
 
--- the key that a consumer receives from, while its connection is started
-abbrev pub receiving : Life → List Consumer → SessionId → ℕ → Option Key
-receiving life consumers s c = if is_started life s.connection then key_at (consumer_of consumers s c) else None
+-- the consumer that receives, while its connection is started
+abbrev pub source_of : Life → List Consumer → SessionId → ℕ → Option Consumer
+source_of life consumers s c = if is_started life s.connection then consumer_of consumers s c else None
+
+-- the key is that of a queue
+abbrev pub is_queue : Option Key → Bool
+is_queue None = false
+is_queue (Some (Queue name)) = true
+is_queue (Some (Own s c)) = false
+is_queue (Some (SharedOwn client name)) = false
+is_queue (Some (Durable client name)) = false
 
 -- the receiver's mode settles a message in the step that delivers it
 abbrev pub settles : Receiver → Bool
@@ -33,6 +46,18 @@ IsTaken None r keys list taking = taking ≡ None
 IsTaken (Some key) r keys list None = index_in keys key ≡ None
 IsTaken (Some key) r keys list (Some x) =
     (index_in keys key ≡ Some x.index) × ((d : Backlog) → x.copy ≡ copy_wanted (settles r) r.moment list (slice_index_or list x.index d).rows)
+
+-- a delivery from the queue of that name takes nothing where nothing stands under its key; else the next row there whose
+-- message passes, with the copy that is wanted
+abbrev pub IsTakenFrom : List ℕ → (Content → Bool) → Receiver → Stations → Option Taking → Type 0
+IsTakenFrom name p r queues None = index_in queues.keys (Queue name) ≡ None
+IsTakenFrom name p r queues (Some x) =
+    (index_in queues.keys (Queue name) ≡ Some x.index) × (x.index < length queues.list)
+    × ((d : Backlog) → x.copy ≡ copy_wanted_where p (settles r) r.moment queues.list (slice_index_or queues.list x.index d).rows)
+
+-- a delivery from the rows of a queue wants a copy
+abbrev pub wants_copy_of : (Content → Bool) → Receiver → List PlacedRow → Bool
+wants_copy_of p r rows = is_kept (Some r.mode) (next_chosen p r.moment rows)
 
 -- a delivery from what stands there wants a copy
 abbrev pub wants_from : Receiver → List Backlog → Option Backlog → Bool
@@ -67,3 +92,8 @@ IsTold (Some x) now list a = (d : Backlog) → a ≡ answered now (slice_index_o
 abbrev pub IsMissed : Option ℕ → List Backlog → ℕ → Type 0
 IsMissed None list n = n ≡ 0
 IsMissed (Some i) list n = (d : Backlog) → n ≡ (slice_index_or list i d).missed
+
+-- how many publications the subscription of the key missed, where there is a key
+abbrev pub missed_at : Option Key → List Station → ℕ
+missed_at None stations = 0
+missed_at (Some key) stations = missed_of (station_of key stations)

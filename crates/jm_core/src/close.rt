@@ -1,10 +1,14 @@
-//! What acknowledgement and closing do to the subscriptions and to what is held for them. Nothing here takes
-//! memory, or fails.
+//! What acknowledgement and closing do to the subscriptions and to what is held for them and by queues. Nothing here
+//! takes memory, or fails.
 
-ghost use Rattle.std.specs.Prelude.{◌≡◌};
+ghost use Rattle.std.specs.Prelude.{◌≡◌, ◌≤◌, map};
+ghost use Rattle.jm_machine.specs.Machine.{at_queues, of_session, settled_rows};
+ghost use Rattle.jm_stations.specs.Backlogs.{settled};
 ghost use Rattle.jm_sub.specs.Subscriptions.{without_own};
-ghost use Rattle.jm_core.specs.Closing.{acknowledged, given_back, kept_backlogs, kept_keys};
+ghost use Rattle.jm_core.specs.Closing.{acknowledged, acknowledged_queues, given_back, given_back_queues, kept_backlogs, kept_keys};
+ghost use Rattle.jm_core.specs.Queues.{rows_in};
 
+use crate::queues::Queues;
 use jm_base::Mode;
 use jm_dest::SessionId;
 use jm_machine::Consumers;
@@ -12,27 +16,54 @@ use jm_stations::Stations;
 use jm_sub::Subs;
 
 /// Settles what is out to the session, where the mode lets the client acknowledge; in any other it does nothing.
-pub(crate) fn make_acknowledge(stations: &mut Stations, id: &SessionId, mode: Mode)
+pub(crate) fn make_acknowledge(
+    stations: &mut Stations,
+    queues: &mut Queues,
+    id: &SessionId,
+    mode: Mode,
+)
     ensures keys { stations.new.keys ≡ stations.old.keys }
     ensures list { stations.new.list ≡ acknowledged mode id.now stations.old.list }
     ensures next_place { stations.new.next_place ≡ stations.old.next_place }
+    ensures queues { rows_in queues.new ≡ acknowledged_queues mode id.now (rows_in queues.old) }
+    ensures queue_place { queues.new.next_place ≡ queues.old.next_place }
 {
     match mode {
-        Mode::Client => stations.settle(&Consumers::OfSession(*id)),
-        Mode::Auto | Mode::Dups => {}
+        Mode::Client => make_settle(stations, queues, id),
+        Mode::Auto | Mode::Dups | Mode::Transacted => {}
     }
 }
 
+/// Settles what is out to the session. All room stays.
+pub(crate) fn make_settle(stations: &mut Stations, queues: &mut Queues, id: &SessionId)
+    ensures keys { stations.new.keys ≡ stations.old.keys }
+    ensures list { stations.new.list ≡ map (settled (of_session id.now)) stations.old.list }
+    ensures next_place { stations.new.next_place ≡ stations.old.next_place }
+    ensures room { stations.old.message_room ≤ stations.new.message_room }
+    ensures queue_keys { queues.new.keys ≡ queues.old.keys }
+    ensures queue_list { queues.new.list ≡ map (settled (of_session id.now)) queues.old.list }
+    ensures queues { rows_in queues.new ≡ at_queues (settled_rows (of_session id.now)) (rows_in queues.old) }
+    ensures queue_place { queues.new.next_place ≡ queues.old.next_place }
+    ensures queue_room { queues.old.message_room ≤ queues.new.message_room }
+{
+    let which = Consumers::OfSession(*id);
+    stations.settle(&which);
+    queues.settle(&which);
+}
+
 /// Lets what is out through the consumers wait again.
-pub(crate) fn make_give_back(stations: &mut Stations, which: &Consumers)
+pub(crate) fn make_give_back(stations: &mut Stations, queues: &mut Queues, which: &Consumers)
     ensures keys { stations.new.keys ≡ stations.old.keys }
     ensures list { stations.new.list ≡ given_back which.now stations.old.list }
     ensures next_place { stations.new.next_place ≡ stations.old.next_place }
+    ensures queues { rows_in queues.new ≡ given_back_queues which.now (rows_in queues.old) }
+    ensures queue_place { queues.new.next_place ≡ queues.old.next_place }
 {
     stations.give_back(which);
+    queues.give_back(which);
 }
 
-/// Ends the consumers' own subscriptions, with all that is held for them.
+/// Ends the consumers' own subscriptions, with all that is held for them. Queues hold what they held.
 pub(crate) fn make_end(subs: &mut Subs, stations: &mut Stations, which: &Consumers)
     ensures subs { subs.new.list ≡ without_own which.now subs.old.list }
     ensures keys { stations.new.keys ≡ kept_keys which.now stations.old.keys }

@@ -2,19 +2,20 @@
 
 ghost use Rattle.jm_core.specs.Plans.{InstallFits, IsPlanned};
 
-use crate::close::{make_acknowledge, make_end, make_give_back};
-use crate::create::make_create;
+use crate::close::{make_acknowledge, make_end, make_give_back, make_settle};
+use crate::create::{make_create, make_create_of};
 use crate::life::{
     make_close_connection, make_close_consumer, make_close_session, make_open, make_session,
     make_start, make_stop,
 };
 use crate::plan::Change;
 use crate::publish::{Publication, make_publications};
-use crate::receive::{Receiver, Taking, make_delivery};
+use crate::receive::{Receiver, Taking, make_delivery, make_delivery_from};
 use crate::state::CoreState;
 use jm_base::Mode;
-use jm_dest::{ConnectionId, ConsumerId, SessionId};
+use jm_dest::{ClientId, ConnectionId, ConsumerId, Name, SessionId};
 use jm_machine::{Answer, Consumers};
+use jm_selector::Selector;
 use jm_sub::Decision;
 
 impl CoreState {
@@ -24,7 +25,7 @@ impl CoreState {
         ensures { InstallFits self.old change result self.new }
     {
         match change {
-            Change::Open(id) => self.install_open(id),
+            Change::Open(id, client) => self.install_open(id, client),
             Change::Start(id) => self.install_start(id),
             Change::Stop(id) => self.install_stop(id),
             Change::CloseConnection(id) => self.install_close_connection(id),
@@ -33,20 +34,26 @@ impl CoreState {
             Change::CreateConsumer(session, id, decision) => {
                 self.install_consumer(&session, id, decision)
             }
+            Change::CreateConsumerOf(session, id, queue, selector) => {
+                self.install_consumer_of(&session, id, queue, selector)
+            }
             Change::CloseConsumer(session, id) => self.install_close_consumer(&session, id),
             Change::Receive(receiver, taking) => self.install_delivery(&receiver, taking),
+            Change::ReceiveFrom(receiver, taking) => self.install_delivery_from(&receiver, taking),
             Change::Acknowledge(id, mode) => self.install_acknowledge(&id, mode),
             Change::Recover(id) => self.install_recover(&id),
+            Change::Rollback(id) => self.install_rollback(&id),
             Change::Missed(number) => self.install_missed(number),
             Change::Publish(publications) => self.install_publications(publications),
+            Change::Commit(id, sent) => self.install_commit(&id, sent),
         }
     }
 
-    fn install_open(&mut self, id: ConnectionId) -> Answer
-        requires { IsPlanned self.old (Change.Open id) }
-        ensures { InstallFits self.old (Change.Open id) result self.new }
+    fn install_open(&mut self, id: ConnectionId, client: Option<ClientId>) -> Answer
+        requires { IsPlanned self.old (Change.Open id client) }
+        ensures { InstallFits self.old (Change.Open id client) result self.new }
     {
-        make_open(&mut self.sessions, id);
+        make_open(&mut self.sessions, id, client);
         Answer::Done
     }
 
@@ -72,7 +79,7 @@ impl CoreState {
     {
         make_close_connection(&mut self.sessions, id);
         let which = Consumers::OfConnection(id);
-        make_give_back(&mut self.stations, &which);
+        make_give_back(&mut self.stations, &mut self.queues, &which);
         make_end(&mut self.subs, &mut self.stations, &which);
         Answer::Done
     }
@@ -91,7 +98,7 @@ impl CoreState {
     {
         make_close_session(&mut self.sessions, id);
         let which = Consumers::OfSession(*id);
-        make_give_back(&mut self.stations, &which);
+        make_give_back(&mut self.stations, &mut self.queues, &which);
         make_end(&mut self.subs, &mut self.stations, &which);
         Answer::Done
     }
@@ -113,7 +120,22 @@ impl CoreState {
             id,
             decision,
             self.limit,
+            self.alloc,
         );
+        Answer::Done
+    }
+
+    fn install_consumer_of(
+        &mut self,
+        session: &SessionId,
+        id: ConsumerId,
+        queue: Name,
+        selector: Selector,
+    ) -> Answer
+        requires { IsPlanned self.old (Change.CreateConsumerOf session.now id queue selector) }
+        ensures { InstallFits self.old (Change.CreateConsumerOf session.now id queue selector) result self.new }
+    {
+        make_create_of(&mut self.sessions, session, id, queue, selector);
         Answer::Done
     }
 
@@ -134,12 +156,28 @@ impl CoreState {
         make_delivery(&mut self.stations, receiver, taking)
     }
 
+    /// Delivers from the queue what the receiver's consumer selects.
+    fn install_delivery_from(&mut self, receiver: &Receiver, taking: Option<Taking>) -> Answer
+        requires { IsPlanned self.old (Change.ReceiveFrom receiver.now taking) }
+        ensures { InstallFits self.old (Change.ReceiveFrom receiver.now taking) result self.new }
+    {
+        match self
+            .sessions
+            .consumer_of(&receiver.session, receiver.consumer)
+        {
+            None => Answer::Nothing,
+            Some(consumer) => {
+                make_delivery_from(&mut self.queues, &consumer.selector, receiver, taking)
+            }
+        }
+    }
+
     /// Settles what is out to the session, where its mode lets the client acknowledge.
     fn install_acknowledge(&mut self, id: &SessionId, mode: Mode) -> Answer
         requires { IsPlanned self.old (Change.Acknowledge id.now mode) }
         ensures { InstallFits self.old (Change.Acknowledge id.now mode) result self.new }
     {
-        make_acknowledge(&mut self.stations, id, mode);
+        make_acknowledge(&mut self.stations, &mut self.queues, id, mode);
         Answer::Done
     }
 
@@ -147,7 +185,17 @@ impl CoreState {
         requires { IsPlanned self.old (Change.Recover id.now) }
         ensures { InstallFits self.old (Change.Recover id.now) result self.new }
     {
-        make_give_back(&mut self.stations, &Consumers::OfSession(*id));
+        let receivers = Consumers::OfSession(*id);
+        make_give_back(&mut self.stations, &mut self.queues, &receivers);
+        Answer::Done
+    }
+
+    fn install_rollback(&mut self, id: &SessionId) -> Answer
+        requires { IsPlanned self.old (Change.Rollback id.now) }
+        ensures { InstallFits self.old (Change.Rollback id.now) result self.new }
+    {
+        let consumers = Consumers::OfSession(*id);
+        make_give_back(&mut self.stations, &mut self.queues, &consumers);
         Answer::Done
     }
 
@@ -162,7 +210,17 @@ impl CoreState {
         requires { IsPlanned self.old (Change.Publish publications) }
         ensures { InstallFits self.old (Change.Publish publications) result self.new }
     {
-        make_publications(&mut self.stations, publications);
+        make_publications(&mut self.stations, &mut self.queues, publications);
+        Answer::Done
+    }
+
+    /// Settles all that is out to the session, and then publishes what it sent.
+    fn install_commit(&mut self, id: &SessionId, sent: Vec<Publication>) -> Answer
+        requires { IsPlanned self.old (Change.Commit id.now sent) }
+        ensures { InstallFits self.old (Change.Commit id.now sent) result self.new }
+    {
+        make_settle(&mut self.stations, &mut self.queues, id);
+        make_publications(&mut self.stations, &mut self.queues, sent);
         Answer::Done
     }
 }

@@ -10,6 +10,7 @@ mod life;
 mod plan;
 mod provider;
 mod publish;
+mod queues;
 mod receive;
 mod run;
 mod state;

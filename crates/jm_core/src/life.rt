@@ -1,41 +1,64 @@
 //! Opens and closes connections and sessions, and closes consumers. Each call that takes memory is prepared first,
 //! which finds why it is refused and else takes all room, and then made, which takes no memory.
 
-ghost use Rattle.std.specs.Prelude.{◌≡◌, ◌<◌, true, not, map, is_some, IfErr, OnOk, None};
+ghost use Rattle.std.specs.Prelude.{◌≡◌, ◌<◌, true, false, map, is_some, IfOk, IfErr, OnOk, None};
 ghost use Rattle.jm_machine.specs.declared.call.Who.TheVariants.{Connection, Session};
 ghost use Rattle.jm_machine.specs.declared.call.Request.TheVariants.{Open, Start, Stop, CloseConnection, CreateSession, CloseSession};
 ghost use Rattle.jm_machine.specs.Life as life;
 ghost use Rattle.jm_machine.specs.Machine as machine;
-ghost use Rattle.jm_session.specs.Known.{cause};
+ghost use Rattle.jm_session.specs.Known.{cause, open_cause};
 
 use jm_base::{Mode, Refusal};
-use jm_dest::{ConnectionId, ConsumerId, SessionId};
+use jm_dest::{ClientId, ConnectionId, ConsumerId, SessionId};
 use jm_session::Sessions;
+use std::alloc::AllocError;
 
-/// Finds why the connection may not be opened, and else makes room for it.
-pub(crate) fn prepare_open(sessions: &mut Sessions, id: ConnectionId) -> Result<(), Refusal>
-    ensures ok { OnOk result (life.connection_of sessions.old.life.connections id ≡ None) }
+/// An equal client identifier, or none.
+fn copy_client(client: &Option<ClientId>) -> Result<Option<ClientId>, AllocError>
+    ensures { IfOk result (λ copy. copy ≡ client.now) }
+{
+    match client {
+        None => Ok(None),
+        Some(client) => Ok(Some(client.copy()?)),
+    }
+}
+
+/// Finds why the connection may not be opened for the client, or for none, and else makes room for it and copies the
+/// client.
+pub(crate) fn prepare_open(
+    sessions: &mut Sessions,
+    id: ConnectionId,
+    client: &Option<ClientId>,
+) -> Result<Option<ClientId>, Refusal>
+    ensures new { OnOk result (life.connection_of sessions.old.life.connections id ≡ None) }
+    ensures free { OnOk result (life.is_client_taken sessions.old.life client.now ≡ false) }
+    ensures client { IfOk result (λ copy. copy ≡ client.now) }
     ensures room { OnOk result (0 < sessions.new.spare) }
-    ensures refused { IfErr result (λ refusal.
-        refusal ≡ cause (not (is_some (life.connection_of sessions.old.life.connections id)))) }
+    ensures refused { IfErr result (λ refusal. refusal ≡ open_cause
+        (is_some (life.connection_of sessions.old.life.connections id)) (life.is_client_taken sessions.old.life client.now)) }
     ensures life { sessions.new.life ≡ sessions.old.life }
     ensures consumers { sessions.new.consumers ≡ sessions.old.consumers }
 {
     if sessions.is_used(id) {
         return Err(Refusal::IllegalState);
     }
+    if sessions.is_client_taken(client) {
+        return Err(Refusal::InvalidClientId);
+    }
+    let copy = copy_client(client)?;
     sessions.reserve(1)?;
-    Ok(())
+    Ok(copy)
 }
 
-/// Opens the connection, stopped.
-pub(crate) fn make_open(sessions: &mut Sessions, id: ConnectionId)
+/// Opens the connection for the client, or for none, stopped.
+pub(crate) fn make_open(sessions: &mut Sessions, id: ConnectionId, client: Option<ClientId>)
     requires new { life.connection_of sessions.old.life.connections id ≡ None }
+    requires free { life.is_client_taken sessions.old.life client ≡ false }
     requires room { 0 < sessions.old.spare }
-    ensures life { sessions.new.life ≡ life.life_after sessions.old.life (Connection id) Open }
+    ensures life { sessions.new.life ≡ life.life_after sessions.old.life (Connection id) (Open client) }
     ensures consumers { sessions.new.consumers ≡ sessions.old.consumers }
 {
-    let _ = sessions.open(id);
+    let _ = sessions.open(id, client);
 }
 
 /// Starts the connection.

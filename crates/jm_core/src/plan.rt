@@ -1,38 +1,53 @@
 //! Plans steps: finds why a step is refused, and else takes all the memory that it needs.
 
-ghost use Rattle.std.specs.Prelude.{◌≡◌};
+ghost use Rattle.std.specs.Prelude.{◌≡◌, Bool, true, Some};
+ghost use Rattle.jm_dest.specs.declared.destination.Destination.TheVariants as destination;
+ghost use Rattle.jm_machine.specs.Life as life;
+ghost use Rattle.jm_session.specs.Known.{may_receive};
 ghost use Rattle.jm_core.specs.Plans.{PlanFits};
+ghost use Rattle.jm_core.specs.Takings.{source_of};
 
-use crate::create::prepare_create;
+use crate::create::{prepare_create, prepare_create_of};
 use crate::life::{prepare_open, prepare_session};
-use crate::publish::{Publication, prepare_publications};
-use crate::receive::{Receiver, Taking, missed_key, missed_under, prepare_delivery, receiving_key};
+use crate::publish::Publication;
+use crate::receive::{
+    Receiver, Taking, missed_key, missed_under, prepare_delivery, prepare_delivery_from, receiving,
+};
 use crate::state::CoreState;
 use jm_base::{Mode, Refusal, Str};
-use jm_dest::{ConnectionId, ConsumerId, Moment, Name, SessionId};
+use jm_dest::{ClientId, ConnectionId, ConsumerId, Destination, Key, Moment, Name, SessionId};
 use jm_header::Message;
-use jm_machine::{Call, Request, Step, Who};
+use jm_machine::{Call, Consumer, Request, Step, Who};
+use jm_selector::Selector;
 use jm_sub::Decision;
 use std::marker::Model;
 
 /// What a step changes, with all that was prepared for it.
 #[derive(Drop)]
 pub(crate) enum Change {
-    Open(ConnectionId),
+    /// For a client, or for none.
+    Open(ConnectionId, Option<ClientId>),
     Start(ConnectionId),
     Stop(ConnectionId),
     CloseConnection(ConnectionId),
     CreateSession(SessionId, Mode),
     CloseSession(SessionId),
     CreateConsumer(SessionId, ConsumerId, Decision),
+    /// Of the queue of that name.
+    CreateConsumerOf(SessionId, ConsumerId, Name, Selector),
     CloseConsumer(SessionId, ConsumerId),
     /// What the receiver takes: nothing where the connection is stopped.
     Receive(Receiver, Option<Taking>),
+    /// What it takes from its consumer's queue.
+    ReceiveFrom(Receiver, Option<Taking>),
     Acknowledge(SessionId, Mode),
     Recover(SessionId),
+    Rollback(SessionId),
     /// So many publications were missed.
     Missed(u64),
     Publish(Vec<Publication>),
+    /// What the session's transaction sent.
+    Commit(SessionId, Vec<Publication>),
 }
 
 /// A step that was planned on a core: no cause stands against it, and there is room for it. `Core::install`
@@ -76,6 +91,7 @@ impl CoreState {
         match &step.call {
             Call::Ask(request) => self.plan_request(step.who, request),
             Call::Publish(messages) => self.plan_publication(step.who, messages.as_slice()),
+            Call::Commit(messages) => self.plan_commit(step.who, messages.as_slice()),
         }
     }
 
@@ -97,7 +113,7 @@ impl CoreState {
         ensures { PlanFits self.old (Who.Connection connection) (Call.Ask request.now) result self.new }
     {
         match request {
-            Request::Open => self.plan_open(connection),
+            Request::Open { client } => self.plan_open(connection, client),
             Request::Start => self.plan_start(connection),
             Request::Stop => self.plan_stop(connection),
             Request::CloseConnection => self.plan_close_connection(connection),
@@ -114,24 +130,26 @@ impl CoreState {
             Request::CloseSession => self.plan_close_session(session),
             Request::CreateConsumer {
                 consumer,
-                topic,
+                destination,
                 selector,
-            } => self.plan_consumer(session, *consumer, topic, selector),
+                no_local,
+            } => self.plan_consumer(session, *consumer, destination, selector, *no_local),
             Request::CloseConsumer { consumer } => self.plan_close_consumer(session, *consumer),
             Request::Receive { consumer, now } => self.plan_delivery(session, *consumer, *now),
             Request::Acknowledge => self.plan_acknowledge(session),
             Request::Recover => self.plan_recover(session),
+            Request::Rollback => self.plan_rollback(session),
             Request::Missed { consumer } => self.plan_missed(session, *consumer),
             _ => Err(Refusal::IllegalState),
         }
     }
 
     #[tactic(auto, unfolding(jm_machine::specs::Machine::refusal, jm_machine::specs::Machine::reply, jm_machine::specs::Wants::may_want))]
-    fn plan_open(&mut self, id: ConnectionId) -> Result<Change, Refusal>
-        ensures { PlanFits self.old (Who.Connection id) (Call.Ask Request.Open) result self.new }
+    fn plan_open(&mut self, id: ConnectionId, client: &Option<ClientId>) -> Result<Change, Refusal>
+        ensures { PlanFits self.old (Who.Connection id) (Call.Ask (Request.Open client.now)) result self.new }
     {
-        prepare_open(&mut self.sessions, id)?;
-        Ok(Change::Open(id))
+        let client = prepare_open(&mut self.sessions, id, client)?;
+        Ok(Change::Open(id, client))
     }
 
     #[tactic(auto, unfolding(jm_machine::specs::Machine::refusal, jm_machine::specs::Machine::reply))]
@@ -186,11 +204,54 @@ impl CoreState {
         &mut self,
         session: &SessionId,
         id: ConsumerId,
-        topic: &Name,
+        destination: &Destination,
         selector: &Option<Str>,
+        no_local: bool,
     ) -> Result<Change, Refusal>
         ensures { PlanFits self.old (Who.Session session.now)
-            (Call.Ask (Request.CreateConsumer id topic.now selector.now)) result self.new }
+            (Call.Ask (Request.CreateConsumer id destination.now selector.now no_local)) result self.new }
+    {
+        match destination {
+            Destination::Queue(queue) => { self.plan_consumer_of(session, id, queue, selector) }
+            Destination::Topic(topic) => {
+                self.plan_subscription(session, id, topic, selector, no_local)
+            }
+        }
+    }
+
+    /// Plans a consumer of a queue, to which it makes no difference whether it asks for none that is local.
+    fn plan_consumer_of(
+        &mut self,
+        session: &SessionId,
+        id: ConsumerId,
+        queue: &Name,
+        selector: &Option<Str>,
+    ) -> Result<Change, Refusal>
+        ensures { (no_local : Bool) → PlanFits self.old (Who.Session session.now)
+            (Call.Ask (Request.CreateConsumer id (destination.Queue queue.now) selector.now no_local)) result self.new }
+    {
+        let (queue, selector) = prepare_create_of(
+            self.alloc,
+            &mut self.sessions,
+            session,
+            id,
+            queue,
+            selector,
+        )?;
+        Ok(Change::CreateConsumerOf(*session, id, queue, selector))
+    }
+
+    /// Plans a consumer of a topic, with a subscription of its own.
+    fn plan_subscription(
+        &mut self,
+        session: &SessionId,
+        id: ConsumerId,
+        topic: &Name,
+        selector: &Option<Str>,
+        no_local: bool,
+    ) -> Result<Change, Refusal>
+        ensures { PlanFits self.old (Who.Session session.now)
+            (Call.Ask (Request.CreateConsumer id (destination.Topic topic.now) selector.now no_local)) result self.new }
     {
         let decision = prepare_create(
             &mut self.sessions,
@@ -200,6 +261,7 @@ impl CoreState {
             id,
             topic,
             selector,
+            no_local,
         )?;
         Ok(Change::CreateConsumer(*session, id, decision))
     }
@@ -222,15 +284,37 @@ impl CoreState {
     ) -> Result<Change, Refusal>
         ensures { PlanFits self.now (Who.Session session.now) (Call.Ask (Request.Receive consumer now)) result self.now }
     {
-        let (mode, key) = receiving_key(&self.sessions, session, consumer)?;
+        let (mode, source) = receiving(&self.sessions, session, consumer)?;
         let receiver = Receiver {
             session: *session,
             mode,
             consumer,
             moment: now,
         };
-        let taking = prepare_delivery(&self.stations, key, &receiver)?;
-        Ok(Change::Receive(receiver, taking))
+        match source {
+            None => Ok(Change::Receive(receiver, None)),
+            Some(source) => self.plan_delivery_to(receiver, source),
+        }
+    }
+
+    /// Plans a delivery to a consumer that may receive, of a connection that is started.
+    fn plan_delivery_to(&self, receiver: Receiver, source: &Consumer) -> Result<Change, Refusal>
+        requires mode { life.mode_of self.now.known.life receiver.session ≡ Some receiver.mode }
+        requires allowed { may_receive self.now.known.life self.now.known.consumers receiver.session receiver.consumer ≡ true }
+        requires source { source_of self.now.known.life self.now.known.consumers receiver.session receiver.consumer ≡ Some source.now }
+        ensures { PlanFits self.now (Who.Session receiver.session)
+            (Call.Ask (Request.Receive receiver.consumer receiver.moment)) result self.now }
+    {
+        match &source.key {
+            Key::Queue(_) => {
+                let taking = prepare_delivery_from(&self.queues, source, &receiver)?;
+                Ok(Change::ReceiveFrom(receiver, taking))
+            }
+            Key::Own(_, _) | Key::SharedOwn(_, _) | Key::Durable(_, _) => {
+                let taking = prepare_delivery(&self.stations, &source.key, &receiver)?;
+                Ok(Change::Receive(receiver, taking))
+            }
+        }
     }
 
     #[tactic(auto, unfolding(jm_machine::specs::Machine::refusal, jm_machine::specs::Machine::reply))]
@@ -247,10 +331,20 @@ impl CoreState {
     fn plan_recover(&self, id: &SessionId) -> Result<Change, Refusal>
         ensures { PlanFits self.now (Who.Session id.now) (Call.Ask Request.Recover) result self.now }
     {
-        if !self.sessions.is_open(id) {
+        if !self.is_untransacted(id) {
             return Err(Refusal::IllegalState);
         }
         Ok(Change::Recover(*id))
+    }
+
+    #[tactic(auto, unfolding(jm_machine::specs::Machine::refusal, jm_machine::specs::Machine::reply))]
+    fn plan_rollback(&self, id: &SessionId) -> Result<Change, Refusal>
+        ensures { PlanFits self.now (Who.Session id.now) (Call.Ask Request.Rollback) result self.now }
+    {
+        if !self.is_transacted(id) {
+            return Err(Refusal::IllegalState);
+        }
+        Ok(Change::Rollback(*id))
     }
 
     fn plan_missed(&self, session: &SessionId, id: ConsumerId) -> Result<Change, Refusal>
@@ -278,18 +372,35 @@ impl CoreState {
     ) -> Result<Change, Refusal>
         ensures { PlanFits self.old (Who.Session session.now) (Call.Publish messages.now) result self.new }
     {
-        if !self.has_stamped(session, messages) {
+        if !self.may_publish(session, messages) {
             return Err(Refusal::IllegalState);
         }
-        if !self.has_places(messages.len()) {
-            return Err(Refusal::Exhausted);
-        }
-        let publications = prepare_publications(
-            self.alloc,
-            &self.subs,
-            &mut self.stations,
-            messages,
-        )?;
+        let publications = self.prepare_messages(messages)?;
         Ok(Change::Publish(publications))
+    }
+
+    #[tactic(auto, unfolding(jm_machine::specs::Machine::commit_refusal, jm_machine::specs::Machine::reply))]
+    fn plan_commit(&mut self, who: Who, messages: &[Message]) -> Result<Change, Refusal>
+        ensures { PlanFits self.old who (Call.Commit messages.now) result self.new }
+    {
+        match who {
+            Who::Connection(_) => Err(Refusal::IllegalState),
+            Who::Session(session) => self.plan_commit_from(&session, messages),
+        }
+    }
+
+    /// Plans to commit the session's transaction, with copies of the messages that it sent.
+    pub(crate) fn plan_commit_from(
+        &mut self,
+        session: &SessionId,
+        messages: &[Message],
+    ) -> Result<Change, Refusal>
+        ensures { PlanFits self.old (Who.Session session.now) (Call.Commit messages.now) result self.new }
+    {
+        if !self.may_commit(session, messages) {
+            return Err(Refusal::IllegalState);
+        }
+        let sent = self.prepare_messages(messages)?;
+        Ok(Change::Commit(*session, sent))
     }
 }

@@ -5,8 +5,9 @@ ghost use Rattle.jm_machine.specs.Client.{Progress, begun, RunOwed};
 ghost use Rattle.jm_machine.specs.Isolation.{Reached};
 ghost use Rattle.jm_core.specs.Accepted.{HoldsAccepted};
 ghost use Rattle.jm_core.specs.Kept.{IsNumberOfMessages};
+ghost use Rattle.jm_stations.specs.Backlogs as backlogs;
 ghost use Rattle.jm_core.specs.Limits.{AllWithin};
-ghost use Rattle.jm_core.specs.Outstanding.{HoldsOutToOpen};
+ghost use Rattle.jm_core.specs.Outstanding.{AreOutToOpen};
 ghost use Rattle.jm_core.specs.Plans.{InstallFits, IsPlan, IsPlanned, IsRefused};
 ghost use Rattle.jm_core.specs.Provider.{may_open, state_of};
 ghost use Rattle.jm_core.specs.Steps.{StepFits};
@@ -14,9 +15,9 @@ ghost use Rattle.jm_core.specs.Steps.{StepFits};
 use crate::plan::Plan;
 use crate::state::CoreState;
 use jm_base::Refusal;
-use jm_dest::{Key, Number};
+use jm_dest::{Key, Name, Number};
 use jm_machine::{
-    Answer, ClientCall, ConnectionState, Consumer, Reply, SessionState, Station, Step,
+    Answer, ClientCall, ConnectionState, Consumer, PlacedRow, Reply, SessionState, Station, Step,
 };
 use std::alloc::{AllocError, Global};
 use std::marker::Model;
@@ -80,9 +81,9 @@ pub fn law_rows_within_limit(core: &Core)
 
 /// The law of what is out, proved; the function itself does nothing.
 ///
-/// Each row that is out is out to a session that is open.
+/// Each row that is out, of a subscription or of a queue, is out to a session that is open.
 pub fn law_rows_out_to_open(core: &Core)
-    ensures { HoldsOutToOpen (state_of core.now).life (state_of core.now).stations }
+    ensures { AreOutToOpen (state_of core.now) }
 {
     let _ = &core.state;
 }
@@ -150,11 +151,18 @@ impl Core {
         self.state.stations_len()
     }
 
-    /// How many messages are held, each counted once, however many rows hold it.
+    /// How many messages are held for subscriptions, each counted once, however many rows hold it.
     pub fn kept(&self) -> usize
         ensures { IsNumberOfMessages result (state_of self.now).stations }
     {
         self.state.kept()
+    }
+
+    /// How many messages queues hold: none of these is held for a subscription.
+    pub fn kept_by_queues(&self) -> usize
+        ensures { backlogs.IsNumberOfMessages result self.now.queues.list }
+    {
+        self.state.kept_by_queues()
     }
 
     /// A copy of the subscription of that key with its rows, where there is one. `AllocError` where a request
@@ -163,6 +171,14 @@ impl Core {
         ensures { IfOk result (λ station. station ≡ machine.station_of key.now (state_of self.now).stations) }
     {
         self.state.station(key)
+    }
+
+    /// Copies of the rows of the queue of that name, by place: none where it holds nothing. `AllocError` where a request
+    /// for memory was refused.
+    pub fn queue_rows(&self, name: &Name) -> Result<Vec<PlacedRow>, AllocError>
+        ensures { IfOk result (λ rows. rows.items ≡ (state_of self.now).queues name.now) }
+    {
+        self.state.queue_rows(name)
     }
 
     /// The place of the next publication, from 1.
@@ -175,7 +191,7 @@ impl Core {
     /// Plans one step: finds why it is refused, or takes all the memory that it needs. Either way the core is
     /// as it was, but for its room. A plan is made by `install`; one that is let go changes nothing.
     ///
-    /// A refusal is the first cause that stands, and `Memory` comes where `step` says.
+    /// A refusal is the first cause that stands, as `step` says, and `Memory` comes where it says.
     pub fn plan(&mut self, step: &Step) -> Result<Plan, Refusal>
         ensures same { state_of self.new ≡ state_of self.old }
         ensures ok { IfOk result (λ plan. IsPlan self.new step.now.who step.now.call plan) }
@@ -194,11 +210,22 @@ impl Core {
         self.state.install(plan.into_change())
     }
 
-    /// Plans one step and installs it. A refusal is the first cause that stands, in the order of `Refusal`, and leaves
-    /// the core as it was; so does `Memory`, which comes only to a call that takes memory, and only where no
-    /// other cause stands, or in place of `InvalidSelector`. Memory is taken to open a connection or a session,
-    /// to make a consumer, to publish, and by a `Receive` that hands out a copy: in mode `Client`, and of a message that
-    /// another subscription holds too. No other call takes any.
+    /// Plans one step and installs it. A refusal is the first cause that stands, in this order, and leaves the core as
+    /// it was.
+    ///
+    /// - `IllegalState`: the connection, the session or the consumer is not in a state for the call. So it is with a
+    ///   `Recover` in a transacted session and with a `Commit` or a `Rollback` in any other (Jakarta Messaging 3.1,
+    ///   section 6.2), with a `Publish` in a transacted session, and with messages that this session did
+    ///   not stamp in this opening (ours).
+    /// - `InvalidClientId`: an open connection has the client identifier for which another is to be opened (Jakarta
+    ///   Messaging 3.1, section 6.1.2).
+    /// - `InvalidSelector`: a new consumer's selector does not read.
+    /// - `Exhausted`: places run out before all messages of a `Publish` or a `Commit` have one; none is published then,
+    ///   and nothing settled (ours). The limit of rows refuses neither: a subscription at its limit misses the message.
+    /// - `Memory`: a request for memory was refused. It comes only to a call that takes memory, and only where no other
+    ///   cause stands, or in place of `InvalidSelector`. Memory is taken to open a connection or a session, to make a
+    ///   consumer, to publish and to commit, and by a `Receive` that hands out a copy: in modes `Client` and
+    ///   `Transacted`, and of a message that another subscription holds too. No other call takes any.
     pub fn step(&mut self, step: &Step) -> Result<Answer, Refusal>
         ensures { StepFits (state_of self.old) step.now.who step.now.call result (state_of self.new) }
     {
@@ -206,11 +233,13 @@ impl Core {
         Ok(self.install(plan))
     }
 
-    /// Makes the calls in turn, and gives the reply to each. The numbers of each session's sends count
-    /// from 1 at the start of the list. `AllocError` where no room was found for the replies and for the
-    /// counts of sends; then no call was made. Where one call wants memory, as `step` says, its reply is
-    /// `Memory`, the core is as it was before that call, and the run goes on; a send has used its number
-    /// then.
+    /// Makes the calls in turn, and gives the reply to each. The numbers of each session's sends count from 1 at the
+    /// start of the list. What is sent in a transacted session is kept until it commits, and dropped by its rollback, its
+    /// close, the close of its connection, and the end of the list (Jakarta Messaging 3.1, section 6.2); a commit that is
+    /// refused leaves it kept. `AllocError` where no room was found for the replies and for the sessions that send; then
+    /// no call was made. Where one call wants memory, as `step` says, or a send in a transacted session does, its reply is
+    /// `Memory`, the core and what is kept are as they were before that call, and the run goes on; a send that was to be
+    /// published has used its number then.
     pub fn run(&mut self, calls: Vec<ClientCall>) -> Result<Vec<Reply>, AllocError>
         ensures ok { IfOk result (λ replies. (end : Progress)
             × RunOwed (begun (state_of self.old)) calls.items replies.items end × (state_of self.new ≡ end.state)) }

@@ -5,36 +5,50 @@ ghost use Rattle.std.specs.Prelude.{◌≡◌, ◌≤◌, ◌<◌, ◌+◌, All,
 ghost use Rattle.std.specs.List.{IsDistinct};
 ghost use Rattle.jm_base.specs.declared.refusal.Refusal.TheVariants.{Memory};
 ghost use Rattle.jm_dest.specs.Keys.{key_eq};
-ghost use Rattle.jm_machine.specs.Machine.{places_end};
+ghost use Rattle.jm_machine.specs.Machine.{places_end, queued};
 ghost use Rattle.jm_stations.specs.Backlogs.{HasMoreRoom, IsPublished};
 ghost use Rattle.jm_core.specs.State.{keys_of};
-ghost use Rattle.jm_core.specs.Publications.{IsReady, IsReserved, ArePublished};
+ghost use Rattle.jm_core.specs.Queues.{HaveMoreRoom, IsQueued, published_queues, rows_in};
+ghost use Rattle.jm_core.specs.Publications.{ArePublished, HasRoom, IsReady, IsReserved, IsRouted, queue_indexes, station_indexes};
 
+use crate::queues::Queues;
 use jm_base::Refusal;
+use jm_dest::Destination;
 use jm_header::Message;
+use jm_session::Sessions;
 use jm_stations::Stations;
 use jm_sub::Subs;
 use std::alloc::Global;
 
-/// A message that is to be published, and the indexes of the keys whose subscriptions accept it.
+/// Where a message goes.
+#[derive(Drop)]
+pub(crate) enum Goal {
+    /// To the subscriptions that accept it: the indexes of their keys.
+    Subscriptions(Vec<usize>),
+    /// To its queue: the index of its key.
+    Queue(usize),
+}
+
+/// A message that is to be published, and where it goes.
 #[derive(Drop)]
 pub(crate) struct Publication {
     pub message: Message,
-    pub indexes: Vec<usize>,
+    pub goal: Goal,
 }
 
-/// Finds where the message goes, and makes room for that many more messages there.
-pub(crate) fn prepare_publication(
+/// Finds the subscriptions that accept the message of its publisher, and makes room for that many more messages there.
+fn prepare_subscriptions(
+    sessions: &Sessions,
     subs: &Subs,
     stations: &mut Stations,
-    message: Message,
+    message: &Message,
     additional: usize,
-) -> Result<Publication, Refusal>
+) -> Result<Vec<usize>, Refusal>
     requires same { keys_of subs.now.list ≡ stations.old.keys }
     requires number { length stations.old.list ≡ length subs.now.list }
     requires once { IsDistinct key_eq stations.old.keys }
-    ensures message { IfOk result (λ x. x.message ≡ message) }
-    ensures ready { IfOk result (λ x. IsReady additional subs.now.list stations.new.list x) }
+    ensures routed { IfOk result (λ is. IsRouted sessions.now.life subs.now.list message.now is.items) }
+    ensures reserved { IfOk result (λ is. IsReserved additional stations.new.list is.items) }
     ensures messages { OnOk result (additional ≤ stations.new.message_room) }
     ensures err { IfErr result (λ refusal. refusal ≡ Memory) }
     ensures keys { stations.new.keys ≡ stations.old.keys }
@@ -42,65 +56,134 @@ pub(crate) fn prepare_publication(
     ensures next_place { stations.new.next_place ≡ stations.old.next_place }
     ensures room { stations.old.message_room ≤ stations.new.message_room }
 {
-    let keys = subs.accepting(&message)?;
+    let client = sessions.client_of(message.sender().session.connection);
+    let keys = subs.accepting(message, client)?;
     let indexes = stations.indexes_of(&keys)?;
     stations.reserve(&indexes, additional)?;
-    Ok(Publication { message, indexes })
+    Ok(indexes)
+}
+
+/// Finds where the message goes, and makes room for that many more messages there.
+pub(crate) fn prepare_publication(
+    sessions: &Sessions,
+    subs: &Subs,
+    stations: &mut Stations,
+    queues: &mut Queues,
+    message: Message,
+    additional: usize,
+) -> Result<Publication, Refusal>
+    requires same { keys_of subs.now.list ≡ stations.old.keys }
+    requires number { length stations.old.list ≡ length subs.now.list }
+    requires once { IsDistinct key_eq stations.old.keys }
+    ensures message { IfOk result (λ x. x.message ≡ message) }
+    ensures ready { IfOk result (λ x. IsReady additional sessions.now.life subs.now.list stations.new queues.new x) }
+    ensures err { IfErr result (λ refusal. refusal ≡ Memory) }
+    ensures keys { stations.new.keys ≡ stations.old.keys }
+    ensures list { HasMoreRoom stations.old.list stations.new.list }
+    ensures next_place { stations.new.next_place ≡ stations.old.next_place }
+    ensures room { stations.old.message_room ≤ stations.new.message_room }
+    ensures queues { HaveMoreRoom queues.old queues.new }
+{
+    let goal = match message.destination() {
+        Destination::Queue(name) => Goal::Queue(queues.reserve(name, additional)?),
+        Destination::Topic(_) => Goal::Subscriptions(prepare_subscriptions(
+            sessions, subs, stations, &message, additional,
+        )?),
+    };
+    Ok(Publication { message, goal })
 }
 
 /// Finds where copies of the messages go, and makes room for all of them there.
 pub(crate) fn prepare_publications(
     alloc: Global,
+    sessions: &Sessions,
     subs: &Subs,
     stations: &mut Stations,
+    queues: &mut Queues,
     messages: &[Message],
 ) -> Result<Vec<Publication>, Refusal>
     requires same { keys_of subs.now.list ≡ stations.old.keys }
     requires number { length stations.old.list ≡ length subs.now.list }
     requires once { IsDistinct key_eq stations.old.keys }
     ensures messages { IfOk result (λ xs. map (λ x. x.message) xs.items ≡ messages.now) }
-    ensures ready { IfOk result (λ xs. All (IsReady (length messages.now) subs.now.list stations.new.list) xs.items) }
-    ensures room { OnOk result (length messages.now ≤ stations.new.message_room) }
+    ensures ready { IfOk result (λ xs.
+        All (IsReady (length messages.now) sessions.now.life subs.now.list stations.new queues.new) xs.items) }
     ensures err { IfErr result (λ refusal. refusal ≡ Memory) }
     ensures keys { stations.new.keys ≡ stations.old.keys }
     ensures list { HasMoreRoom stations.old.list stations.new.list }
     ensures next_place { stations.new.next_place ≡ stations.old.next_place }
+    ensures queues { HaveMoreRoom queues.old queues.new }
 {
     let mut publications = Vec::with_capacity(alloc, messages.len())?;
     for message in messages {
         let copy = message.copy()?;
-        let publication = prepare_publication(subs, stations, copy, messages.len())?;
+        let publication = prepare_publication(
+            sessions,
+            subs,
+            stations,
+            queues,
+            copy,
+            messages.len(),
+        )?;
         publications.push_reserved(publication);
     }
     Ok(publications)
 }
 
 /// Publishes a message: it takes the next place.
-pub(crate) fn make_publication(stations: &mut Stations, publication: Publication)
+pub(crate) fn make_publication(
+    stations: &mut Stations,
+    queues: &mut Queues,
+    publication: Publication,
+)
     requires places { stations.old.next_place < places_end }
-    requires messages { 0 < stations.old.message_room }
-    requires reserved { IsReserved 1 stations.old.list publication.indexes.items }
+    requires from { queues.old.next_place ≤ stations.old.next_place }
+    requires reserved { HasRoom 1 stations.old queues.old publication.goal }
+    requires queued { IsQueued queues.old.keys publication.message.destination (queue_indexes publication.goal) }
     ensures keys { stations.new.keys ≡ stations.old.keys }
-    ensures list { IsPublished publication.indexes.items stations.old.next_place publication.message
+    ensures list { IsPublished (station_indexes publication.goal) stations.old.next_place publication.message
         stations.old.list stations.new.list }
     ensures next_place { stations.new.next_place ≡ stations.old.next_place + 1 }
     ensures room { stations.old.message_room ≤ stations.new.message_room + 1 }
+    ensures queue_keys { queues.new.keys ≡ queues.old.keys }
+    ensures queue_list { IsPublished (queue_indexes publication.goal) stations.old.next_place publication.message
+        queues.old.list queues.new.list }
+    ensures queues { rows_in queues.new ≡
+        queued publication.message.destination publication.message stations.old.next_place (rows_in queues.old) }
+    ensures queue_place { queues.new.next_place ≤ stations.new.next_place }
+    ensures queue_room { queues.old.message_room ≤ queues.new.message_room + 1 }
 {
-    let Publication { message, indexes } = publication;
-    stations.publish(message, &indexes);
+    let Publication { message, goal } = publication;
+    match goal {
+        Goal::Subscriptions(indexes) => stations.publish(message, &indexes),
+        Goal::Queue(index) => {
+            let place = stations.next_place();
+            queues.publish(message, index, place);
+            stations.skip_to(place + 1);
+        }
+    }
 }
 
 /// Publishes the messages in turn, each at a place of its own.
-pub(crate) fn make_publications(stations: &mut Stations, publications: Vec<Publication>)
+pub(crate) fn make_publications(
+    stations: &mut Stations,
+    queues: &mut Queues,
+    publications: Vec<Publication>,
+)
     requires places { stations.old.next_place + length publications.items ≤ places_end }
-    requires messages { length publications.items ≤ stations.old.message_room }
+    requires from { queues.old.next_place ≤ stations.old.next_place }
     requires reserved { All (λ (x : Publication).
-        IsReserved (length publications.items) stations.old.list x.indexes.items) publications.items }
+        HasRoom (length publications.items) stations.old queues.old x.goal) publications.items }
+    requires queued { All (λ (x : Publication).
+        IsQueued queues.old.keys x.message.destination (queue_indexes x.goal)) publications.items }
     ensures keys { stations.new.keys ≡ stations.old.keys }
     ensures list { ArePublished publications.items stations.old.next_place stations.old.list stations.new.list }
     ensures next_place { stations.new.next_place ≡ stations.old.next_place + length publications.items }
+    ensures queues { rows_in queues.new ≡ published_queues stations.old.next_place
+        (map (λ (x : Publication). x.message) publications.items) (rows_in queues.old) }
+    ensures queue_place { queues.new.next_place ≤ stations.new.next_place }
 {
     for publication in publications {
-        make_publication(stations, publication);
+        make_publication(stations, queues, publication);
     }
 }

@@ -1,22 +1,27 @@
 //! Delivers the next row under a key. A delivery is prepared first, which makes the copy that it wants, and
 //! then made, which takes no memory.
 
-ghost use Rattle.std.specs.Prelude.{◌≡◌, ◌<◌, true, false, length, slice_index_or, IfSome, IfOk, IfErr, OnOk, OnErr, Some};
+ghost use Rattle.std.specs.Prelude.{◌≡◌, ◌<◌, ℕ, List, true, false, length, slice_index_or, IfSome, IfOk, IfErr, OnOk, OnErr, Some};
 ghost use Rattle.std.specs.Option.{option_copied};
 ghost use Rattle.jm_base.specs.declared.refusal.Refusal.TheVariants.{IllegalState};
 ghost use Rattle.jm_machine.specs.Life.{mode_of};
-ghost use Rattle.jm_machine.specs.Machine.{consumer_of, key_at};
-ghost use Rattle.jm_machine.specs.Rows.{settles_at_once};
+ghost use Rattle.jm_dest.specs.declared.key.Key.TheVariants as queue;
+ghost use Rattle.jm_machine.specs.Machine.{at_queue, consumer_of, key_at, selected_by};
+ghost use Rattle.jm_machine.specs.Rows.{deliver_chosen, settles_at_once};
+ghost use Rattle.jm_selector.specs.Selectors.{read_selects, selector_read};
 ghost use Rattle.jm_session.specs.Known.{may_receive};
-ghost use Rattle.jm_stations.specs.Backlogs.{Backlog, answered, changed_at, copy_wanted};
+ghost use Rattle.jm_stations.specs.Backlogs.{Backlog, answered, answered_where, changed_at, copy_wanted, copy_wanted_where};
 ghost use Rattle.jm_stations.specs.Stations.{index_in};
 ghost use Rattle.jm_core.specs.Takings as spec;
-ghost use Rattle.jm_core.specs.Takings.{IsMissed, IsTaken, IsTold, receiving, taken_from, wants_copy};
+ghost use Rattle.jm_core.specs.Queues.{rows_in};
+ghost use Rattle.jm_core.specs.Takings.{IsMissed, IsTaken, IsTakenFrom, IsTold, source_of, taken_from, wants_copy, wants_copy_of};
 
+use crate::queues::Queues;
 use jm_base::{Mode, Refusal};
 use jm_dest::{ConsumerId, Key, Moment, SessionId};
 use jm_header::Message;
-use jm_machine::Answer;
+use jm_machine::{Answer, Consumer};
+use jm_selector::Selector;
 use jm_session::Sessions;
 use jm_stations::Stations;
 use std::alloc::AllocError;
@@ -43,21 +48,20 @@ fn settles(mode: Mode) -> bool
 {
     match mode {
         Mode::Auto | Mode::Dups => true,
-        Mode::Client => false,
+        Mode::Client | Mode::Transacted => false,
     }
 }
 
-/// The mode of the session and the key that its consumer receives from, which is none where the connection is stopped;
-/// or why it may not receive.
-pub(crate) fn receiving_key<'a>(
+/// The mode of the session and its consumer, which is none where the connection is stopped; or why it may not receive.
+pub(crate) fn receiving<'a>(
     sessions: &'a Sessions,
     session: &SessionId,
     id: ConsumerId,
-) -> Result<(Mode, Option<&'a Key>), Refusal>
+) -> Result<(Mode, Option<&'a Consumer>), Refusal>
     ensures ok { OnOk result (may_receive sessions.now.life sessions.now.consumers session.now id ≡ true) }
     ensures mode { IfOk result (λ x. mode_of sessions.now.life session.now ≡ Some x.0) }
-    ensures key { IfOk result (λ x.
-        option_copied x.1 ≡ receiving sessions.now.life sessions.now.consumers session.now id) }
+    ensures source { IfOk result (λ x.
+        option_copied x.1 ≡ source_of sessions.now.life sessions.now.consumers session.now id) }
     ensures illegal { IfErr result (λ refusal. refusal ≡ IllegalState) }
     ensures refused { OnErr result (may_receive sessions.now.life sessions.now.consumers session.now id ≡ false) }
 {
@@ -67,7 +71,7 @@ pub(crate) fn receiving_key<'a>(
     match sessions.consumer_of(session, id) {
         Some(consumer) if consumer.is_active => {
             if sessions.is_started(session.connection) {
-                Ok((mode, Some(&consumer.key)))
+                Ok((mode, Some(consumer)))
             } else {
                 Ok((mode, None))
             }
@@ -76,20 +80,16 @@ pub(crate) fn receiving_key<'a>(
     }
 }
 
-/// Finds the rows under the key, where there is one and some stand there, and makes the copy that a delivery wants.
+/// Finds the rows under the key, where some stand there, and makes the copy that a delivery wants.
 pub(crate) fn prepare_delivery(
     stations: &Stations,
-    key: Option<&Key>,
+    key: &Key,
     receiver: &Receiver,
 ) -> Result<Option<Taking>, AllocError>
-    ensures ok { IfOk result (λ taking.
-        IsTaken (option_copied key.entry) receiver.now stations.now.keys stations.now.list taking) }
+    ensures ok { IfOk result (λ taking. IsTaken (Some key.now) receiver.now stations.now.keys stations.now.list taking) }
     ensures within { IfOk result (λ taking. IfSome taking (λ x. x.index < length stations.now.list)) }
-    ensures err { OnErr result (wants_copy (option_copied key.entry) receiver.now stations.now.keys stations.now.list ≡ true) }
+    ensures err { OnErr result (wants_copy (Some key.now) receiver.now stations.now.keys stations.now.list ≡ true) }
 {
-    let Some(key) = key else {
-        return Ok(None);
-    };
     match stations.index_of(key) {
         None => Ok(None),
         Some(index) => {
@@ -141,9 +141,83 @@ fn deliver_from(
 {
     match receiver.mode {
         Mode::Auto | Mode::Dups => stations.receive(index, receiver.moment, copy),
-        Mode::Client => stations.deliver(
+        Mode::Client | Mode::Transacted => stations.deliver(
             index,
             receiver.moment,
+            copy,
+            receiver.session,
+            receiver.consumer,
+        ),
+    }
+}
+
+/// Finds the rows of the consumer's queue, where some stand there, and makes the copy that a delivery of those wants that
+/// its selector selects.
+pub(crate) fn prepare_delivery_from(
+    queues: &Queues,
+    source: &Consumer,
+    receiver: &Receiver,
+) -> Result<Option<Taking>, AllocError>
+    ensures ok { (name : List ℕ) → source.now.key ≡ queue.Queue name →
+        IfOk result (λ taking. IsTakenFrom name (selected_by (Some source.now)) receiver.now queues.now taking) }
+    ensures err { (name : List ℕ) → source.now.key ≡ queue.Queue name →
+        OnErr result (wants_copy_of (selected_by (Some source.now)) receiver.now (rows_in queues.now name) ≡ true) }
+{
+    match queues.index_of(&source.key) {
+        None => Ok(None),
+        Some(index) => {
+            let at_once = settles(receiver.mode);
+            let copy = queues.copy_for(index, receiver.moment, at_once, &source.selector)?;
+            Ok(Some(Taking { index, copy }))
+        }
+    }
+}
+
+/// Delivers the next row of the queue that the selector selects, where there is one, as `make_delivery` does.
+pub(crate) fn make_delivery_from(
+    queues: &mut Queues,
+    selector: &Selector,
+    receiver: &Receiver,
+    taking: Option<Taking>,
+) -> Answer
+    requires { (name : List ℕ) × IsTakenFrom name (read_selects (selector_read selector.now)) receiver.now queues.old taking }
+    ensures answer { (name : List ℕ) → IsTakenFrom name (read_selects (selector_read selector.now)) receiver.now queues.old taking →
+        result ≡ answered_where (read_selects (selector_read selector.now)) receiver.now.moment (rows_in queues.old name) }
+    ensures rows { (name : List ℕ) → IsTakenFrom name (read_selects (selector_read selector.now)) receiver.now queues.old taking →
+        rows_in queues.new ≡ at_queue name
+        (deliver_chosen (read_selects (selector_read selector.now)) receiver.now.moment (spec.left_by receiver.now)) (rows_in queues.old) }
+    ensures next_place { queues.new.next_place ≡ queues.old.next_place }
+{
+    match taking {
+        None => Answer::Nothing,
+        Some(Taking { index, copy }) => take_from(queues, index, selector, receiver, copy),
+    }
+}
+
+/// Delivers the next row of the queue with that index that the selector selects.
+#[tactic(auto, unfolding(jm_machine::specs::Rows::left_of))]
+fn take_from(
+    queues: &mut Queues,
+    index: usize,
+    selector: &Selector,
+    receiver: &Receiver,
+    copy: Option<Message>,
+) -> Answer
+    requires within { index < length queues.old.list }
+    requires copy { (d : Backlog) → copy ≡ copy_wanted_where (read_selects (selector_read selector.now)) (spec.settles receiver.now)
+        receiver.now.moment queues.old.list (slice_index_or queues.old.list index d).rows }
+    ensures answer { (name : List ℕ) → index_in queues.old.keys (queue.Queue name) ≡ Some index →
+        result ≡ answered_where (read_selects (selector_read selector.now)) receiver.now.moment (rows_in queues.old name) }
+    ensures rows { (name : List ℕ) → index_in queues.old.keys (queue.Queue name) ≡ Some index → rows_in queues.new ≡ at_queue name
+        (deliver_chosen (read_selects (selector_read selector.now)) receiver.now.moment (spec.left_by receiver.now)) (rows_in queues.old) }
+    ensures next_place { queues.new.next_place ≡ queues.old.next_place }
+{
+    match receiver.mode {
+        Mode::Auto | Mode::Dups => queues.receive(index, receiver.moment, selector, copy),
+        Mode::Client | Mode::Transacted => queues.deliver(
+            index,
+            receiver.moment,
+            selector,
             copy,
             receiver.session,
             receiver.consumer,

@@ -1,94 +1,162 @@
 //! Runs lists of client calls.
 
-ghost use Rattle.std.specs.Prelude.{◌≡◌, ◌+◌, ◌≤◌, ◌<◌, IfOk, OnErr};
-ghost use Rattle.jm_machine.specs.Client.{Progress, begun, stamp_of, CallOwed, RunOwed};
-ghost use Rattle.jm_session.specs.Sends.{room};
+ghost use Rattle.std.specs.Prelude.{◌≡◌, ◌+◌, ◌≤◌, ◌<◌, Some, IfOk, OnErr};
+ghost use Rattle.jm_machine.specs.Life as life;
+ghost use Rattle.jm_machine.specs.Client.{Progress, after_request, begun, CallOwed, RunOwed};
+ghost use Rattle.jm_tx.specs.Halves.{kept_of, room, sent_of};
 ghost use Rattle.jm_core.specs.Provider.{state_of};
+ghost use Rattle.jm_core.specs.Runs as run;
 ghost use Rattle.jm_core.specs.Runs.{progress};
 
 use crate::state::CoreState;
-use jm_base::Refusal;
+use jm_base::{Mode, Refusal};
 use jm_dest::{Destination, Moment, SessionId};
-use jm_header::{Draft, Message, Sender, stamp};
-use jm_machine::{Answer, ClientCall, Reply};
-use jm_session::Sends;
+use jm_header::{Draft, Sender};
+use jm_machine::{Answer, ClientCall, Reply, Request, Who};
+use jm_tx::{Halves, Sent};
 use std::alloc::AllocError;
 
-impl CoreState {
-    /// The message of the session's next send, or why it is not stamped.
-    fn stamp_next(
-        &self,
-        sends: &Sends,
-        session: &SessionId,
-        draft: Draft,
-        destination: Destination,
-        now: Moment,
-    ) -> Result<Message, Refusal>
-        ensures { result ≡ stamp_of (progress (state_of self.now) sends.now) session.now draft destination now }
-    {
-        if !self.is_open_session(session) {
-            return Err(Refusal::IllegalState);
+/// Whether the request closes the connection by which it is made.
+fn closes_connection(request: &Request) -> bool
+    ensures { result ≡ run.closes_connection request.now }
+{
+    matches!(request, Request::CloseConnection)
+}
+
+/// Whether the request ends the transaction of the session by which it is made.
+fn ends_transaction(request: &Request) -> bool
+    ensures { result ≡ run.ends_transaction request.now }
+{
+    matches!(request, Request::CloseSession | Request::Rollback)
+}
+
+/// Drops what was sent in the transactions that the request ends, to which that was told.
+fn drop_ended(halves: &mut Halves, who: &Who, request: &Request, told: &Reply)
+    ensures sent { sent_of halves.new ≡ sent_of halves.old }
+    ensures kept { kept_of halves.new ≡ after_request who.now request.now told.now (kept_of halves.old) }
+    ensures room { room halves.old ≤ room halves.new }
+{
+    match who {
+        Who::Connection(connection) => {
+            if closes_connection(request) && told.is_ok() {
+                halves.drop_connection(*connection);
+            }
         }
-        match sends.next_number(session) {
-            None => Err(Refusal::OutOfRange),
-            Some(number) => {
-                let sender = Sender {
-                    opening: self.opening(),
-                    session: *session,
-                };
-                stamp(draft, destination, sender, number, now)
+        Who::Session(session) => {
+            if ends_transaction(request) {
+                halves.drop_all(session);
             }
         }
     }
+}
 
-    /// Stamps and publishes a message. Counting it takes no memory.
-    fn send(
+impl CoreState {
+    /// Makes the request, and drops what was sent in the transactions that it ends.
+    fn ask_and_drop(
         &mut self,
-        sends: &mut Sends,
+        halves: &mut Halves,
+        who: &Who,
+        request: &Request,
+    ) -> Result<Answer, Refusal>
+        ensures owed { CallOwed (progress (state_of self.old) halves.old) (ClientCall.Ask who.now request.now) result
+            (progress (state_of self.new) halves.new) }
+        ensures room { room halves.old ≤ room halves.new }
+    {
+        let reply = self.ask(*who, request);
+        drop_ended(halves, who, request, &reply);
+        reply
+    }
+
+    /// Stamps a message of the session, which is open in that mode, and publishes it; or keeps it for the commit.
+    fn send_in(
+        &mut self,
+        halves: &mut Halves,
         session: &SessionId,
+        mode: Mode,
         draft: Draft,
         destination: Destination,
         now: Moment,
     ) -> Result<Answer, Refusal>
-        requires { 0 < room sends.old }
-        ensures owed { CallOwed (progress (state_of self.old) sends.old)
-            (ClientCall.Send session.now draft destination now) result (progress (state_of self.new) sends.new) }
-        ensures room { room sends.old ≤ room sends.new + 1 }
+        requires room { 0 < room halves.old }
+        requires mode { life.mode_of (state_of self.old).life session.now ≡ Some mode }
+        ensures owed { CallOwed (progress (state_of self.old) halves.old)
+            (ClientCall.Send session.now draft destination now) result (progress (state_of self.new) halves.new) }
+        ensures room { room halves.old ≤ room halves.new + 1 }
     {
-        match self.stamp_next(sends, session, draft, destination, now) {
+        let sender = Sender {
+            opening: self.opening(),
+            session: *session,
+        };
+        match halves.send(sender, mode, draft, destination, now) {
             Err(refusal) => Err(refusal),
-            Ok(message) => {
+            Ok(Sent::Kept(number)) => Ok(Answer::Sent(number)),
+            Ok(Sent::Publish(message)) => {
                 let number = message.number();
-                match sends.count(session) {
-                    Err(_) => Err(Refusal::Memory),
-                    Ok(()) => match self.publish_one_from(session, message) {
-                        Ok(()) => Ok(Answer::Sent(number)),
-                        Err(refusal) => Err(refusal),
-                    },
+                match self.publish_one_from(session, message) {
+                    Ok(()) => Ok(Answer::Sent(number)),
+                    Err(refusal) => Err(refusal),
                 }
             }
         }
     }
 
-    fn answer(&mut self, sends: &mut Sends, call: ClientCall) -> Result<Answer, Refusal>
-        requires { 0 < room sends.old }
-        ensures owed { CallOwed (progress (state_of self.old) sends.old) call result
-            (progress (state_of self.new) sends.new) }
-        ensures room { room sends.old ≤ room sends.new + 1 }
+    /// Sends, where the session is open. With room, only what is kept or published takes memory.
+    fn send(
+        &mut self,
+        halves: &mut Halves,
+        session: &SessionId,
+        draft: Draft,
+        destination: Destination,
+        now: Moment,
+    ) -> Result<Answer, Refusal>
+        requires { 0 < room halves.old }
+        ensures owed { CallOwed (progress (state_of self.old) halves.old)
+            (ClientCall.Send session.now draft destination now) result (progress (state_of self.new) halves.new) }
+        ensures room { room halves.old ≤ room halves.new + 1 }
+    {
+        match self.mode_of(session) {
+            None => Err(Refusal::IllegalState),
+            Some(mode) => self.send_in(halves, session, mode, draft, destination, now),
+        }
+    }
+
+    /// Commits what the session sent in its transaction. A commit that is refused leaves it there.
+    fn commit(&mut self, halves: &mut Halves, session: &SessionId) -> Result<Answer, Refusal>
+        ensures owed { CallOwed (progress (state_of self.old) halves.old) (ClientCall.CommitSession session.now) result
+            (progress (state_of self.new) halves.new) }
+        ensures room { room halves.old ≤ room halves.new }
+    {
+        let messages = halves.take_commit(session);
+        match self.commit_from(session, &messages) {
+            Ok(()) => Ok(Answer::Done),
+            Err(refusal) => {
+                halves.put_back(session, messages);
+                Err(refusal)
+            }
+        }
+    }
+
+    fn answer(&mut self, halves: &mut Halves, call: ClientCall) -> Result<Answer, Refusal>
+        requires { 0 < room halves.old }
+        ensures owed { CallOwed (progress (state_of self.old) halves.old) call result
+            (progress (state_of self.new) halves.new) }
+        ensures room { room halves.old ≤ room halves.new + 1 }
     {
         match call {
-            ClientCall::Ask { who, request } => self.ask(who, &request),
+            ClientCall::Ask { who, request } => self.ask_and_drop(halves, &who, &request),
             ClientCall::Send {
                 session,
                 draft,
                 destination,
                 now,
-            } => self.send(sends, &session, draft, destination, now),
+            } => self.send(halves, &session, draft, destination, now),
+            ClientCall::CommitSession(session) => self.commit(halves, &session),
         }
     }
 
-    /// Makes the calls in turn, and gives the reply to each. `AllocError` where no room was found for the
-    /// replies and the counts of sends; then no call was made.
+    /// Makes the calls in turn, and gives the reply to each. What was sent in a transaction that is open at the end is
+    /// dropped. `AllocError` where no room was found for the replies and for the sessions that send; then no call was
+    /// made.
     pub(crate) fn run(&mut self, calls: Vec<ClientCall>) -> Result<Vec<Reply>, AllocError>
         ensures ok { IfOk result (λ replies. (end : Progress)
             × RunOwed (begun (state_of self.old)) calls.items replies.items end × (state_of self.new ≡ end.state)) }
@@ -96,9 +164,9 @@ impl CoreState {
     {
         let alloc = self.alloc();
         let mut replies = Vec::with_capacity(alloc, calls.len())?;
-        let mut sends = Sends::with_capacity(alloc, calls.len())?;
+        let mut halves = Halves::with_capacity(alloc, calls.len())?;
         for call in calls {
-            replies.push_reserved(self.answer(&mut sends, call));
+            replies.push_reserved(self.answer(&mut halves, call));
         }
         Ok(replies)
     }

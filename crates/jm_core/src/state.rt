@@ -6,15 +6,20 @@ ghost use Rattle.jm_machine.specs.Life as life;
 ghost use Rattle.jm_machine.specs.Machine as machine;
 ghost use Rattle.jm_core.specs.Accepted.{HoldsAccepted};
 ghost use Rattle.jm_core.specs.Kept.{IsNumberOfMessages};
+ghost use Rattle.jm_stations.specs.Backlogs as backlogs;
 ghost use Rattle.jm_core.specs.Provider.{may_open, state_of};
-ghost use Rattle.jm_core.specs.Steps.{StepFits, PublishFits};
+ghost use Rattle.jm_core.specs.Publications.{ArePrepared, unprepared};
+ghost use Rattle.jm_core.specs.Steps.{CommitFits, StepFits, PublishFits};
 
-use crate::publish::{make_publication, prepare_publication};
-use jm_base::{List, Refusal};
-use jm_dest::{Key, Number, SessionId};
+use crate::publish::{Publication, make_publication, prepare_publication, prepare_publications};
+use crate::queues::Queues;
+use jm_base::{List, Mode, Refusal};
+use jm_dest::{Key, Name, Number, SessionId};
 use jm_header::Message;
 use jm_machine::find::same_session;
-use jm_machine::{Answer, Call, ConnectionState, Consumer, Request, SessionState, Station, Who};
+use jm_machine::{
+    Answer, Call, ConnectionState, Consumer, PlacedRow, Request, SessionState, Station, Who,
+};
 use jm_session::Sessions;
 use jm_stations::Stations;
 use jm_sub::Subs;
@@ -23,7 +28,8 @@ use std::marker::Model;
 use std::slice::from_ref;
 
 /// What the core holds. Contracts see it as a `Provider`: the parts of the machine's state, each with its
-/// room. In that state (`state_of`) the stations are the subscriptions, each with what is held under its key.
+/// room. In that state (`state_of`) the stations are the subscriptions, each with what is held under its key, and a queue
+/// without a key holds nothing.
 #[derive(Drop)]
 pub(crate) struct CoreState {
     pub alloc: Global,
@@ -33,9 +39,11 @@ pub(crate) struct CoreState {
     pub sessions: Sessions,
     pub subs: Subs,
     pub stations: Stations,
+    pub queues: Queues,
 }
 
 impl Model for CoreState {
+    ghost use Rattle.std.specs.Prelude.{◌≤◌};
     ghost use Rattle.jm_core.specs.Provider.{Provider};
     ghost use Rattle.jm_core.specs.State.{IsSound};
 
@@ -47,10 +55,12 @@ impl Model for CoreState {
       known = c.sessions;
       subscriptions = c.subs;
       held = c.stations;
+      queues = c.queues;
     } };
 
     ghost invariant = { λ c.
-        IsSound c.limit c.sessions.consumers c.subs.list c.stations.keys c.stations.list c.stations.next_place };
+        IsSound c.limit c.sessions.consumers c.subs.list c.stations.keys c.stations.list c.stations.next_place
+        × (c.queues.next_place ≤ c.stations.next_place) };
 }
 
 /// The greatest number of rows that may be a limit (ours).
@@ -88,6 +98,7 @@ impl CoreState {
             sessions: Sessions::new(alloc),
             subs: Subs::new(alloc),
             stations: Stations::new(alloc),
+            queues: Queues::new(alloc),
         })
     }
 
@@ -144,6 +155,7 @@ impl CoreState {
         let sessions = self.sessions.copy()?;
         let subs = self.subs.copy()?;
         let stations = self.stations.copy()?;
+        let queues = self.queues.copy()?;
         Ok(CoreState {
             alloc: self.alloc,
             opening: self.opening,
@@ -151,6 +163,7 @@ impl CoreState {
             sessions,
             subs,
             stations,
+            queues,
         })
     }
 
@@ -161,11 +174,18 @@ impl CoreState {
         self.subs.len()
     }
 
-    /// How many messages are held, each counted once.
+    /// How many messages are held for subscriptions, each counted once.
     pub(crate) fn kept(&self) -> usize
         ensures { IsNumberOfMessages result (state_of self.now).stations }
     {
         self.stations.kept()
+    }
+
+    /// How many messages queues hold.
+    pub(crate) fn kept_by_queues(&self) -> usize
+        ensures { backlogs.IsNumberOfMessages result self.now.queues.list }
+    {
+        self.queues.kept()
     }
 
     /// A copy of the subscription of the key with its rows, where there is one. `AllocError` where a request
@@ -188,6 +208,13 @@ impl CoreState {
         }
     }
 
+    /// Copies of the rows of the queue of that name, by place. `AllocError` where a request for memory was refused.
+    pub(crate) fn queue_rows(&self, name: &Name) -> Result<Vec<PlacedRow>, AllocError>
+        ensures { IfOk result (λ rows. rows.items ≡ (state_of self.now).queues name.now) }
+    {
+        self.queues.rows(self.alloc, name)
+    }
+
     /// Each row is accepted by the subscription that holds it; the function itself does nothing.
     pub(crate) fn law_accepted(&self)
         ensures { HoldsAccepted (state_of self.now).stations }
@@ -195,18 +222,44 @@ impl CoreState {
         let _ = &self.stations;
     }
 
-    pub(crate) fn is_open_session(&self, id: &SessionId) -> bool
-        ensures { result ≡ is_some (life.mode_of (state_of self.now).life id.now) }
+    /// The mode of the session, where it is open.
+    pub(crate) fn mode_of(&self, id: &SessionId) -> Option<Mode>
+        ensures { result ≡ life.mode_of (state_of self.now).life id.now }
     {
-        self.sessions.is_open(id)
+        self.sessions.mode_of(id)
     }
 
-    /// Whether the session is open, and stamped each of the messages.
-    pub(crate) fn has_stamped(&self, session: &SessionId, messages: &[Message]) -> bool
-        ensures { result ≡ (is_some (life.mode_of (state_of self.now).life session.now)
+    /// Whether the session is open and transacted.
+    pub(crate) fn is_transacted(&self, id: &SessionId) -> bool
+        ensures { result ≡ machine.is_transacted (life.mode_of (state_of self.now).life id.now) }
+    {
+        matches!(self.sessions.mode_of(id), Some(Mode::Transacted))
+    }
+
+    /// Whether the session is open and not transacted.
+    pub(crate) fn is_untransacted(&self, id: &SessionId) -> bool
+        ensures { result ≡ machine.is_untransacted (life.mode_of (state_of self.now).life id.now) }
+    {
+        matches!(
+            self.sessions.mode_of(id),
+            Some(Mode::Auto | Mode::Client | Mode::Dups)
+        )
+    }
+
+    /// Whether the session is open and not transacted, and stamped each of the messages.
+    pub(crate) fn may_publish(&self, session: &SessionId, messages: &[Message]) -> bool
+        ensures { result ≡ (machine.is_untransacted (life.mode_of (state_of self.now).life session.now)
             && machine.is_stamped self.now.opening session.now messages.now) }
     {
-        self.is_open_session(session) && is_stamped(self.opening, session, messages)
+        self.is_untransacted(session) && is_stamped(self.opening, session, messages)
+    }
+
+    /// Whether the session is open and transacted, and stamped each of the messages.
+    pub(crate) fn may_commit(&self, session: &SessionId, messages: &[Message]) -> bool
+        ensures { result ≡ (machine.is_transacted (life.mode_of (state_of self.now).life session.now)
+            && machine.is_stamped self.now.opening session.now messages.now) }
+    {
+        self.is_transacted(session) && is_stamped(self.opening, session, messages)
     }
 
     /// Whether places are left for that many messages.
@@ -214,6 +267,29 @@ impl CoreState {
         ensures { result ≡ nat_le ((state_of self.now).next_place + number) machine.places_end }
     {
         number as u64 <= PLACES_END - self.stations.next_place()
+    }
+
+    /// Prepares to publish copies of the messages, each at a place of its own: `Exhausted` where places run out, and
+    /// else `Memory` where a request for memory was refused.
+    pub(crate) fn prepare_messages(
+        &mut self,
+        messages: &[Message],
+    ) -> Result<Vec<Publication>, Refusal>
+        ensures same { state_of self.new ≡ state_of self.old }
+        ensures ok { IfOk result (λ publications. ArePrepared self.new messages.now publications.items) }
+        ensures err { IfErr result (λ refusal. refusal ≡ unprepared (state_of self.old).next_place messages.now) }
+    {
+        if !self.has_places(messages.len()) {
+            return Err(Refusal::Exhausted);
+        }
+        prepare_publications(
+            self.alloc,
+            &self.sessions,
+            &self.subs,
+            &mut self.stations,
+            &mut self.queues,
+            messages,
+        )
     }
 
     /// Makes one request.
@@ -232,7 +308,7 @@ impl CoreState {
     ) -> Result<(), Refusal>
         ensures { PublishFits (state_of self.old) session.now (message ∷ []) result (state_of self.new) }
     {
-        if !self.has_stamped(session, from_ref(&message)) {
+        if !self.may_publish(session, from_ref(&message)) {
             return Err(Refusal::IllegalState);
         }
         if !self.has_places(1) {
@@ -241,15 +317,35 @@ impl CoreState {
         self.publish_one(message)
     }
 
-    /// Brings the message to the subscriptions that accept it, at the next place.
+    /// Commits the transaction of the session, which sent those messages in it.
+    pub(crate) fn commit_from(
+        &mut self,
+        session: &SessionId,
+        messages: &[Message],
+    ) -> Result<(), Refusal>
+        ensures { CommitFits (state_of self.old) session.now messages.now result (state_of self.new) }
+    {
+        let change = self.plan_commit_from(session, messages)?;
+        let _ = self.install(change);
+        Ok(())
+    }
+
+    /// Brings the message to the subscriptions that accept it, or to its queue, at the next place.
     fn publish_one(&mut self, message: Message) -> Result<(), Refusal>
         requires { self.old.held.next_place + 1 ≤ machine.places_end }
         ensures ok { OnOk result (state_of self.new ≡ machine.published (state_of self.old) (message ∷ [])) }
         ensures refused { IfErr result (λ refusal. refusal ≡ Memory) }
         ensures err { OnErr result (state_of self.new ≡ state_of self.old) }
     {
-        let publication = prepare_publication(&self.subs, &mut self.stations, message, 1)?;
-        make_publication(&mut self.stations, publication);
+        let publication = prepare_publication(
+            &self.sessions,
+            &self.subs,
+            &mut self.stations,
+            &mut self.queues,
+            message,
+            1,
+        )?;
+        make_publication(&mut self.stations, &mut self.queues, publication);
         Ok(())
     }
 }

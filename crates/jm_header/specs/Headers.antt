@@ -2,7 +2,7 @@
 -- Messaging 3.1, section 3.4).
 use Rattle.std.specs.Prelude.{ℕ, ◌≢◌, ◌≤◌, ◌+◌, ◌&&◌, ◌==◌, nat_le, nat_lt, if◌then◌else◌, Bool, false, None, Result, Ok, Err, List, []}
 use Rattle.jm_base.specs.declared.refusal.Refusal.{Refusal}
-use Rattle.jm_base.specs.declared.refusal.Refusal.TheVariants.{OutOfRange}
+use Rattle.jm_base.specs.declared.refusal.Refusal.TheVariants.{OutOfRange, Exhausted}
 use Rattle.jm_base.specs.declared.refusal.MessageFault.{MessageFault}
 use Rattle.jm_base.specs.declared.refusal.MessageFault.TheVariants.{NotWriteable, Memory}
 use Rattle.jm_dest.specs.Numbers.{long_end}
@@ -59,6 +59,14 @@ abbrev pub stamped : Settings → Destination → Sender → ℕ → ℕ → Res
 stamped draft destination sender number now =
     if is_in_range draft.time_to_live number now
     then Ok (message_of draft destination sender number now)
+    else Err OutOfRange
+
+-- what a session answers to its next send, after so many: the message of the next number; OutOfRange where a moment
+-- passes its range, and else Exhausted where the numbers are used up
+abbrev pub next_stamped : Settings → Destination → Sender → ℕ → ℕ → Result Content Refusal
+next_stamped draft destination sender sent now =
+    if nat_lt (now + draft.time_to_live) long_end
+    then (if nat_lt (sent + 1) long_end then Ok (message_of draft destination sender (sent + 1) now) else Err Exhausted)
     else Err OutOfRange
 
 -- a message is expired where it has an expiration, which is not after that moment

@@ -6,6 +6,7 @@ use Rattle.jm_dest.specs.declared.session.SessionId.{SessionId}
 use Rattle.jm_dest.specs.declared.key.Key.{Key}
 use Rattle.jm_dest.specs.declared.key.Key.TheVariants.{Own, SharedOwn, Durable, Queue as OfQueue}
 use Rattle.jm_dest.specs.Keys.{key_eq}
+use Rattle.jm_dest.specs.declared.destination.Destination.{Destination}
 use Rattle.jm_machine.specs.declared.call.Who.TheVariants.{Session}
 use Rattle.jm_machine.specs.declared.call.Request.{Request}
 use Rattle.jm_machine.specs.declared.call.Request.TheVariants.{CreateConsumer}
@@ -16,18 +17,19 @@ use Rattle.jm_machine.specs.declared.state.Row.{Row}
 use Rattle.jm_machine.specs.declared.state.RowState.{RowState}
 use Rattle.jm_machine.specs.declared.state.RowState.TheVariants.{Waiting, Out}
 use Rattle.jm_machine.specs.Owns.{is_own}
-use Rattle.jm_machine.specs.Machine.{has_number, consumer_of, is_active, key_at, closed_consumer, is_one_of, ends, State, station_of, rows_of}
+use Rattle.jm_machine.specs.Machine.{has_number, consumer_of, is_active, key_at, key_made, closed_consumer, is_one_of, ends, State, station_of, rows_of}
 use Rattle.jm_machine.specs.Lone.{Scope, belongs}
 use Rattle.jm_law.proofs.Lists.{filter_map_same}
 use Rattle.jm_law.proofs.Same.{session_same, key_same}
 
--- the session of a consumer whose subscription has the key is an own one
+-- the key is no queue's, and the session of a consumer whose subscription has it is an own one
 pub record Fitting (S : Scope) : Type 0 where
-  pub own : (s : SessionId) (c : ℕ) → key_eq (Own s c) S.key ≡ true → is_own S.sessions s ≡ true
+  pub topic : (name : List ℕ) → key_eq (OfQueue name) S.key ≡ false
+  pub own : (s : SessionId) (c : ℕ) (destination : Destination) → key_eq (key_made s c destination) S.key ≡ true → is_own S.sessions s ≡ true
 
 -- the number that a creating request names belongs to the key that it names
 abbrev pub FairRequest : Scope → SessionId → Request → Type 0
-FairRequest S s (CreateConsumer c topic selector) = key_eq (Own s c) S.key ≡ belongs S s c
+FairRequest S s (CreateConsumer c destination selector no_local) = key_eq (key_made s c destination) S.key ≡ belongs S s c
 FairRequest S s _ = Unit {0}
 
 -- and so of each entry

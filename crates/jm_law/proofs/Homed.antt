@@ -7,14 +7,15 @@ use Rattle.jm_base.specs.declared.refusal.Refusal.{Refusal}
 use Rattle.jm_dest.specs.declared.session.SessionId.{SessionId}
 use Rattle.jm_dest.specs.declared.key.Key.{Key}
 use Rattle.jm_dest.specs.declared.key.Key.TheVariants.{Own}
+use Rattle.jm_dest.specs.declared.destination.Destination.TheVariants.{Queue, Topic}
 use Rattle.jm_dest.specs.Keys.{key_eq}
 use Rattle.jm_header.specs.declared.content.Content.{Content}
 use Rattle.jm_machine.specs.declared.call.Who.{Who}
 use Rattle.jm_machine.specs.declared.call.Who.TheVariants.{Connection, Session}
 use Rattle.jm_machine.specs.declared.call.Request.{Request}
-use Rattle.jm_machine.specs.declared.call.Request.TheVariants.{CloseConnection, CloseSession, CreateConsumer, CloseConsumer, Receive, Acknowledge, Recover}
+use Rattle.jm_machine.specs.declared.call.Request.TheVariants.{CloseConnection, CloseSession, CreateConsumer, CloseConsumer, Receive, Acknowledge, Recover, Rollback}
 use Rattle.jm_machine.specs.declared.call.Call.{Call}
-use Rattle.jm_machine.specs.declared.call.Call.TheVariants.{Ask, Publish}
+use Rattle.jm_machine.specs.declared.call.Call.TheVariants.{Ask, Publish, Commit}
 use Rattle.jm_machine.specs.declared.state.Consumer.{Consumer}
 use Rattle.jm_machine.specs.declared.state.Definition.{Definition}
 use Rattle.jm_machine.specs.declared.state.PlacedRow.{PlacedRow}
@@ -24,17 +25,17 @@ use Rattle.jm_machine.specs.declared.state.RowState.TheVariants.{Waiting, Out}
 use Rattle.jm_machine.specs.declared.state.Station.{Station}
 use Rattle.jm_machine.specs.Life.{mode_of, is_started}
 use Rattle.jm_machine.specs.Rows.{bare, fresh, is_out, left_of, sent_out, settles_at_once, live_placed, change_placed, deliver_placed}
-use Rattle.jm_machine.specs.Machine.{State, Publisher, publisher_of, accepts, is_full, one_missed, brought, offered, with_message, published, with_rows, at_key, without, station_of, rows_of, consumer_of, key_at, defined, of_session, of_connection, settled_rows, returned_rows, settled, returned, closed, with_life, is_client, receive, held, refusal, publish_refusal, after, moved, step}
+use Rattle.jm_machine.specs.Machine.{State, Publisher, publisher_of, accepts, is_full, one_missed, brought, offered, with_message, published, with_rows, at_key, without, station_of, rows_of, consumer_of, key_at, defined, selected_by, of_session, of_connection, settled_rows, returned_rows, settled, returned, closed, with_life, is_client, receive, held, refusal, publish_refusal, commit_refusal, after, after_commit, moved, step}
 use Rattle.jm_machine.specs.Isolation.{Reached}
 use Rattle.jm_machine.specs.Isolation.Reached.{New, Stepped}
-use Rattle.jm_law.proofs.Same.{key_same, session_refl}
+use Rattle.jm_law.proofs.Same.{key_same}
 use Rattle.jm_law.proofs.Consumers.{OutBy, OwnOut}
-use Rattle.jm_law.proofs.Keyed.{HasOwn, found_own, reached_keyed}
+use Rattle.jm_law.proofs.Keyed.{OwnFits, FitsOwn, found_fits, reached_keyed}
 
--- a row of the key's subscription waits, or is out to the consumer whose own it is
+-- a row of the key's subscription waits, or is out to a consumer that the key fits
 abbrev Home : Key → RowState → Type 0
 Home k Waiting = Unit {0}
-Home k (Out s c) = k ≡ Own s c
+Home k (Out s c) = OwnFits k s c
 
 abbrev RowsHome : Key → List PlacedRow → Type 0
 RowsHome k [] = Unit {0}
@@ -66,21 +67,21 @@ home_returned k p (x ∷ xs) h = (go (is_out p x.row), home_returned k p xs h.1)
     go true = tt
     go false = h.0
 
-home_left : (mode : Option Mode) (s : SessionId) (c place : ℕ) (r : Row) → RowsHome (Own s c) (map (λ x. record { place = place; row = x }) (left_of mode s c r))
+home_left : (k : Key) (mode : Option Mode) (s : SessionId) (c place : ℕ) (r : Row) → OwnFits k s c → RowsHome k (map (λ x. record { place = place; row = x }) (left_of mode s c r))
 unfolding left_of
-home_left mode s c place r = go (settles_at_once mode)
+home_left k mode s c place r i = go (settles_at_once mode)
   where
-    go : (b : Bool) → RowsHome (Own s c) (map (λ x. record { place = place; row = x }) (cond b [] (sent_out s c r ∷ [])))
+    go : (b : Bool) → RowsHome k (map (λ x. record { place = place; row = x }) (cond b [] (sent_out s c r ∷ [])))
     go true = tt
-    go false = (refl, tt)
+    go false = (i, tt)
 
-home_change : (mode : Option Mode) (s : SessionId) (c : ℕ) (p : Row → Bool) (xs : List PlacedRow) → RowsHome (Own s c) xs → RowsHome (Own s c) (change_placed p (left_of mode s c) xs)
-home_change mode s c p [] h = tt
-home_change mode s c p (x ∷ xs) h = go (p x.row) (home_change mode s c p xs h.1)
+home_change : (k : Key) (mode : Option Mode) (s : SessionId) (c : ℕ) → OwnFits k s c → (p : Row → Bool) (xs : List PlacedRow) → RowsHome k xs → RowsHome k (change_placed p (left_of mode s c) xs)
+home_change k mode s c i p [] h = tt
+home_change k mode s c i p (x ∷ xs) h = go (p x.row) (home_change k mode s c i p xs h.1)
   where
-    go : (b : Bool) → RowsHome (Own s c) (change_placed p (left_of mode s c) xs) →
-        RowsHome (Own s c) (cond b (map (λ r. record { place = x.place; row = r }) (left_of mode s c x.row) ++ xs) (x ∷ change_placed p (left_of mode s c) xs))
-    go true r = home_append (Own s c) (map (λ r. record { place = x.place; row = r }) (left_of mode s c x.row)) xs (home_left mode s c x.place x.row) h.1
+    go : (b : Bool) → RowsHome k (change_placed p (left_of mode s c) xs) →
+        RowsHome k (cond b (map (λ r. record { place = x.place; row = r }) (left_of mode s c x.row) ++ xs) (x ∷ change_placed p (left_of mode s c) xs))
+    go true r = home_append k (map (λ r. record { place = x.place; row = r }) (left_of mode s c x.row)) xs (home_left k mode s c x.place x.row i) h.1
     go false r = (h.0, r)
 
 -- ---- subscriptions
@@ -148,11 +149,9 @@ unfolding published
 home_published state [] h = h
 home_published state (m ∷ ms) h = home_published (with_message state m) ms (all_offered state.limit (publisher_of state.life m) m state.next_place state.stations h)
 
-home_received : (mode : Option Mode) (s : SessionId) (c now : ℕ) (o : Option Consumer) (state : State) → HasOwn s c o → Homed state → Homed (receive (left_of mode s c) now (key_at o) state)
-home_received mode s c now None state k h = h
-home_received mode s c now (Some x) state k h =
-    all_at (deliver_placed now (left_of mode s c)) x.key
-    (subst (λ (y : Key). KeepsHome y (deliver_placed now (left_of mode s c))) (sym k) (λ xs i. home_change mode s c _ (live_placed now xs) (home_filter (Own s c) _ xs i))) state.stations h
+home_received : (p : Content → Bool) (mode : Option Mode) (s : SessionId) (c now : ℕ) (o : Option Consumer) (state : State) → FitsOwn s c o → Homed state → Homed (receive p (left_of mode s c) now (key_at o) state)
+home_received p mode s c now None state k h = h
+home_received p mode s c now (Some x) state k h = all_at (deliver_placed now (left_of mode s c)) x.key (λ xs i. home_change x.key mode s c k _ (live_placed now xs) (home_filter x.key _ xs i)) state.stations h
 
 home_if : (b : Bool) (x y : State) → Homed x → Homed y → Homed (cond b x y)
 home_if true x y p q = p
@@ -165,34 +164,42 @@ home_moved (Some r) x y p q = q
 home_shut : (p : SessionId → ℕ → Bool) (who : Who) (request : Request) (state : State) → Homed state → Homed (closed p (returned p (with_life who request state)))
 home_shut p who request state h = all_filter _ (map (with_rows (returned_rows p)) state.stations) (all_each (returned_rows p) (λ k. home_returned k p) state.stations h)
 
-home_after : (state : State) (who : Who) (request : Request) → ((s : SessionId) (c : ℕ) → HasOwn s c (consumer_of state.consumers s c)) → Homed state → Homed (after state who request)
+home_after : (state : State) (who : Who) (request : Request) → ((s : SessionId) (c : ℕ) → FitsOwn s c (consumer_of state.consumers s c)) → Homed state → Homed (after state who request)
 unfolding after
 home_after state (Connection c) CloseConnection k h = home_shut (of_connection c) (Connection c) CloseConnection state h
 home_after state (Connection c) request k h = h
 home_after state (Session s) CloseSession k h = home_shut (of_session s) (Session s) CloseSession state h
-home_after state (Session s) (CreateConsumer c topic selector) k h = all_put (Own s c) (defined topic selector) (without (Own s c) state.stations) (all_filter _ state.stations h)
+home_after state (Session s) (CreateConsumer c (Queue name) selector no_local) k h = h
+home_after state (Session s) (CreateConsumer c (Topic name) selector no_local) k h = all_put (Own s c) (defined name selector no_local) (without (Own s c) state.stations) (all_filter _ state.stations h)
 home_after state (Session s) (CloseConsumer c) k h = all_filter _ state.stations h
 home_after state (Session s) (Receive c now) k h =
-    home_if (is_started state.life s.connection) (receive (left_of (mode_of state.life s) s c) now (key_at (consumer_of state.consumers s c)) state) state
-    (home_received (mode_of state.life s) s c now (consumer_of state.consumers s c) state (k s c) h) h
+    home_if (is_started state.life s.connection) (receive (selected_by (consumer_of state.consumers s c)) (left_of (mode_of state.life s) s c) now (key_at (consumer_of state.consumers s c)) state) state
+    (home_received (selected_by (consumer_of state.consumers s c)) (mode_of state.life s) s c now (consumer_of state.consumers s c) state (k s c) h) h
 home_after state (Session s) Acknowledge k h = home_if (is_client (mode_of state.life s)) (settled (of_session s) state) state (all_each (settled_rows (of_session s)) (λ k. home_filter k _) state.stations h) h
 home_after state (Session s) Recover k h = all_each (returned_rows (of_session s)) (λ k. home_returned k (of_session s)) state.stations h
+home_after state (Session s) Rollback k h = all_each (returned_rows (of_session s)) (λ k. home_returned k (of_session s)) state.stations h
 home_after state (Session s) _ k h = h
 
-home_step : (state : State) (who : Who) (call : Call) → ((s : SessionId) (c : ℕ) → HasOwn s c (consumer_of state.consumers s c)) → Homed state → Homed (step state who call)
+home_committed : (state : State) (who : Who) (ms : List Content) → Homed state → Homed (after_commit state who ms)
+unfolding after_commit
+home_committed state (Connection c) ms h = h
+home_committed state (Session s) ms h = home_published (settled (of_session s) state) ms (all_each (settled_rows (of_session s)) (λ k. home_filter k _) state.stations h)
+
+home_step : (state : State) (who : Who) (call : Call) → ((s : SessionId) (c : ℕ) → FitsOwn s c (consumer_of state.consumers s c)) → Homed state → Homed (step state who call)
 unfolding step
 home_step state who (Ask request) k h = home_moved (refusal state.life state.consumers (held state who request) who request) (after state who request) state (home_after state who request k h) h
 home_step state who (Publish messages) k h = home_moved (publish_refusal state who messages) (published state messages) state (home_published state messages h) h
+home_step state who (Commit messages) k h = home_moved (commit_refusal state who messages) (after_commit state who messages) state (home_committed state who messages h) h
 
 reached_homed : (state : State) → Reached state → Homed state
 reached_homed state (New opening limit) = tt
-reached_homed state (Stepped before who call r) = home_step before who call (λ s c. found_own s c before.consumers (reached_keyed before r)) (reached_homed before r)
+reached_homed state (Stepped before who call r) = home_step before who call (λ s c. found_fits s c before.consumers (reached_keyed before r)) (reached_homed before r)
 
 -- ---- one key
 
 own_state : (t : SessionId) (d : ℕ) (a : RowState) → Home (Own t d) a → OutBy (t ∷ []) a
 own_state t d Waiting h = tt
-own_state t d (Out s c) h = grind (arith, nat_tests, session_refl t)
+own_state t d (Out s c) h = grind (arith, nat_tests)
 
 own_rows : (t : SessionId) (d : ℕ) (xs : List PlacedRow) → RowsHome (Own t d) xs → OwnOut (t ∷ []) (bare xs)
 own_rows t d [] h = tt

@@ -6,8 +6,11 @@ pub mod Consumers
 pub mod Projection
 pub mod Steps
 pub mod Run
+pub mod Transactions
 pub mod Clients
 pub mod Unshared
+pub mod Events
+pub mod Worlds
 pub mod EntrySteps
 pub mod Keyed
 pub mod Homed

@@ -79,7 +79,7 @@ two p q = cc
 -- a call by one of them does to what they see what it does to all
 pub life_own : (sessions : List SessionId) (life : Life) (who : Who) (request : Request) → is_own_who sessions who ≡ true → own_life sessions (life_after life who request) ≡ life_after (own_life sessions life) who request
 unfolding own_life life_after
-life_own sessions life (Connection c) Open h = two (push_in _ _ h life.connections) refl
+life_own sessions life (Connection c) (Open client) h = two (push_in _ _ h life.connections) refl
 life_own sessions life (Connection c) Start h = two (started_in sessions c true life.connections) refl
 life_own sessions life (Connection c) Stop h = two (started_in sessions c false life.connections) refl
 life_own sessions life (Session s) (CreateSession mode) h =
@@ -91,7 +91,7 @@ life_own sessions life _ _ h = refl
 -- any other call does nothing to it
 pub life_other : (sessions : List SessionId) (life : Life) (who : Who) (request : Request) → is_own_who sessions who ≡ false → own_life sessions (life_after life who request) ≡ own_life sessions life
 unfolding own_life life_after
-life_other sessions life (Connection c) Open h = two (push_out _ _ h life.connections) refl
+life_other sessions life (Connection c) (Open client) h = two (push_out _ _ h life.connections) refl
 life_other sessions life (Connection c) Start h = two (started_out sessions c true h life.connections) refl
 life_other sessions life (Connection c) Stop h = two (started_out sessions c false h life.connections) refl
 life_other sessions life (Session s) (CreateSession mode) h =

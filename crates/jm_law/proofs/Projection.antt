@@ -6,11 +6,14 @@ use Rattle.jm_base.specs.declared.refusal.Refusal.{Refusal}
 use Rattle.jm_base.specs.declared.refusal.Refusal.TheVariants.{IllegalState}
 use Rattle.jm_dest.specs.declared.session.SessionId.{SessionId}
 use Rattle.jm_dest.specs.declared.key.Key.{Key}
-use Rattle.jm_dest.specs.declared.key.Key.TheVariants.{Own}
+use Rattle.jm_dest.specs.declared.key.Key.TheVariants.{Own, SharedOwn, Durable, Queue as OfQueue}
 use Rattle.jm_dest.specs.Keys.{key_eq}
+use Rattle.jm_dest.specs.declared.destination.Destination.{Destination}
+use Rattle.jm_dest.specs.declared.destination.Destination.TheVariants.{Queue, Topic}
+use Rattle.jm_header.specs.declared.content.Content.{Content}
 use Rattle.jm_machine.specs.declared.call.Who.TheVariants.{Connection, Session}
 use Rattle.jm_machine.specs.declared.call.Request.{Request}
-use Rattle.jm_machine.specs.declared.call.Request.TheVariants.{CloseConnection, CreateSession, CloseSession, CreateConsumer, CloseConsumer, Receive, Acknowledge, Recover, Missed}
+use Rattle.jm_machine.specs.declared.call.Request.TheVariants.{CloseConnection, CreateSession, CloseSession, CreateConsumer, CloseConsumer, Receive, Acknowledge, Recover, Rollback, Missed}
 use Rattle.jm_machine.specs.declared.call.Call.TheVariants.{Ask}
 use Rattle.jm_machine.specs.declared.answer.Answer.{Answer}
 use Rattle.jm_machine.specs.declared.call.Who.{Who}
@@ -24,8 +27,8 @@ use Rattle.jm_machine.specs.declared.state.Consumer.{Consumer}
 use Rattle.jm_machine.specs.Owns.{is_own, is_own_connection}
 use Rattle.jm_machine.specs.Life.{Life, mode_of, is_started, life_after, own_life}
 use Rattle.jm_machine.specs.Rows.{is_out, goes_out, given_back, left_of, bare, deliver, deliver_placed}
-use Rattle.jm_machine.specs.Machine.{State, station_of, definition_of, missed_of, rows_of, with_rows, put, joined, consumer_of, is_active, key_at, held, unless, defined, of_session, of_connection, of_number, settled_rows, returned_rows, settled, returned, closed_consumer, ends, closed, with_life, is_client, receive, refusal, answer, after, replied, reply}
-use Rattle.jm_machine.specs.Lone.{Scope, Lone, lone_of, lone_put, lone_joined, lone_ended, lone_settled, lone_returned, lone_closed, lone_life, lone_receive, lone_did, about, belongs, true_or_none, is_true, lone_holding, lone_refusal, lone_reply}
+use Rattle.jm_machine.specs.Machine.{State, station_of, definition_of, missed_of, rows_of, with_rows, put, joined, made, key_made, rows_under, selected_by, consumer_of, is_active, key_at, held, unless, defined, of_session, of_connection, of_number, settled_rows, returned_rows, settled, returned, closed_consumer, ends, closed, with_life, is_client, receive, refusal, answer, after, replied, reply}
+use Rattle.jm_machine.specs.Lone.{Scope, Lone, lone_of, lone_put, lone_joined, lone_made, lone_ended, lone_settled, lone_returned, lone_closed, lone_life, lone_receive, lone_did, about, belongs, true_or_none, is_true, lone_holding, lone_refusal, lone_reply}
 use Rattle.jm_law.proofs.Same.{session_same, own_connection, key_same, key_refl}
 use Rattle.jm_law.proofs.Lists.{push_in, push_out, cond_map, cond_one}
 use Rattle.jm_law.proofs.Stations.{mapped, station_of-map, station_of-at, station_of_other-at, station-put, other-put, station-ended, bare-deliver, bare-settled, bare-returned}
@@ -47,7 +50,7 @@ rows_case f g h e n l cs None = ap (λ (rs : List Row). record (lone_at n l cs N
 rows_case f g h e n l cs (Some x) = ap (λ (rs : List Row). record (lone_at n l cs (Some x)) { rows = rs }) (h x.rows)
 
 -- rows that are out through consumers that pass are settled, and wait again
-project_settled : (S : Scope) (p : SessionId → ℕ → Bool) (state : State) → lone_of S (settled p state) ≡ lone_settled p (lone_of S state)
+pub project_settled : (S : Scope) (p : SessionId → ℕ → Bool) (state : State) → lone_of S (settled p state) ≡ lone_settled p (lone_of S state)
 unfolding lone_of
 project_settled S p state =
     three refl refl (station_of-map S.key (with_rows (settled_rows p)) (λ x. refl) state.stations)
@@ -79,7 +82,7 @@ closed_other S p state h q =
     (station-ended S.key (ends p state.consumers) state.stations ∙ ap (λ b. cond b None (station_of S.key state.stations)) (ends_out S p h state.consumers q))
 
 -- none of the own sessions passes
-abbrev NoneOf : List SessionId → (SessionId → ℕ → Bool) → Type 0
+abbrev pub NoneOf : List SessionId → (SessionId → ℕ → Bool) → Type 0
 NoneOf sessions p = (s : SessionId) (c : ℕ) → is_own sessions s ≡ true → p s c ≡ false
 
 not_out : (sessions : List SessionId) (p : SessionId → ℕ → Bool) → NoneOf sessions p → (a : RowState) → OutBy sessions a → goes_out p a ≡ false
@@ -94,7 +97,7 @@ none_returned : (sessions : List SessionId) (p : SessionId → ℕ → Bool) →
 none_returned sessions p h [] o = refl
 none_returned sessions p h (r ∷ rows) o = let e : is_out p r ≡ false = not_out sessions p h r.state o.0 in rw e (ap (λ rs. r ∷ rs) (none_returned sessions p h rows o.1))
 
-settled_other : (S : Scope) (p : SessionId → ℕ → Bool) (state : State) → NoneOf S.sessions p → Sound S state → lone_of S (settled p state) ≡ lone_of S state
+pub settled_other : (S : Scope) (p : SessionId → ℕ → Bool) (state : State) → NoneOf S.sessions p → Sound S state → lone_of S (settled p state) ≡ lone_of S state
 unfolding lone_of
 settled_other S p state h d = project_settled S p state ∙ ap (λ (rs : List Row). record (lone_of S state) { rows = rs }) (none_settled S.sessions p h (rows_of (station_of S.key state.stations)) d.out)
 
@@ -102,7 +105,7 @@ returned_other : (S : Scope) (p : SessionId → ℕ → Bool) (state : State) �
 unfolding lone_of
 returned_other S p state h d = project_returned S p state ∙ ap (λ (rs : List Row). record (lone_of S state) { rows = rs }) (none_returned S.sessions p h (rows_of (station_of S.key state.stations)) d.out)
 
-other_session : (sessions : List SessionId) (s : SessionId) → is_own sessions s ≡ false → NoneOf sessions (of_session s)
+pub other_session : (sessions : List SessionId) (s : SessionId) → is_own sessions s ≡ false → NoneOf sessions (of_session s)
 other_session sessions s h t d o = grind (arith, nat_tests, session_same t s)
 
 other_connection : (sessions : List SessionId) (c : ℕ) → is_own_connection sessions c ≡ false → NoneOf sessions (of_connection c)
@@ -141,28 +144,48 @@ shut_other S p who request state h d e =
     ∙ three e refl refl
 
 -- a consumer of the key receives, and one of another key
-receive_own : (S : Scope) (f : Row → List Row) (now : ℕ) (k : Option Key) (state : State) → k ≡ Some S.key → lone_of S (receive f now k state) ≡ lone_receive f now (lone_of S state)
+receive_own : (S : Scope) (p : Content → Bool) (f : Row → List Row) (now : ℕ) (k : Option Key) (state : State) → k ≡ Some S.key → lone_of S (receive p f now k state) ≡ lone_receive f now (lone_of S state)
 unfolding lone_of
-receive_own S f now k state e =
-    ap (λ (k : Option Key). lone_of S (receive f now k state)) e
+receive_own S p f now k state e =
+    ap (λ (k : Option Key). lone_of S (receive p f now k state)) e
     ∙ three refl refl (station_of-at S.key (with_rows (deliver_placed now f)) (λ y. refl) state.stations)
     ∙ rows_case (deliver_placed now f) (deliver now f) (bare-deliver now f) refl state.limit (own_life S.sessions state.life) (filter (λ y. key_eq y.key S.key) state.consumers) (station_of S.key state.stations)
 
-receive_other : (S : Scope) (f : Row → List Row) (now : ℕ) (k : Option Key) (state : State) → IsOther S k → lone_of S (receive f now k state) ≡ lone_of S state
+receive_other : (S : Scope) (p : Content → Bool) (f : Row → List Row) (now : ℕ) (k : Option Key) (state : State) → IsOther S k → lone_of S (receive p f now k state) ≡ lone_of S state
 unfolding lone_of
-receive_other S f now None state h = refl
-receive_other S f now (Some k) state h = three refl refl (station_of_other-at S.key k (with_rows (deliver_placed now f)) (λ y. refl) h state.stations)
+receive_other S p f now None state h = refl
+receive_other S p f now (Some k) state h = three refl refl (station_of_other-at S.key k (with_rows (deliver_placed now f)) (λ y. refl) h state.stations)
 
 -- the key's subscription is made, and another's
-created_own : (S : Scope) (s : SessionId) (c : ℕ) (d : Definition) (state : State) → Own s c ≡ S.key → lone_of S (joined s c (Own s c) (put (Own s c) d state)) ≡ lone_joined s c S.key (lone_put d (lone_of S state))
+put_own : (S : Scope) (s : SessionId) (c : ℕ) (d : Definition) (state : State) → Own s c ≡ S.key → lone_of S (joined s c (Own s c) None (put (Own s c) d state)) ≡ lone_joined s c S.key (lone_put d (lone_of S state))
 unfolding lone_of
-created_own S s c d state e =
-    ap (λ (k : Key). lone_of S (joined s c k (put k d state))) e
+put_own S s c d state e =
+    ap (λ (k : Key). lone_of S (joined s c k None (put k d state))) e
     ∙ three refl (push_in _ _ (key_refl S.key) state.consumers) (station-put S.key d state.stations)
 
-created_other : (S : Scope) (s : SessionId) (c : ℕ) (d : Definition) (state : State) → key_eq (Own s c) S.key ≡ false → lone_of S (joined s c (Own s c) (put (Own s c) d state)) ≡ lone_of S state
+no_queue : {A : Type 0} (S : Scope) (name : List ℕ) → Fitting S → key_eq (OfQueue name) S.key ≡ true → A
+no_queue S name f h = let e : key_eq (OfQueue name) S.key ≡ false = f.topic name in cc
+
+created_own : (S : Scope) (s : SessionId) (c : ℕ) (destination : Destination) (selector : Option (List ℕ)) (no_local : Bool) (state : State) → Fitting S → key_eq (key_made s c destination) S.key ≡ true →
+    lone_of S (made s c destination selector no_local state) ≡ lone_made S.key s c destination selector no_local (lone_of S state)
+created_own S s c (Queue name) selector no_local state f h = no_queue S name f h
+created_own S s c (Topic name) selector no_local state f h = put_own S s c (defined name selector no_local) state (key_same (Own s c) S.key h)
+
+created_other : (S : Scope) (s : SessionId) (c : ℕ) (destination : Destination) (selector : Option (List ℕ)) (no_local : Bool) (state : State) → key_eq (key_made s c destination) S.key ≡ false →
+    lone_of S (made s c destination selector no_local state) ≡ lone_of S state
 unfolding lone_of
-created_other S s c d state h = three refl (push_out _ _ h state.consumers) (other-put S.key (Own s c) d h state.stations)
+created_other S s c (Queue name) selector no_local state h = three refl (push_out _ _ h state.consumers) refl
+created_other S s c (Topic name) selector no_local state h = three refl (push_out _ _ h state.consumers) (other-put S.key (Own s c) (defined name selector no_local) h state.stations)
+
+-- of a topic's key a consumer sees all rows, whatever it selects
+rows_all : (S : Scope) (p : Content → Bool) (state : State) → Fitting S → rows_under p S.key state ≡ rows_of (station_of S.key state.stations)
+rows_all S p state f = go S.key f.topic
+  where
+    go : (k : Key) → ((name : List ℕ) → key_eq (OfQueue name) k ≡ false) → rows_under p k state ≡ rows_of (station_of k state.stations)
+    go (OfQueue name) h = let e : key_eq (OfQueue name) (OfQueue name) ≡ false = h name in let i : key_eq (OfQueue name) (OfQueue name) ≡ true = key_refl (OfQueue name) in cc
+    go (Own s c) h = refl
+    go (SharedOwn client name) h = refl
+    go (Durable client name) h = refl
 
 and_two : (x y : Bool) → (x && y) ≡ true → y ≡ true
 and_two true y h = h
@@ -177,14 +200,15 @@ pub own_refusal : (S : Scope) (state : State) (s : SessionId) (request : Request
     lone_refusal (lone_of S state) (Session s) request ≡ refusal state.life state.consumers (held state (Session s) request) (Session s) request
 unfolding lone_of refusal
 own_refusal S state s (CreateSession mode) o f p n = rw (own_new S.sessions state.life s o)
-own_refusal S state s (CreateConsumer c topic selector) o f p n =
-    let mine : belongs S s c ≡ true = sym f ∙ and_two (is_own S.sessions s) (key_eq (Own s c) S.key) n in
+own_refusal S state s (CreateConsumer c destination selector no_local) o f p n =
+    let mine : belongs S s c ≡ true = sym f ∙ and_two (is_own S.sessions s) (key_eq (key_made s c destination) S.key) n in
     rw (own_mode S.sessions state.life s o, consumer_own S s c mine state.consumers p)
 own_refusal S state s CloseSession o f p n = rw (own_closes S.sessions state.life s o)
 own_refusal S state s (CloseConsumer c) o f p n = rw (own_mode S.sessions state.life s o, own_session S.sessions state.life s o, consumer_own S s c n state.consumers p)
 own_refusal S state s (Receive c now) o f p n = rw (own_mode S.sessions state.life s o, consumer_own S s c n state.consumers p)
 own_refusal S state s Acknowledge o f p n = rw (own_mode S.sessions state.life s o)
 own_refusal S state s Recover o f p n = rw (own_mode S.sessions state.life s o)
+own_refusal S state s Rollback o f p n = rw (own_mode S.sessions state.life s o)
 own_refusal S state s (Missed c) o f p n = rw (own_mode S.sessions state.life s o, consumer_own S s c n state.consumers p)
 own_refusal S state s _ o f p n = refl
 
@@ -202,12 +226,12 @@ unfolding refusal
 counts state s c h = and_two (is_some (mode_of state.life s)) _ (passed _ h)
 
 -- the answer to an own session's request that names the key's consumer
-own_answer : (S : Scope) (state : State) (s : SessionId) (request : Request) → is_own S.sessions s ≡ true → Placed S state.consumers → is_true (about S s request) ≡ true → refused state s request ≡ None →
+own_answer : (S : Scope) (state : State) (s : SessionId) (request : Request) → Fitting S → is_own S.sessions s ≡ true → Placed S state.consumers → is_true (about S s request) ≡ true → refused state s request ≡ None →
     answer state.life state.consumers (held state (Session s) request) (Session s) request ≡ answer (lone_of S state).life (lone_of S state).consumers (lone_holding (lone_of S state)) (Session s) request
 unfolding lone_of answer
-own_answer S state s (Receive c now) o p n m = rw (own_started S.sessions state.life s o, key_mine S s c state.consumers p n (receives state s c now m))
-own_answer S state s (Missed c) o p n m = rw (key_mine S s c state.consumers p n (counts state s c m))
-own_answer S state s _ o p n m = refl
+own_answer S state s (Receive c now) f o p n m = rw (own_started S.sessions state.life s o, key_mine S s c state.consumers p n (receives state s c now m), rows_all S (selected_by (consumer_of state.consumers s c)) state f)
+own_answer S state s (Missed c) f o p n m = rw (key_mine S s c state.consumers p n (counts state s c m))
+own_answer S state s _ f o p n m = refl
 
 true_named : (a : Option Bool) → is_true a ≡ true → true_or_none a ≡ true
 true_named None h = cc
@@ -218,29 +242,30 @@ replied_same None a b h = ap (λ x. replied None x) (h refl)
 replied_same (Some r) a b h = refl
 
 -- the machine's reply to it is the subscription's
-pub own_reply : (S : Scope) (state : State) (s : SessionId) (request : Request) → is_own S.sessions s ≡ true → FairRequest S s request → Placed S state.consumers → is_true (about S s request) ≡ true →
+pub own_reply : (S : Scope) (state : State) (s : SessionId) (request : Request) → Fitting S → is_own S.sessions s ≡ true → FairRequest S s request → Placed S state.consumers → is_true (about S s request) ≡ true →
     reply state (Session s) (Ask request) ≡ lone_reply (lone_of S state) (Session s) request
 unfolding reply
-own_reply S state s request o f p n =
-    replied_same (refused state s request) _ _ (own_answer S state s request o p n)
+own_reply S state s request t o f p n =
+    replied_same (refused state s request) _ _ (own_answer S state s request t o p n)
     ∙ ap (λ (x : Option Refusal). replied x (answer (lone_of S state).life (lone_of S state).consumers (lone_holding (lone_of S state)) (Session s) request)) (sym (own_refusal S state s request o f p (true_named (about S s request) n)))
 
 -- what an own session's request does that is not refused
-pub own_after : (S : Scope) (state : State) (s : SessionId) (request : Request) → is_own S.sessions s ≡ true → Placed S state.consumers → true_or_none (about S s request) ≡ true → refused state s request ≡ None →
+pub own_after : (S : Scope) (state : State) (s : SessionId) (request : Request) → Fitting S → is_own S.sessions s ≡ true → Placed S state.consumers → true_or_none (about S s request) ≡ true → refused state s request ≡ None →
     lone_of S (after state (Session s) request) ≡ lone_did S.key (lone_of S state) (Session s) request
 unfolding lone_of after lone_did
-own_after S state s (CreateSession mode) o p n m = three (life_own S.sessions state.life (Session s) (CreateSession mode) o) refl refl
-own_after S state s (CreateConsumer c topic selector) o p n m = created_own S s c (defined topic selector) state (key_same (Own s c) S.key (and_two (is_own S.sessions s) (key_eq (Own s c) S.key) n))
-own_after S state s (Receive c now) o p n m =
+own_after S state s (CreateSession mode) f o p n m = three (life_own S.sessions state.life (Session s) (CreateSession mode) o) refl refl
+own_after S state s (CreateConsumer c destination selector no_local) f o p n m = created_own S s c destination selector no_local state f (and_two (is_own S.sessions s) (key_eq (key_made s c destination) S.key) n)
+own_after S state s (Receive c now) f o p n m =
     rw (own_started S.sessions state.life s o, own_mode S.sessions state.life s o)
-    (cond_map (lone_of S) (is_started state.life s.connection) (receive (left_of (mode_of state.life s) s c) now (key_at (consumer_of state.consumers s c)) state) state _ _
-    (λ _. receive_own S (left_of (mode_of state.life s) s c) now (key_at (consumer_of state.consumers s c)) state (key_mine S s c state.consumers p n (receives state s c now m))) refl)
-own_after S state s CloseSession o p n m = shut_own S (of_session s) (Session s) CloseSession state (life_own S.sessions state.life (Session s) CloseSession o)
-own_after S state s (CloseConsumer c) o p n m = project_closed S (of_number s c) state
-own_after S state s Acknowledge o p n m =
+    (cond_map (lone_of S) (is_started state.life s.connection) (receive (selected_by (consumer_of state.consumers s c)) (left_of (mode_of state.life s) s c) now (key_at (consumer_of state.consumers s c)) state) state _ _
+    (λ _. receive_own S (selected_by (consumer_of state.consumers s c)) (left_of (mode_of state.life s) s c) now (key_at (consumer_of state.consumers s c)) state (key_mine S s c state.consumers p n (receives state s c now m))) refl)
+own_after S state s CloseSession f o p n m = shut_own S (of_session s) (Session s) CloseSession state (life_own S.sessions state.life (Session s) CloseSession o)
+own_after S state s (CloseConsumer c) f o p n m = project_closed S (of_number s c) state
+own_after S state s Acknowledge f o p n m =
     rw (own_mode S.sessions state.life s o) (cond_map (lone_of S) (is_client (mode_of state.life s)) (settled (of_session s) state) state _ _ (λ _. project_settled S (of_session s) state) refl)
-own_after S state s Recover o p n m = project_returned S (of_session s) state
-own_after S state s _ o p n m = refl
+own_after S state s Recover f o p n m = project_returned S (of_session s) state
+own_after S state s Rollback f o p n m = project_returned S (of_session s) state
+own_after S state s _ f o p n m = refl
 
 -- what a request does that names nothing of the key's
 abbrev pub Elsewhere : Scope → SessionId → Option Bool → Type 0
@@ -256,15 +281,17 @@ not_named false false h e = refl
 pub other_after : (S : Scope) (state : State) (s : SessionId) (request : Request) → Fitting S → Sound S state → Elsewhere S s (about S s request) → lone_of S (after state (Session s) request) ≡ lone_of S state
 unfolding lone_of after
 other_after S state s (CreateSession mode) f d n = three (life_other S.sessions state.life (Session s) (CreateSession mode) n) refl refl
-other_after S state s (CreateConsumer c topic selector) f d n = created_other S s c (defined topic selector) state (not_named (is_own S.sessions s) (key_eq (Own s c) S.key) (f.own s c) n)
+other_after S state s (CreateConsumer c destination selector no_local) f d n =
+    created_other S s c destination selector no_local state (not_named (is_own S.sessions s) (key_eq (key_made s c destination) S.key) (f.own s c destination) n)
 other_after S state s CloseSession f d n = shut_other S (of_session s) (Session s) CloseSession state (other_session S.sessions s n) d (life_other S.sessions state.life (Session s) CloseSession n)
 other_after S state s (CloseConsumer c) f d n = closed_other S (of_number s c) state (other_number S s c n) d.placed
 other_after S state s (Receive c now) f d n =
     cond_one (lone_of S) (is_started state.life s.connection) _ state (lone_of S state)
-    (λ _. receive_other S (left_of (mode_of state.life s) s c) now (key_at (consumer_of state.consumers s c)) state (key_not_mine S s c state.consumers d.placed n)) refl
+    (λ _. receive_other S (selected_by (consumer_of state.consumers s c)) (left_of (mode_of state.life s) s c) now (key_at (consumer_of state.consumers s c)) state (key_not_mine S s c state.consumers d.placed n)) refl
 other_after S state s Acknowledge f d n =
     cond_one (lone_of S) (is_client (mode_of state.life s)) (settled (of_session s) state) state (lone_of S state) (λ _. settled_other S (of_session s) state (other_session S.sessions s n) d) refl
 other_after S state s Recover f d n = returned_other S (of_session s) state (other_session S.sessions s n) d
+other_after S state s Rollback f d n = returned_other S (of_session s) state (other_session S.sessions s n) d
 other_after S state s _ f d n = refl
 
 -- what a connection's request does

@@ -6,13 +6,16 @@ use Rattle.jm_base.specs.declared.refusal.Refusal.{Refusal}
 use Rattle.jm_base.specs.declared.refusal.Refusal.TheVariants.{IllegalState}
 use Rattle.jm_dest.specs.declared.session.SessionId.{SessionId}
 use Rattle.jm_dest.specs.declared.key.Key.{Key}
-use Rattle.jm_dest.specs.declared.key.Key.TheVariants.{Own}
+use Rattle.jm_dest.specs.declared.key.Key.TheVariants.{Own, Queue as OfQueue}
+use Rattle.jm_dest.specs.declared.destination.Destination.TheVariants.{Queue, Topic}
 use Rattle.jm_header.specs.declared.content.Content.{Content}
+use Rattle.jm_machine.specs.declared.call.Who.{Who}
 use Rattle.jm_machine.specs.declared.call.Who.TheVariants.{Connection, Session}
 use Rattle.jm_machine.specs.declared.call.Request.{Request}
-use Rattle.jm_machine.specs.declared.call.Request.TheVariants.{CloseConnection, CreateSession, CloseSession, CreateConsumer, CloseConsumer, Receive, Acknowledge, Recover}
+use Rattle.jm_machine.specs.declared.call.Request.TheVariants.{CloseConnection, CreateSession, CloseSession, CreateConsumer, CloseConsumer, Receive, Acknowledge, Recover, Rollback}
+use Rattle.jm_machine.specs.declared.call.Call.TheVariants.{Publish}
 use Rattle.jm_machine.specs.declared.entry.Entry.{Entry}
-use Rattle.jm_machine.specs.declared.entry.Entry.TheVariants.{Asked, Sent}
+use Rattle.jm_machine.specs.declared.entry.Entry.TheVariants.{Asked, Sent, Committed}
 use Rattle.jm_machine.specs.declared.answer.Answer.{Answer}
 use Rattle.jm_machine.specs.declared.state.Consumer.{Consumer}
 use Rattle.jm_machine.specs.declared.state.Row.{Row}
@@ -22,10 +25,10 @@ use Rattle.jm_base.specs.declared.mode.Mode.{Mode}
 use Rattle.jm_machine.specs.Life.{Life, connection_of, session_of, is_closed_connection, mode_of, is_started, is_new_session, close_sessions, life_after}
 use Rattle.jm_machine.specs.declared.state.SessionState.{SessionState}
 use Rattle.jm_machine.specs.Rows.{fresh, given_back, is_next, is_out, live, change_first, deliver, left_of, sent_out, settles_at_once}
-use Rattle.jm_machine.specs.Machine.{State, Holding, consumer_of, key_at, with_message, published, receive, held, new_consumer, unless, is_full, one_missed, closed_consumer, ends, of_session, of_connection, of_number, settled, is_client, refusal, publish_refusal, after, answer, replied, reply, moved, step}
-use Rattle.jm_machine.specs.Entries.{life_after_entry}
+use Rattle.jm_machine.specs.Machine.{State, Holding, consumer_of, key_at, with_message, published, receive, held, selected_by, standing_as, new_consumer, unless, is_full, one_missed, closed_consumer, ends, of_session, of_connection, of_number, settled, is_client, is_transacted, refusal, publish_refusal, commit_refusal, after, after_commit, answer, replied, reply, moved, step}
+use Rattle.jm_machine.specs.Entries.{pending, life_after_entry}
 use Rattle.jm_machine.specs.Lone.{Scope, Lone, Item, lone_of, lone_ended, lone_settled, lone_returned, lone_closed, lone_life, lone_receive, lone_did, lone_after, lone_end, lone_refusal, lone_replies, about, true_or_none, fed, feed, replies_in}
-use Rattle.jm_machine.specs.Lone.Item.{Called, Came}
+use Rattle.jm_machine.specs.Lone.Item.{Called, Settled, Came}
 use Rattle.jm_law.proofs.Consumers.{Fitting, FairRequest, FairEntry, FairAll, Placed, Sound, OutBy, OwnOut, placed_push, placed_closed}
 use Rattle.jm_law.proofs.EntrySteps.{state_after_entry, Replied, EntriesFit}
 use Rattle.jm_law.proofs.Steps.{lone_replies-append, entry_step, entry_told}
@@ -36,10 +39,16 @@ unfolding published
 published_consumers state [] = refl
 published_consumers state (m ∷ ms) = published_consumers (with_message state m) ms
 
+-- nor does a commit
+pub committed_consumers : (state : State) (who : Who) (ms : List Content) → (after_commit state who ms).consumers ≡ state.consumers
+unfolding after_commit
+committed_consumers state (Connection c) ms = refl
+committed_consumers state (Session s) ms = published_consumers (settled (of_session s) state) ms
+
 -- nor does a receive
-pub received_consumers : (f : Row → List Row) (now : ℕ) (k : Option Key) (state : State) → (receive f now k state).consumers ≡ state.consumers
-received_consumers f now None state = refl
-received_consumers f now (Some k) state = refl
+pub received_consumers : (p : Content → Bool) (f : Row → List Row) (now : ℕ) (k : Option Key) (state : State) → (receive p f now k state).consumers ≡ state.consumers
+received_consumers p f now None state = refl
+received_consumers p f now (Some k) state = refl
 
 placed_if : (S : Scope) (b : Bool) (x y : State) → Placed S x.consumers → Placed S y.consumers → Placed S (cond b x y).consumers
 placed_if S true x y p q = p
@@ -51,13 +60,14 @@ placed_moved S (Some r) x y p q = q
 
 placed_after : (S : Scope) (state : State) (s : SessionId) (request : Request) → FairRequest S s request → Placed S state.consumers → Placed S (after state (Session s) request).consumers
 unfolding after
-placed_after S state s (CreateConsumer c topic selector) f p = placed_push S (new_consumer s c (Own s c)) f state.consumers p
+placed_after S state s (CreateConsumer c (Queue name) selector no_local) f p = placed_push S (new_consumer s c (OfQueue name) (standing_as selector)) f state.consumers p
+placed_after S state s (CreateConsumer c (Topic name) selector no_local) f p = placed_push S (new_consumer s c (Own s c) None) f state.consumers p
 placed_after S state s CloseSession f p = placed_closed S (of_session s) state.consumers p
 placed_after S state s (CloseConsumer c) f p = placed_closed S (of_number s c) state.consumers p
 placed_after S state s Acknowledge f p = placed_if S (is_client (mode_of state.life s)) (settled (of_session s) state) state p p
 placed_after S state s (Receive c now) f p =
-    placed_if S (is_started state.life s.connection) (receive (left_of (mode_of state.life s) s c) now (key_at (consumer_of state.consumers s c)) state) state
-    (subst (Placed S) (sym (received_consumers (left_of (mode_of state.life s) s c) now (key_at (consumer_of state.consumers s c)) state)) p) p
+    placed_if S (is_started state.life s.connection) (receive (selected_by (consumer_of state.consumers s c)) (left_of (mode_of state.life s) s c) now (key_at (consumer_of state.consumers s c)) state) state
+    (subst (Placed S) (sym (received_consumers (selected_by (consumer_of state.consumers s c)) (left_of (mode_of state.life s) s c) now (key_at (consumer_of state.consumers s c)) state)) p) p
 placed_after S state s _ f p = p
 
 placed_connection : (S : Scope) (state : State) (c : ℕ) (request : Request) → Placed S state.consumers → Placed S (after state (Connection c) request).consumers
@@ -66,15 +76,19 @@ placed_connection S state c CloseConnection p = placed_closed S (of_connection c
 placed_connection S state c request p = p
 
 -- each entry keeps which consumers are the key's
-placed_entry : (S : Scope) (state : State) (e : Entry) → FairEntry S e → Placed S state.consumers → Placed S (state_after_entry state e).consumers
+placed_entry : (S : Scope) (state : State) (before : List Entry) (e : Entry) → FairEntry S e → Placed S state.consumers → Placed S (state_after_entry state before e).consumers
 unfolding state_after_entry step
-placed_entry S state (Asked (Session s) request r) f p =
+placed_entry S state before (Asked (Session s) request r) f p =
     placed_moved S (refusal state.life state.consumers (held state (Session s) request) (Session s) request) (after state (Session s) request) state (placed_after S state s request f p) p
-placed_entry S state (Asked (Connection c) request r) f p =
+placed_entry S state before (Asked (Connection c) request r) f p =
     placed_moved S (refusal state.life state.consumers (held state (Connection c) request) (Connection c) request) (after state (Connection c) request) state
     (placed_connection S state c request p) p
-placed_entry S state (Sent m) f p =
-    placed_moved S (publish_refusal state (Session m.sender.session) (m ∷ [])) (published state (m ∷ [])) state (subst (Placed S) (sym (published_consumers state (m ∷ []))) p) p
+placed_entry S state before (Sent m) f p =
+    placed_if S (is_transacted (mode_of state.life m.sender.session)) state (step state (Session m.sender.session) (Publish (m ∷ []))) p
+    (placed_moved S (publish_refusal state (Session m.sender.session) (m ∷ [])) (published state (m ∷ [])) state (subst (Placed S) (sym (published_consumers state (m ∷ []))) p) p)
+placed_entry S state before (Committed s) f p =
+    placed_moved S (commit_refusal state (Session s) (pending s before)) (after_commit state (Session s) (pending s before)) state
+    (subst (Placed S) (sym (committed_consumers state (Session s) (pending s before))) p) p
 
 -- rows that are out to own sessions alone, after each item
 out_append : (sessions : List SessionId) (xs ys : List Row) → OwnOut sessions xs → OwnOut sessions ys → OwnOut sessions (xs ++ ys)
@@ -132,13 +146,15 @@ own_one false b h = cc
 out_did : (S : Scope) (l : Lone) (s : SessionId) (request : Request) → true_or_none (about S s request) ≡ true → OwnOut S.sessions l.rows → OwnOut S.sessions (lone_did S.key l (Session s) request).rows
 unfolding lone_did
 out_did S l s CloseSession n a = out_closed S.sessions S.key (of_session s) (lone_returned (of_session s) (lone_life (Session s) CloseSession l)) (out_returned S.sessions (of_session s) l.rows a)
-out_did S l s (CreateConsumer c topic selector) n a = tt
+out_did S l s (CreateConsumer c (Queue name) selector no_local) n a = a
+out_did S l s (CreateConsumer c (Topic name) selector no_local) n a = tt
 out_did S l s (CloseConsumer c) n a = out_closed S.sessions S.key (of_number s c) l a
 out_did S l s (Receive c now) n a =
     out_if S.sessions (is_started l.life s.connection) (lone_receive (left_of (mode_of l.life s) s c) now l) l
     (out_deliver S.sessions now (left_of (mode_of l.life s) s c) (out_left S.sessions (mode_of l.life s) s c (own_one (is_own S.sessions s) (S.numbers s c) n)) l.rows a) a
 out_did S l s Acknowledge n a = out_if S.sessions (is_client (mode_of l.life s)) (lone_settled (of_session s) l) l (out_filter S.sessions _ l.rows a) a
 out_did S l s Recover n a = out_returned S.sessions (of_session s) l.rows a
+out_did S l s Rollback n a = out_returned S.sessions (of_session s) l.rows a
 out_did S l s _ n a = a
 
 out_connection : (S : Scope) (l : Lone) (c : ℕ) (request : Request) → OwnOut S.sessions l.rows → OwnOut S.sessions (lone_did S.key l (Connection c) request).rows
@@ -154,6 +170,7 @@ out_taken S l s request false v h a = a
 out_after : (S : Scope) (l : Lone) (i : Item) → OwnOut S.sessions l.rows → OwnOut S.sessions (lone_after S l i).rows
 out_after S l (Called (Connection c) request) a = out_connection S l c request a
 out_after S l (Called (Session s) request) a = out_taken S l s request (true_or_none (about S s request)) (is_none (lone_refusal l (Session s) request)) refl a
+out_after S l (Settled s) a = out_if S.sessions (is_transacted (mode_of l.life s)) (lone_settled (of_session s) l) l (out_filter S.sessions _ l.rows a) a
 out_after S l (Came m) a = out_if S.sessions (is_full l.limit S.key (length l.rows)) (record l { missed = one_missed l.missed }) (record l { rows = l.rows ++ fresh m ∷ [] }) a (out_append S.sessions l.rows (fresh m ∷ []) a (tt, tt))
 
 out_end : (S : Scope) (l : Lone) (items : List Item) → OwnOut S.sessions l.rows → OwnOut S.sessions (lone_end S l items).rows
@@ -161,10 +178,10 @@ out_end S l [] a = a
 out_end S l (i ∷ items) a = out_end S (lone_after S l i) items (out_after S l i a)
 
 -- each entry keeps what is kept at the key
-sound_entry : (S : Scope) (state : State) (before : List Entry) (e : Entry) → Fitting S → FairEntry S e → Sound S state → Replied state e → Sound S (state_after_entry state e)
+sound_entry : (S : Scope) (state : State) (before : List Entry) (e : Entry) → Fitting S → FairEntry S e → Sound S state → Replied state before e → Sound S (state_after_entry state before e)
 unfolding lone_of
 sound_entry S state before e f g d h = record {
-  placed = placed_entry S state e g d.placed;
+  placed = placed_entry S state before e g d.placed;
   out = subst (λ (l : Lone). OwnOut S.sessions l.rows) (sym (entry_step S state before e f g d h)) (out_end S (lone_of S state) (fed S state.life before (lone_of S state) e) d.out);
 }
 
@@ -172,22 +189,23 @@ both_same : {A : Type 0} {a b c d : List A} → a ≡ b → c ≡ d → a ++ c �
 both_same p q = cc
 
 -- the connections and sessions after a step
-received_life : (f : Row → List Row) (now : ℕ) (k : Option Key) (state : State) → (receive f now k state).life ≡ state.life
-received_life f now None state = refl
-received_life f now (Some k) state = refl
+received_life : (p : Content → Bool) (f : Row → List Row) (now : ℕ) (k : Option Key) (state : State) → (receive p f now k state).life ≡ state.life
+received_life p f now None state = refl
+received_life p f now (Some k) state = refl
 
 life_if : (b : Bool) (x y : State) (l : Life) → x.life ≡ l → y.life ≡ l → (cond b x y).life ≡ l
 life_if true x y l p q = p
 life_if false x y l p q = q
 
-after_life : (state : State) (s : SessionId) (request : Request) → (after state (Session s) request).life ≡ life_after state.life (Session s) request
+pub after_life : (state : State) (s : SessionId) (request : Request) → (after state (Session s) request).life ≡ life_after state.life (Session s) request
 unfolding after life_after
 after_life state s (CreateSession mode) = refl
-after_life state s (CreateConsumer c topic selector) = refl
+after_life state s (CreateConsumer c (Queue name) selector no_local) = refl
+after_life state s (CreateConsumer c (Topic name) selector no_local) = refl
 after_life state s Acknowledge = life_if (is_client (mode_of state.life s)) (settled (of_session s) state) state state.life refl refl
 after_life state s (Receive c now) =
-    life_if (is_started state.life s.connection) (receive (left_of (mode_of state.life s) s c) now (key_at (consumer_of state.consumers s c)) state) state state.life
-    (received_life (left_of (mode_of state.life s) s c) now (key_at (consumer_of state.consumers s c)) state) refl
+    life_if (is_started state.life s.connection) (receive (selected_by (consumer_of state.consumers s c)) (left_of (mode_of state.life s) s c) now (key_at (consumer_of state.consumers s c)) state) state state.life
+    (received_life (selected_by (consumer_of state.consumers s c)) (left_of (mode_of state.life s) s c) now (key_at (consumer_of state.consumers s c)) state) refl
 after_life state s _ = refl
 
 -- nothing closes where no session has the number
@@ -228,7 +246,7 @@ connection_life state c CloseConnection None a = refl
 connection_life state c request None a = refl
 connection_life state c request (Some r) a = refl
 
-published_life : (state : State) (ms : List Content) → (published state ms).life ≡ state.life
+pub published_life : (state : State) (ms : List Content) → (published state ms).life ≡ state.life
 unfolding published
 published_life state [] = refl
 published_life state (m ∷ ms) = published_life (with_message state m) ms
@@ -237,24 +255,33 @@ moved_life : (o : Option Refusal) (x y : State) → x.life ≡ y.life → (moved
 moved_life None x y p = p
 moved_life (Some r) x y p = refl
 
-entry_life : (state : State) (e : Entry) → Replied state e → (state_after_entry state e).life ≡ life_after_entry state.life e
+pub committed_life : (state : State) (who : Who) (ms : List Content) → (after_commit state who ms).life ≡ state.life
+unfolding after_commit
+committed_life state (Connection c) ms = refl
+committed_life state (Session s) ms = published_life (settled (of_session s) state) ms
+
+entry_life : (state : State) (before : List Entry) (e : Entry) → Replied state before e → (state_after_entry state before e).life ≡ life_after_entry state.life e
 unfolding state_after_entry life_after_entry step reply
-entry_life state (Asked (Session s) request told) h = session_life state s request (refusal state.life state.consumers (held state (Session s) request) (Session s) request) refl
-entry_life state (Asked (Connection c) request told) h =
+entry_life state before (Asked (Session s) request told) h = session_life state s request (refusal state.life state.consumers (held state (Session s) request) (Session s) request) refl
+entry_life state before (Asked (Connection c) request told) h =
     rw h (connection_life state c request (refusal state.life state.consumers (held state (Connection c) request) (Connection c) request) (answer state.life state.consumers (held state (Connection c) request) (Connection c) request))
-entry_life state (Sent m) h = moved_life (publish_refusal state (Session m.sender.session) (m ∷ [])) (published state (m ∷ [])) state (published_life state (m ∷ []))
+entry_life state before (Sent m) h =
+    life_if (is_transacted (mode_of state.life m.sender.session)) state (step state (Session m.sender.session) (Publish (m ∷ []))) state.life refl
+    (moved_life (publish_refusal state (Session m.sender.session) (m ∷ [])) (published state (m ∷ [])) state (published_life state (m ∷ [])))
+entry_life state before (Committed s) h =
+    moved_life (commit_refusal state (Session s) (pending s before)) (after_commit state (Session s) (pending s before)) state (committed_life state (Session s) (pending s before))
 
 -- over a whole list of entries
-pub run_alone : (S : Scope) → Fitting S → (entries : List Entry) (place : ℕ) (before : List Entry) (state : State) → FairAll S entries → Sound S state → EntriesFit state entries →
+pub run_alone : (S : Scope) → Fitting S → (entries : List Entry) (place : ℕ) (before : List Entry) (state : State) → FairAll S entries → Sound S state → EntriesFit state before entries →
     replies_in S place entries ≡ lone_replies S (lone_of S state) (feed S place state.life before (lone_of S state) entries)
 unfolding feed
 run_alone S f [] place before state g p h = refl
 run_alone S f (e ∷ entries) place before state g p h =
     let items : List Item = fed S state.life before (lone_of S state) e in
-    let next : State = state_after_entry state e in
+    let next : State = state_after_entry state before e in
     let rest = run_alone S f entries (place + 1) (e ∷ before) next g.1 (sound_entry S state before e f g.0 p h.0) h.1 in
-    both_same (entry_told S state place before e g.0 p.placed h.0)
+    both_same (entry_told S state place before e f g.0 p.placed h.0)
     (rest
     ∙ ap (λ (x : Lone). lone_replies S x (feed S (place + 1) next.life (e ∷ before) x entries)) (entry_step S state before e f g.0 p h.0)
-    ∙ ap (λ (x : Life). lone_replies S (lone_end S (lone_of S state) items) (feed S (place + 1) x (e ∷ before) (lone_end S (lone_of S state) items) entries)) (entry_life state e h.0))
+    ∙ ap (λ (x : Life). lone_replies S (lone_end S (lone_of S state) items) (feed S (place + 1) x (e ∷ before) (lone_end S (lone_of S state) items) entries)) (entry_life state before e h.0))
     ∙ sym (lone_replies-append S (lone_of S state) place items (feed S (place + 1) (life_after_entry state.life e) (e ∷ before) (lone_end S (lone_of S state) items) entries))

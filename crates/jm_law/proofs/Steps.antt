@@ -1,37 +1,39 @@
 -- A step of the machine at an entry is what the entry feeds to one key's subscription.
 use Rattle.std.proofs.Common.{◌≡◌, ℕ, Bool, true, false, cond, List, [], ◌∷◌, ◌++◌, refl, ap, sym, ◌∙◌, Option, Some, None}
-use Rattle.std.specs.Prelude.{filter, length, ◌&&◌, is_ok, is_none, Ok}
+use Rattle.std.specs.Prelude.{filter, length, ◌&&◌, is_ok, is_none, Ok, MatchBool}
 use Rattle.jm_base.specs.declared.refusal.Refusal.{Refusal}
 use Rattle.jm_dest.specs.declared.session.SessionId.{SessionId}
 use Rattle.jm_dest.specs.declared.key.Key.{Key}
-use Rattle.jm_dest.specs.declared.key.Key.TheVariants.{Own}
 use Rattle.jm_dest.specs.Keys.{key_eq}
 use Rattle.jm_header.specs.declared.content.Content.{Content}
 use Rattle.jm_machine.specs.declared.call.Who.TheVariants.{Connection, Session}
 use Rattle.jm_machine.specs.declared.call.Request.{Request}
 use Rattle.jm_machine.specs.declared.call.Request.TheVariants.{CreateConsumer, CloseConsumer, Receive, Missed}
-use Rattle.jm_machine.specs.declared.call.Call.TheVariants.{Ask}
+use Rattle.jm_machine.specs.declared.call.Call.TheVariants.{Ask, Publish}
 use Rattle.jm_machine.specs.declared.answer.Answer.{Answer}
 use Rattle.jm_machine.specs.declared.answer.Answer.TheVariants.{Done}
 use Rattle.jm_machine.specs.declared.entry.Entry.{Entry}
-use Rattle.jm_machine.specs.declared.entry.Entry.TheVariants.{Asked, Sent}
+use Rattle.jm_machine.specs.declared.entry.Entry.TheVariants.{Asked, Sent, Committed}
 use Rattle.jm_machine.specs.declared.state.Row.{Row}
 use Rattle.jm_machine.specs.declared.state.Station.{Station}
 use Rattle.jm_machine.specs.declared.state.Definition.{Definition}
 use Rattle.jm_machine.specs.declared.state.Consumer.{Consumer}
 use Rattle.jm_machine.specs.Owns.{is_own, is_own_connection}
-use Rattle.jm_machine.specs.Life.{Life, own_life}
+use Rattle.jm_machine.specs.Life.{Life, mode_of, own_life}
 use Rattle.jm_machine.specs.Rows.{fresh}
-use Rattle.jm_machine.specs.Machine.{State, station_of, definition_of, rows_of, with_rows, Publisher, publisher_of, accepts, is_full, one_missed, brought, offered, with_message, published, held, refusal, publish_refusal, answer, after, replied, moved, reply, step}
-use Rattle.jm_machine.specs.Entries.{committed}
-use Rattle.jm_machine.specs.Lone.{Scope, Lone, Item, lone_of, lone_did, about, true_or_none, is_true, is_answered, lone_refusal, lone_brought, lone_after, lone_told, lone_replies, lone_end, is_own_call, lone_accepts, came, accepted, fed, at_place, placed, told}
-use Rattle.jm_machine.specs.Lone.Item.{Called, Came}
+use Rattle.jm_machine.specs.Machine.{State, station_of, definition_of, rows_of, with_rows, Publisher, publisher_of, accepts, is_full, one_missed, key_made, brought, offered, with_message, published, held, of_session, settled, is_transacted, is_stamped, refusal, publish_refusal, commit_refusal, answer, after, after_commit, replied, moved, reply, step}
+use Rattle.jm_machine.specs.Entries.{pending, committed}
+use Rattle.jm_machine.specs.Lone.{Scope, Lone, Item, lone_of, lone_settled, lone_did, about, true_or_none, is_true, is_answered, lone_refusal, lone_brought, lone_after, lone_told, lone_replies, lone_end, is_own_call, lone_accepts, came, accepted, fed, at_place, placed, told}
+use Rattle.jm_machine.specs.Lone.Item.{Called, Settled, Came}
+use Rattle.jm_base.specs.declared.mode.Mode.{Mode}
+use Rattle.jm_base.specs.declared.refusal.Refusal.TheVariants.{IllegalState}
+use Rattle.jm_law.proofs.Life.{own_mode}
 use Rattle.jm_law.proofs.Same.{key_same}
 use Rattle.jm_law.proofs.Lists.{append_assoc, into_cond, moved_map, moved_one}
 use Rattle.jm_law.proofs.Stations.{mapped, station_of-map, bare-append, bare-length}
 use Rattle.jm_law.proofs.Consumers.{Fitting, FairRequest, FairEntry, Placed, Sound}
 use Rattle.jm_law.proofs.EntrySteps.{state_after_entry, Replied}
-use Rattle.jm_law.proofs.Projection.{lone_at, three, refused, own_refusal, own_reply, own_after, Elsewhere, other_after, connection_own, connection_other}
+use Rattle.jm_law.proofs.Projection.{lone_at, three, refused, own_refusal, own_reply, own_after, Elsewhere, other_after, connection_own, connection_other, project_settled, settled_other, other_session}
 
 -- one item after another
 pub lone_replies-append : (S : Scope) (l : Lone) (place : ℕ) (xs : List Item) (ys : List (ℕ × Item)) →
@@ -140,7 +142,7 @@ elsewhere S s None h = cc
 elsewhere S s (Some b) h = h
 
 pub elsewhere_other : (S : Scope) (s : SessionId) (request : Request) → is_own S.sessions s ≡ false → Elsewhere S s (about S s request)
-elsewhere_other S s (CreateConsumer c topic selector) n = not_belongs S s (key_eq (Own s c) S.key) n
+elsewhere_other S s (CreateConsumer c destination selector no_local) n = not_belongs S s (key_eq (key_made s c destination) S.key) n
 elsewhere_other S s (CloseConsumer c) n = not_belongs S s (S.numbers s c) n
 elsewhere_other S s (Receive c now) n = not_belongs S s (S.numbers s c) n
 elsewhere_other S s (Missed c) n = not_belongs S s (S.numbers s c) n
@@ -150,7 +152,7 @@ step_case : (S : Scope) (state : State) (s : SessionId) (request : Request) → 
     lone_of S (step state (Session s) (Ask request)) ≡ cond (v && is_none (lone_refusal (lone_of S state) (Session s) request)) (lone_did S.key (lone_of S state) (Session s) request) (lone_of S state)
 unfolding step
 step_case S state s request o f g p true h =
-    rw (own_refusal S state s request o g p.placed h) (moved_map (lone_of S) (refused state s request) (after state (Session s) request) state _ _ (λ m. own_after S state s request o p.placed h m) refl)
+    rw (own_refusal S state s request o g p.placed h) (moved_map (lone_of S) (refused state s request) (after state (Session s) request) state _ _ (λ m. own_after S state s request f o p.placed h m) refl)
 step_case S state s request o f g p false h =
     moved_one (lone_of S) (refused state s request) (after state (Session s) request) state (lone_of S state) (λ m. other_after S state s request f p (elsewhere S s (about S s request) h)) refl
 
@@ -181,19 +183,62 @@ published_ok : (o : Option Refusal) → replied o Done ≡ Ok Done → o ≡ Non
 published_ok None h = refl
 published_ok (Some r) h = cc
 
+-- a message that is sent: it waits for the commit, or is published
+sent_case : (S : Scope) (state : State) (m : Content) (b : Bool) → MatchBool b (Unit {0}) (reply state (Session m.sender.session) (Publish (m ∷ [])) ≡ Ok Done) →
+    lone_of S (cond b state (step state (Session m.sender.session) (Publish (m ∷ [])))) ≡ lone_end S (lone_of S state) (came (accepted S.key (lone_of S state).definition state.life (cond b [] (m ∷ []))))
+unfolding step reply
+sent_case S state m true h = refl
+sent_case S state m false h =
+    ap (λ (o : Option Refusal). lone_of S (moved o (published state (m ∷ [])) state)) (published_ok (publish_refusal state (Session m.sender.session) (m ∷ [])) h)
+    ∙ project_published S state (m ∷ [])
+
+-- a commit that is accepted is a transacted session's
+transacted_by : (a b : Bool) (o : Option Refusal) → cond (a && b) o (Some IllegalState) ≡ None → a ≡ true
+transacted_by true b o h = refl
+transacted_by false b o h = cc
+
+pub committed_by : (state : State) (s : SessionId) (ms : List Content) → commit_refusal state (Session s) ms ≡ None → is_transacted (mode_of state.life s) ≡ true
+unfolding commit_refusal
+committed_by state s ms h = transacted_by (is_transacted (mode_of state.life s)) (is_stamped state.opening s ms) _ h
+
+-- it settles what is out to the session, in each subscription of its own, and then publishes
+lone_transacted : (S : Scope) (state : State) (s : SessionId) → is_own S.sessions s ≡ true → is_transacted (mode_of (lone_of S state).life s) ≡ is_transacted (mode_of state.life s)
+unfolding lone_of
+lone_transacted S state s o = ap (λ (x : Option Mode). is_transacted x) (own_mode S.sessions state.life s o)
+
+settled_definition : (S : Scope) (p : SessionId → ℕ → Bool) (state : State) → (lone_of S (settled p state)).definition ≡ (lone_of S state).definition
+settled_definition S p state = ap (λ (l : Lone). l.definition) (project_settled S p state)
+
+settled_case : (S : Scope) (state : State) (s : SessionId) → Sound S state → is_transacted (mode_of state.life s) ≡ true → (o : Bool) → is_own S.sessions s ≡ o → (items : List Item) →
+    lone_end S (lone_of S (settled (of_session s) state)) items ≡ lone_end S (lone_of S state) (cond o (Settled s ∷ []) [] ++ items)
+settled_case S state s p t true e items =
+    ap (λ l. lone_end S l items) (project_settled S (of_session s) state)
+    ∙ ap (λ (b : Bool). lone_end S (cond b (lone_settled (of_session s) (lone_of S state)) (lone_of S state)) items) (sym (lone_transacted S state s e ∙ t))
+settled_case S state s p t false e items = ap (λ l. lone_end S l items) (settled_other S (of_session s) state (other_session S.sessions s e) p)
+
+committed_case : (S : Scope) (state : State) (s : SessionId) (ms : List Content) → Sound S state → commit_refusal state (Session s) ms ≡ None →
+    lone_of S (published (settled (of_session s) state) ms) ≡ lone_end S (lone_of S state) (cond (is_own S.sessions s) (Settled s ∷ []) [] ++ came (accepted S.key (lone_of S state).definition state.life ms))
+committed_case S state s ms p h =
+    project_published S (settled (of_session s) state) ms
+    ∙ ap (λ (d : Option Definition). lone_end S (lone_of S (settled (of_session s) state)) (came (accepted S.key d state.life ms))) (settled_definition S (of_session s) state)
+    ∙ settled_case S state s p (committed_by state s ms h) (is_own S.sessions s) refl (came (accepted S.key (lone_of S state).definition state.life ms))
+
 -- the machine's step at an entry is what the entry feeds
-pub entry_step : (S : Scope) (state : State) (before : List Entry) (e : Entry) → Fitting S → FairEntry S e → Sound S state → Replied state e →
-    lone_of S (state_after_entry state e) ≡ lone_end S (lone_of S state) (fed S state.life before (lone_of S state) e)
-unfolding state_after_entry committed step reply
+pub entry_step : (S : Scope) (state : State) (before : List Entry) (e : Entry) → Fitting S → FairEntry S e → Sound S state → Replied state before e →
+    lone_of S (state_after_entry state before e) ≡ lone_end S (lone_of S state) (fed S state.life before (lone_of S state) e)
+unfolding state_after_entry after_commit committed step reply
 entry_step S state before (Asked (Session s) request r) f g p h =
     into_cond (is_own S.sessions s) _ _ _ (λ o. step_own S state s request o f g p) (λ n. step_other S state s request n f p)
     ∙ sym (one_item S (lone_of S state) (is_own S.sessions s) (Called (Session s) request))
 entry_step S state before (Asked (Connection c) request r) f g p h =
     rw h (connection_case S state c request (refusal state.life state.consumers (held state (Connection c) request) (Connection c) request)
     (answer state.life state.consumers (held state (Connection c) request) (Connection c) request) (is_own_connection S.sessions c) refl p)
-entry_step S state before (Sent m) f g p h =
-    ap (λ (o : Option Refusal). lone_of S (moved o (published state (m ∷ [])) state)) (published_ok (publish_refusal state (Session m.sender.session) (m ∷ [])) h)
-    ∙ project_published S state (m ∷ [])
+entry_step S state before (Sent m) f g p h = sent_case S state m (is_transacted (mode_of state.life m.sender.session)) h
+entry_step S state before (Committed s) f g p h =
+    let none : commit_refusal state (Session s) (pending s before) ≡ None = published_ok (commit_refusal state (Session s) (pending s before)) h in
+    ap (λ (o : Option Refusal). lone_of S (moved o (published (settled (of_session s) state) (pending s before)) state)) none
+    ∙ committed_case S state s (pending s before) p none
+    ∙ ap (λ (b : Bool). lone_end S (lone_of S state) (cond (is_own S.sessions s) (Settled s ∷ []) [] ++ came (accepted S.key (lone_of S state).definition state.life (cond b (pending s before) [])))) (sym (committed_by state s (pending s before) none))
 
 -- the replies
 pub elsewhere_told : (S : Scope) (s : SessionId) (a : Option Bool) → Elsewhere S s a → is_true a ≡ false
@@ -208,18 +253,24 @@ unfolding is_answered
 connection_told S l place c request true = refl
 connection_told S l place c request false = refl
 
-told_case : (S : Scope) (state : State) (place : ℕ) (s : SessionId) (request : Request) (o a : Bool) → is_own S.sessions s ≡ o → is_true (about S s request) ≡ a → FairRequest S s request → Placed S state.consumers →
+told_case : (S : Scope) (state : State) (place : ℕ) (s : SessionId) (request : Request) (o a : Bool) → Fitting S → is_own S.sessions s ≡ o → is_true (about S s request) ≡ a → FairRequest S s request → Placed S state.consumers →
     placed place (cond a (Some (reply state (Session s) (Ask request))) None) ≡ lone_replies S (lone_of S state) (at_place place (cond o (Called (Session s) request ∷ []) [] ++ []))
 unfolding is_answered
-told_case S state place s request true true e b g p = rw (b, own_reply S state s request e g p b)
-told_case S state place s request true false e b g p = rw b
-told_case S state place s request false true e b g p = absurd (true_false (sym b ∙ elsewhere_told S s (about S s request) (elsewhere_other S s request e)))
-told_case S state place s request false false e b g p = refl
+told_case S state place s request true true f e b g p = rw (b, own_reply S state s request f e g p b)
+told_case S state place s request true false f e b g p = rw b
+told_case S state place s request false true f e b g p = absurd (true_false (sym b ∙ elsewhere_told S s (about S s request) (elsewhere_other S s request e)))
+told_case S state place s request false false f e b g p = refl
+
+commit_told : (S : Scope) (l : Lone) (place : ℕ) (s : SessionId) (b : Bool) (ms : List Content) → lone_replies S l (at_place place (cond b (Settled s ∷ []) [] ++ came ms)) ≡ []
+commit_told S l place s true ms = lone_replies-came S (lone_after S l (Settled s)) place ms
+commit_told S l place s false ms = lone_replies-came S l place ms
 
 -- the reply to a call of the key's, as an entry has it, is what its subscription answers alone
-pub entry_told : (S : Scope) (state : State) (place : ℕ) (before : List Entry) (e : Entry) → FairEntry S e → Placed S state.consumers → Replied state e →
+pub entry_told : (S : Scope) (state : State) (place : ℕ) (before : List Entry) (e : Entry) → Fitting S → FairEntry S e → Placed S state.consumers → Replied state before e →
     placed place (told S e) ≡ lone_replies S (lone_of S state) (at_place place (fed S state.life before (lone_of S state) e))
 unfolding committed is_answered
-entry_told S state place before (Asked (Session s) request r) g p h = rw h (told_case S state place s request (is_own S.sessions s) (is_true (about S s request)) refl refl g p)
-entry_told S state place before (Asked (Connection c) request r) g p h = connection_told S (lone_of S state) place c request (is_own_call S (Connection c) r)
-entry_told S state place before (Sent m) g p h = sym (lone_replies-came S (lone_of S state) place (accepted S.key (lone_of S state).definition state.life (m ∷ [])))
+entry_told S state place before (Asked (Session s) request r) f g p h = rw h (told_case S state place s request (is_own S.sessions s) (is_true (about S s request)) f refl refl g p)
+entry_told S state place before (Asked (Connection c) request r) f g p h = connection_told S (lone_of S state) place c request (is_own_call S (Connection c) r)
+entry_told S state place before (Sent m) f g p h = sym (lone_replies-came S (lone_of S state) place (accepted S.key (lone_of S state).definition state.life (cond (is_transacted (mode_of state.life m.sender.session)) [] (m ∷ []))))
+entry_told S state place before (Committed s) f g p h =
+    sym (commit_told S (lone_of S state) place s (is_own S.sessions s) (accepted S.key (lone_of S state).definition state.life (cond (is_transacted (mode_of state.life s)) (pending s before) [])))

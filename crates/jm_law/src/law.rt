@@ -1,4 +1,4 @@
-ghost use Rattle.jm_machine.specs.Isolation.{Isolation, RunsFit, RunsReach};
+ghost use Rattle.jm_machine.specs.Isolation.{Isolation, IsolationOfEvents, RunsFit, RunsReach, TwoWorlds};
 
 /// The law of isolation, proved; the function itself does nothing.
 ///
@@ -9,6 +9,25 @@ ghost use Rattle.jm_machine.specs.Isolation.{Isolation, RunsFit, RunsReach};
 /// and with the committed publications that it accepts. Nothing else in the run has any part in them.
 pub fn law_isolation()
     ensures { Isolation }
+{}
+
+/// The law of isolation over events, proved; the function itself does nothing.
+///
+/// Take any state that the provider reaches, and any list of events that is legal from it: each reply is the machine's.
+/// Where publications and commits that were accepted are read as the messages that they carried, and each commit as one
+/// more entry behind its messages, the law of isolation holds of what is read.
+pub fn law_isolation_of_events()
+    ensures { IsolationOfEvents }
+{}
+
+/// The law of two worlds, proved; the function itself does nothing.
+///
+/// Take two lists of calls, each from a state that the provider reaches, with replies that fit, and an unshared topic
+/// subscription that starts with the same in both and is fed the same. Then its sessions get the same replies to its calls,
+/// in the same order. So whatever others send in transactions that are open at the end or rolled back, what the
+/// subscription does not accept, and all that concerns other consumers alone, changes none of them.
+pub fn law_two_worlds()
+    ensures { TwoWorlds }
 {}
 
 /// The law that runs lead on, proved; the function itself does nothing.

@@ -3,4 +3,4 @@
 
 mod law;
 
-pub use law::{law_isolation, law_reached, law_runs_fit};
+pub use law::{law_isolation, law_isolation_of_events, law_reached, law_runs_fit, law_two_worlds};

@@ -1,5 +1,4 @@
 pub mod Same
-pub mod Selectors
 pub mod SelectorExamples
 pub mod Reaches
 pub mod Order

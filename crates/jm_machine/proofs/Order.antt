@@ -1,26 +1,29 @@
--- In every state that the provider reaches the rows of each subscription stand by place.
+-- In every state that the provider reaches the rows of each subscription and of each queue stand by place.
 use Rattle.std.proofs.Common.{◌≡◌, ◌<◌, ◌+◌, ℕ, Bool, true, false, cond, List, [], ◌∷◌, ◌++◌, map, length, refl, sym, subst, ◌⊎◌, inl, inr, arith, Option, Some, None}
 use Rattle.std.specs.Prelude.{filter}
 use Rattle.jm_base.specs.declared.mode.Mode.{Mode}
 use Rattle.jm_base.specs.declared.refusal.Refusal.{Refusal}
 use Rattle.jm_dest.specs.declared.session.SessionId.{SessionId}
 use Rattle.jm_dest.specs.declared.key.Key.{Key}
-use Rattle.jm_dest.specs.declared.key.Key.TheVariants.{Own}
+use Rattle.jm_dest.specs.declared.key.Key.TheVariants.{Own, SharedOwn, Durable, Queue as OfQueue}
+use Rattle.jm_dest.specs.declared.destination.Destination.{Destination}
+use Rattle.jm_dest.specs.declared.destination.Destination.TheVariants.{Queue, Topic}
+use Rattle.jm_dest.specs.Names.{text_eq}
 use Rattle.jm_dest.specs.Keys.{key_eq}
 use Rattle.jm_header.specs.declared.content.Content.{Content}
 use Rattle.jm_machine.specs.declared.call.Who.{Who}
 use Rattle.jm_machine.specs.declared.call.Who.TheVariants.{Connection, Session}
 use Rattle.jm_machine.specs.declared.call.Request.{Request}
-use Rattle.jm_machine.specs.declared.call.Request.TheVariants.{CloseConnection, CreateSession, CloseSession, CreateConsumer, CloseConsumer, Receive, Acknowledge, Recover}
+use Rattle.jm_machine.specs.declared.call.Request.TheVariants.{CloseConnection, CreateSession, CloseSession, CreateConsumer, CloseConsumer, Receive, Acknowledge, Recover, Rollback}
 use Rattle.jm_machine.specs.declared.call.Call.{Call}
-use Rattle.jm_machine.specs.declared.call.Call.TheVariants.{Ask, Publish}
+use Rattle.jm_machine.specs.declared.call.Call.TheVariants.{Ask, Publish, Commit}
 use Rattle.jm_machine.specs.declared.state.Definition.{Definition}
 use Rattle.jm_machine.specs.declared.state.PlacedRow.{PlacedRow}
 use Rattle.jm_machine.specs.declared.state.Row.{Row}
 use Rattle.jm_machine.specs.declared.state.Station.{Station}
 use Rattle.jm_machine.specs.Life.{mode_of, is_started}
-use Rattle.jm_machine.specs.Rows.{AllAbove, InOrder, fresh, settles_at_once, sent_out, left_of, live_placed, change_placed, deliver_placed}
-use Rattle.jm_machine.specs.Machine.{State, Publisher, publisher_of, accepts, is_full, one_missed, brought, offered, with_message, with_rows, at_key, without, published, AllInOrder, receive, consumer_of, key_at, defined, of_session, of_connection, of_number, settled_rows, returned_rows, settled, returned, closed, with_life, is_client, held, refusal, publish_refusal, after, moved, step}
+use Rattle.jm_machine.specs.Rows.{AllAbove, InOrder, fresh, settles_at_once, sent_out, left_of, live_placed, change_placed, deliver_placed, deliver_chosen}
+use Rattle.jm_machine.specs.Machine.{State, Publisher, publisher_of, accepts, is_full, one_missed, brought, offered, with_message, with_rows, at_key, at_queue, at_queue_of, queued, without, published, AllInOrder, receive, consumer_of, key_at, made, selected_by, defined, of_session, of_connection, of_number, settled_rows, returned_rows, settled, returned, closed, with_life, is_client, held, refusal, publish_refusal, commit_refusal, after, after_commit, moved, step}
 use Rattle.jm_machine.specs.Isolation.{Reached}
 use Rattle.jm_machine.specs.Isolation.Reached.{New, Stepped}
 
@@ -163,9 +166,9 @@ unfolding published
 order_published state [] h = h
 order_published state (m ∷ ms) h = order_published (with_message state m) ms (all_offered state.limit (publisher_of state.life m) m state.next_place state.stations h)
 
-order_received : (mode : Option Mode) (s : SessionId) (c now : ℕ) (k : Option Key) (state : State) → HasOrder state → HasOrder (receive (left_of mode s c) now k state)
-order_received mode s c now None state h = h
-order_received mode s c now (Some k) state h = all_at state.next_place (deliver_placed now (left_of mode s c)) (delivered state.next_place now (left_of mode s c) (left_one mode s c)) k state.stations h
+order_received : (p : Content → Bool) (mode : Option Mode) (s : SessionId) (c now : ℕ) (k : Option Key) (state : State) → HasOrder state → HasOrder (receive p (left_of mode s c) now k state)
+order_received p mode s c now None state h = h
+order_received p mode s c now (Some k) state h = all_at state.next_place (deliver_placed now (left_of mode s c)) (delivered state.next_place now (left_of mode s c) (left_one mode s c)) k state.stations h
 
 order_settled : (p : SessionId → ℕ → Bool) (state : State) → HasOrder state → HasOrder (settled p state)
 order_settled p state h = all_each state.next_place (settled_rows p) (order_filter state.next_place _) state.stations h
@@ -176,6 +179,10 @@ order_closed p state h = all_filter state.next_place _ state.stations h
 
 order_given : (p : SessionId → ℕ → Bool) (state : State) → HasOrder state → HasOrder (returned p state)
 order_given p state h = all_each state.next_place (returned_rows p) (order_returned state.next_place p) state.stations h
+
+order_made : (s : SessionId) (c : ℕ) (destination : Destination) (selector : Option (List ℕ)) (no_local : Bool) (state : State) → HasOrder state → HasOrder (made s c destination selector no_local state)
+order_made s c (Queue name) selector no_local state h = h
+order_made s c (Topic name) selector no_local state h = all_put state.next_place (Own s c) (defined name selector no_local) (without (Own s c) state.stations) (all_filter state.next_place _ state.stations h)
 
 order_if : (b : Bool) (x y : State) → HasOrder x → HasOrder y → HasOrder (cond b x y)
 order_if true x y p q = p
@@ -191,20 +198,114 @@ order_after state (Connection c) CloseConnection h = order_closed (of_connection
 order_after state (Connection c) request h = h
 order_after state (Session s) (CreateSession mode) h = h
 order_after state (Session s) CloseSession h = order_closed (of_session s) (returned (of_session s) (with_life (Session s) CloseSession state)) (order_given (of_session s) (with_life (Session s) CloseSession state) h)
-order_after state (Session s) (CreateConsumer c topic selector) h = all_put state.next_place (Own s c) (defined topic selector) (without (Own s c) state.stations) (all_filter state.next_place _ state.stations h)
+order_after state (Session s) (CreateConsumer c destination selector no_local) h = order_made s c destination selector no_local state h
 order_after state (Session s) (Receive c now) h =
-    order_if (is_started state.life s.connection) (receive (left_of (mode_of state.life s) s c) now (key_at (consumer_of state.consumers s c)) state) state
-    (order_received (mode_of state.life s) s c now (key_at (consumer_of state.consumers s c)) state h) h
+    order_if (is_started state.life s.connection) (receive (selected_by (consumer_of state.consumers s c)) (left_of (mode_of state.life s) s c) now (key_at (consumer_of state.consumers s c)) state) state
+    (order_received (selected_by (consumer_of state.consumers s c)) (mode_of state.life s) s c now (key_at (consumer_of state.consumers s c)) state h) h
 order_after state (Session s) (CloseConsumer c) h = order_closed (of_number s c) state h
 order_after state (Session s) Acknowledge h = order_if (is_client (mode_of state.life s)) (settled (of_session s) state) state (order_settled (of_session s) state h) h
 order_after state (Session s) Recover h = order_given (of_session s) state h
+order_after state (Session s) Rollback h = order_given (of_session s) state h
 order_after state (Session s) _ h = h
+
+order_committed : (state : State) (who : Who) (ms : List Content) → HasOrder state → HasOrder (after_commit state who ms)
+unfolding after_commit
+order_committed state (Connection c) ms h = h
+order_committed state (Session s) ms h = order_published (settled (of_session s) state) ms (order_settled (of_session s) state h)
 
 order_step : (state : State) (who : Who) (call : Call) → HasOrder state → HasOrder (step state who call)
 unfolding step
 order_step state who (Ask request) h = order_moved (refusal state.life state.consumers (held state who request) who request) (after state who request) state (order_after state who request h) h
 order_step state who (Publish messages) h = order_moved (publish_refusal state who messages) (published state messages) state (order_published state messages h) h
+order_step state who (Commit messages) h = order_moved (commit_refusal state who messages) (after_commit state who messages) state (order_committed state who messages h) h
 
 pub reached_in_order : (state : State) → Reached state → AllInOrder state.next_place state.stations
 reached_in_order state (New opening limit) = tt
 reached_in_order state (Stepped before who call r) = order_step before who call (reached_in_order before r)
+
+-- ---- queues
+
+-- the rows of each queue stand by place, below the next place
+abbrev pub QueuesInOrder : State → Type 0
+QueuesInOrder state = (name : List ℕ) → InOrder state.next_place (state.queues name)
+
+chosen_order : (n now : ℕ) (p : Content → Bool) (f : Row → List Row) → LeavesOne f → KeepsOrder n (deliver_chosen p now f)
+chosen_order n now p f o rows h = order_change n _ f o (live_placed now rows) (order_filter n _ rows h)
+
+queues_at : (n : ℕ) (f : List PlacedRow → List PlacedRow) → KeepsOrder n f → (name : List ℕ) (queues : List ℕ → List PlacedRow) → ((other : List ℕ) → InOrder n (queues other)) → (other : List ℕ) → InOrder n (at_queue name f queues other)
+queues_at n f g name queues h other = go (text_eq name other)
+  where
+    go : (b : Bool) → InOrder n (cond b (f (queues other)) (queues other))
+    go true = g (queues other) (h other)
+    go false = h other
+
+queues_of : (n : ℕ) (f : List PlacedRow → List PlacedRow) → KeepsOrder n f → (k : Key) (queues : List ℕ → List PlacedRow) → ((other : List ℕ) → InOrder n (queues other)) → (other : List ℕ) → InOrder n (at_queue_of k f queues other)
+queues_of n f g (OfQueue name) queues h other = queues_at n f g name queues h other
+queues_of n f g (Own s c) queues h other = h other
+queues_of n f g (SharedOwn client name) queues h other = h other
+queues_of n f g (Durable client name) queues h other = h other
+
+queues_queued : (n : ℕ) (destination : Destination) (m : Content) (queues : List ℕ → List PlacedRow) → ((other : List ℕ) → InOrder n (queues other)) → (other : List ℕ) → InOrder (n + 1) (queued destination m n queues other)
+queues_queued n (Topic name) m queues h other = order_on n (queues other) (h other)
+queues_queued n (Queue name) m queues h other = go (text_eq name other)
+  where
+    go : (b : Bool) → InOrder (n + 1) (cond b (queues other ++ record { place = n; row = fresh m } ∷ []) (queues other))
+    go true = order_push n (fresh m) (queues other) (h other)
+    go false = order_on n (queues other) (h other)
+
+queues_published : (state : State) (ms : List Content) → QueuesInOrder state → QueuesInOrder (published state ms)
+unfolding published
+queues_published state [] h = h
+queues_published state (m ∷ ms) h = queues_published (with_message state m) ms (queues_queued state.next_place m.destination m state.queues h)
+
+queues_received : (p : Content → Bool) (mode : Option Mode) (s : SessionId) (c now : ℕ) (k : Option Key) (state : State) → QueuesInOrder state → QueuesInOrder (receive p (left_of mode s c) now k state)
+queues_received p mode s c now None state h = h
+queues_received p mode s c now (Some k) state h = queues_of state.next_place (deliver_chosen p now (left_of mode s c)) (chosen_order state.next_place now p (left_of mode s c) (left_one mode s c)) k state.queues h
+
+queues_settled : (p : SessionId → ℕ → Bool) (state : State) → QueuesInOrder state → QueuesInOrder (settled p state)
+queues_settled p state h name = order_filter state.next_place _ (state.queues name) (h name)
+
+queues_given : (p : SessionId → ℕ → Bool) (state : State) → QueuesInOrder state → QueuesInOrder (returned p state)
+queues_given p state h name = order_returned state.next_place p (state.queues name) (h name)
+
+queues_made : (s : SessionId) (c : ℕ) (destination : Destination) (selector : Option (List ℕ)) (no_local : Bool) (state : State) → QueuesInOrder state → QueuesInOrder (made s c destination selector no_local state)
+queues_made s c (Queue name) selector no_local state h = h
+queues_made s c (Topic name) selector no_local state h = h
+
+queues_if : (b : Bool) (x y : State) → QueuesInOrder x → QueuesInOrder y → QueuesInOrder (cond b x y)
+queues_if true x y p q = p
+queues_if false x y p q = q
+
+queues_moved : (o : Option Refusal) (x y : State) → QueuesInOrder x → QueuesInOrder y → QueuesInOrder (moved o x y)
+queues_moved None x y p q = p
+queues_moved (Some r) x y p q = q
+
+queues_after : (state : State) (who : Who) (request : Request) → QueuesInOrder state → QueuesInOrder (after state who request)
+unfolding after
+queues_after state (Connection c) CloseConnection h = queues_given (of_connection c) (with_life (Connection c) CloseConnection state) h
+queues_after state (Connection c) request h = h
+queues_after state (Session s) (CreateSession mode) h = h
+queues_after state (Session s) CloseSession h = queues_given (of_session s) (with_life (Session s) CloseSession state) h
+queues_after state (Session s) (CreateConsumer c destination selector no_local) h = queues_made s c destination selector no_local state h
+queues_after state (Session s) (Receive c now) h =
+    queues_if (is_started state.life s.connection) (receive (selected_by (consumer_of state.consumers s c)) (left_of (mode_of state.life s) s c) now (key_at (consumer_of state.consumers s c)) state) state
+    (queues_received (selected_by (consumer_of state.consumers s c)) (mode_of state.life s) s c now (key_at (consumer_of state.consumers s c)) state h) h
+queues_after state (Session s) Acknowledge h = queues_if (is_client (mode_of state.life s)) (settled (of_session s) state) state (queues_settled (of_session s) state h) h
+queues_after state (Session s) Recover h = queues_given (of_session s) state h
+queues_after state (Session s) Rollback h = queues_given (of_session s) state h
+queues_after state (Session s) _ h = h
+
+queues_committed : (state : State) (who : Who) (ms : List Content) → QueuesInOrder state → QueuesInOrder (after_commit state who ms)
+unfolding after_commit
+queues_committed state (Connection c) ms h = h
+queues_committed state (Session s) ms h = queues_published (settled (of_session s) state) ms (queues_settled (of_session s) state h)
+
+queues_step : (state : State) (who : Who) (call : Call) → QueuesInOrder state → QueuesInOrder (step state who call)
+unfolding step
+queues_step state who (Ask request) h = queues_moved (refusal state.life state.consumers (held state who request) who request) (after state who request) state (queues_after state who request h) h
+queues_step state who (Publish messages) h = queues_moved (publish_refusal state who messages) (published state messages) state (queues_published state messages h) h
+queues_step state who (Commit messages) h = queues_moved (commit_refusal state who messages) (after_commit state who messages) state (queues_committed state who messages h) h
+
+pub queues_in_order : (state : State) → Reached state → QueuesInOrder state
+queues_in_order state (New opening limit) = λ name. tt
+queues_in_order state (Stepped before who call r) = queues_step before who call (queues_in_order before r)

@@ -11,9 +11,9 @@ use Rattle.jm_machine.specs.declared.answer.Answer.{Answer}
 use Rattle.jm_machine.specs.declared.answer.Answer.TheVariants.{Done, Sent, Delivered, Nothing, Missed}
 use Rattle.jm_machine.specs.declared.answer.Delivery.{Delivery}
 use Rattle.jm_machine.specs.declared.call.Call.{Call}
-use Rattle.jm_machine.specs.declared.call.Call.TheVariants.{Ask, Publish}
+use Rattle.jm_machine.specs.declared.call.Call.TheVariants.{Ask, Publish, Commit}
 use Rattle.jm_machine.specs.declared.call.ClientCall.{ClientCall}
-use Rattle.jm_machine.specs.declared.call.ClientCall.TheVariants.{Ask as Asks, Send}
+use Rattle.jm_machine.specs.declared.call.ClientCall.TheVariants.{Ask as Asks, Send, CommitSession}
 use Rattle.jm_machine.specs.declared.call.Request.{Request}
 use Rattle.jm_machine.specs.declared.call.Step.{Step}
 use Rattle.jm_machine.specs.declared.call.Who.{Who}
@@ -76,8 +76,13 @@ request_same a b = (λ e. search rules, λ e. search rules)
 pub call_same : (a b : Call) → Decides ((call_eq.ghosts).eq a b) (a ≡ b)
 call_same (Ask a) (Ask b) = Decides-like _ (λ e. ap Ask e) (λ e. cc) (request_same a b)
 call_same (Ask a) (Publish b) = (λ e. cc, λ e. cc)
+call_same (Ask a) (Commit b) = (λ e. cc, λ e. cc)
 call_same (Publish a) (Ask b) = (λ e. cc, λ e. cc)
 call_same (Publish a) (Publish b) = Decides-like _ (λ e. ap Publish e) (λ e. cc) (pointwise_decides content_same a b)
+call_same (Publish a) (Commit b) = (λ e. cc, λ e. cc)
+call_same (Commit a) (Ask b) = (λ e. cc, λ e. cc)
+call_same (Commit a) (Publish b) = (λ e. cc, λ e. cc)
+call_same (Commit a) (Commit b) = Decides-like _ (λ e. ap Commit e) (λ e. cc) (pointwise_decides content_same a b)
 
 pub step_same : (a b : Step) → Decides ((step_eq.ghosts).eq a b) (a ≡ b)
 step_same a b =
@@ -96,3 +101,8 @@ client_same (Send session draft destination now) (Send sender sent place then) =
     (Decides-and _ _ (session_same session sender)
     (Decides-and _ _ (settings_same draft sent)
     (Decides-and _ _ (destination_same destination place) (Decides-eqb now then))))
+client_same (Asks who request) (CommitSession sender) = (λ e. cc, λ e. cc)
+client_same (Send session draft destination now) (CommitSession sender) = (λ e. cc, λ e. cc)
+client_same (CommitSession session) (Asks who request) = (λ e. cc, λ e. cc)
+client_same (CommitSession session) (Send sender sent place then) = (λ e. cc, λ e. cc)
+client_same (CommitSession session) (CommitSession sender) = Decides-like _ (λ e. ap CommitSession e) (λ e. cc) (session_same session sender)

@@ -41,7 +41,7 @@ use Rattle.jm_machine.specs.declared.state.Definition.{Definition}
 use Rattle.jm_machine.specs.declared.state.PlacedRow.{PlacedRow}
 use Rattle.jm_machine.specs.Life.{life_after, own_life}
 use Rattle.jm_machine.specs.Rows.{fresh, is_next, left_of}
-use Rattle.jm_machine.specs.Selectors.{read_refusal, selector_refusal, standing, holds, selects, read_selects}
+use Rattle.jm_selector.specs.Selectors.{read_refusal, selector_refusal, standing, holds, selects, read_selects}
 use Rattle.jm_machine.specs.Machine.{Publisher, new_core, defined, accepts, published, refusal, publish_refusal, after as after_call, answer, replied, moved, reply, step}
 use Rattle.jm_machine.specs.Client.{Progress, one_more, reply_to, progress_to, replies_to}
 use Rattle.jm_machine.specs.Entries.{entries_of, life_after_entry, committed}
@@ -92,7 +92,7 @@ positive_value view =
 -- both connections and sessions
 abbrev sessions : List ClientCall
 sessions =
-    Ask (Connection 1) Open ∷ Ask (Connection 2) Open ∷ Ask (Session receiver) (CreateSession Auto) ∷ Ask (Session publisher) (CreateSession Auto)
+    Ask (Connection 1) (Open None) ∷ Ask (Connection 2) (Open None) ∷ Ask (Session receiver) (CreateSession Auto) ∷ Ask (Session publisher) (CreateSession Auto)
     ∷ Ask (Connection 1) Start ∷ []
 
 abbrev opened : List (Result Answer Refusal)
@@ -100,7 +100,7 @@ opened = ok ∷ ok ∷ ok ∷ ok ∷ ok ∷ []
 
 -- a consumer of the topic with that selector
 abbrev selecting : ℕ → List ℕ → ClientCall
-selecting c selector = Ask (Session receiver) (CreateConsumer c topic (Some selector))
+selecting c selector = Ask (Session receiver) (CreateConsumer c (Topic topic) (Some selector) false)
 
 -- a draft with the property x
 abbrev with_x : ℤ → ℕ → Settings
@@ -126,11 +126,11 @@ unfolding selector_refusal
 positive_allowed = ap read_refusal positive_read
 
 abbrev positive_definition : Definition
-positive_definition = record { topic = topic; selector = Some positive }
+positive_definition = record { topic = topic; selector = Some positive; no_local = false }
 
-positive_defined : defined topic (Some positive) ≡ positive_definition
+positive_defined : defined topic (Some positive) false ≡ positive_definition
 unfolding defined
-positive_defined = ap (λ (r : Result (Option Tree) SyntaxFault). record { topic = topic; selector = standing (Some positive) r }) positive_read
+positive_defined = ap (λ (r : Result (Option Tree) SyntaxFault). record { topic = topic; selector = standing (Some positive) r; no_local = false }) positive_read
 
 -- a message of the publisher
 abbrev sent : Settings → ℕ → Content
@@ -176,14 +176,16 @@ holding definition rows n = record {
     opening = 1;
     limit = 100000;
     life = record {
-      connections = record { id = 1; is_started = true; is_open = true } ∷ record { id = 2; is_started = false; is_open = true } ∷ [];
+      connections = record { id = 1; client = None; is_started = true; is_open = true } ∷ record { id = 2; client = None; is_started = false; is_open = true } ∷ [];
       sessions = record { id = receiver; mode = Auto; is_open = true } ∷ record { id = publisher; mode = Auto; is_open = true } ∷ [];
     };
-    consumers = record { session = receiver; id = 1; key = Own receiver 1; is_active = true } ∷ [];
+    consumers = record { session = receiver; id = 1; key = Own receiver 1; selector = None; is_active = true } ∷ [];
     stations = record { key = Own receiver 1; definition = definition; missed = 0; rows = rows } ∷ [];
+    queues = λ name. [];
     next_place = n + 1;
   };
   sent = sent_after n;
+  kept = λ s. [];
 }
 
 -- the run at its calls, one after another
@@ -200,9 +202,11 @@ begins = record {
     life = (holding positive_definition [] 0).state.life;
     consumers = [];
     stations = [];
+    queues = λ name. [];
     next_place = 1;
   };
   sent = λ s. 0;
+  kept = λ s. [];
 }
 
 begins_with : (calls : List ClientCall) → replies_to new_run (sessions ++ calls) ≡ opened ++ replies_to begins calls
@@ -216,7 +220,7 @@ made = ap (λ (o : Option Refusal). replied o Done) positive_allowed
 makes : progress_to begins (selecting 1 positive) ≡ holding positive_definition [] 0
 unfolding refusal after_call step progress_to
 makes =
-    ap (λ (o : Option Refusal). record begins { state = moved o (record (holding (defined topic (Some positive)) [] 0).state { opening = 1 }) begins.state }) positive_allowed
+    ap (λ (o : Option Refusal). record begins { state = moved o (record (holding (defined topic (Some positive) false) [] 0).state { opening = 1 }) begins.state }) positive_allowed
     ∙ ap (λ (d : Definition). holding d [] 0) positive_defined
 
 -- what a send leaves, by whether it is accepted
@@ -267,7 +271,7 @@ selected_run =
 
 -- a refused text leaves the number of the consumer free, and of two causes the first is told
 abbrev refused_calls : List ClientCall
-refused_calls = sessions ++ selecting 1 (codes "x = ") ∷ Ask (Session receiver) (CreateConsumer 1 topic None) ∷ selecting 1 (codes "x = ") ∷ []
+refused_calls = sessions ++ selecting 1 (codes "x = ") ∷ Ask (Session receiver) (CreateConsumer 1 (Topic topic) None false) ∷ selecting 1 (codes "x = ") ∷ []
 
 abbrev refused_replies : List (Result Answer Refusal)
 refused_replies = opened ++ Err (InvalidSelector 4 Expected) ∷ ok ∷ Err IllegalState ∷ []

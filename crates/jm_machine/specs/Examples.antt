@@ -1,7 +1,7 @@
 -- Worked runs, computed on the definitions.
-use Rattle.std.specs.Prelude.{◌≡◌, ℕ, List, [], ◌∷◌, ◌++◌, None, Result, Ok, Err, refl}
+use Rattle.std.specs.Prelude.{◌≡◌, ℕ, false, List, [], ◌∷◌, ◌++◌, map, None, Result, Ok, Err, refl}
 use Rattle.jm_base.specs.declared.mode.Mode.{Mode}
-use Rattle.jm_base.specs.declared.mode.Mode.TheVariants.{Auto, Client, Dups}
+use Rattle.jm_base.specs.declared.mode.Mode.TheVariants.{Auto, Client, Dups, Transacted}
 use Rattle.jm_base.specs.declared.refusal.Refusal.{Refusal}
 use Rattle.jm_base.specs.declared.refusal.Refusal.TheVariants.{IllegalState, OutOfRange}
 use Rattle.jm_dest.specs.declared.session.SessionId.{SessionId}
@@ -9,23 +9,27 @@ use Rattle.jm_dest.specs.declared.destination.Destination.{Destination}
 use Rattle.jm_dest.specs.declared.destination.Destination.TheVariants.{Queue, Topic}
 use Rattle.jm_dest.specs.declared.key.Key.TheVariants.{Own}
 use Rattle.jm_header.specs.declared.body.Body.TheVariants.{Text}
+use Rattle.jm_header.specs.declared.content.Content.{Content}
 use Rattle.jm_header.specs.declared.content.Settings.{Settings}
 use Rattle.jm_header.specs.Headers.{defaults, message_of}
 use Rattle.jm_machine.specs.declared.call.Who.TheVariants.{Connection, Session}
 use Rattle.jm_machine.specs.declared.call.Request.{Request}
-use Rattle.jm_machine.specs.declared.call.Request.TheVariants.{Open, Start, Stop, CloseConnection, CreateSession, CloseSession, CreateConsumer, CloseConsumer, Receive, Acknowledge, Recover, Missed}
+use Rattle.jm_machine.specs.declared.call.Request.TheVariants.{Open, Start, Stop, CloseConnection, CreateSession, CloseSession, CreateConsumer, CloseConsumer, Receive, Acknowledge, Recover, Rollback, Missed}
+use Rattle.jm_machine.specs.declared.call.Call.TheVariants.{Publish, Commit}
 use Rattle.jm_machine.specs.declared.call.ClientCall.{ClientCall}
-use Rattle.jm_machine.specs.declared.call.ClientCall.TheVariants.{Ask, Send}
+use Rattle.jm_machine.specs.declared.call.ClientCall.TheVariants.{Ask, Send, CommitSession}
 use Rattle.jm_machine.specs.declared.answer.Answer.{Answer}
 use Rattle.jm_machine.specs.declared.answer.Answer.TheVariants.{Done, Sent, Delivered, Nothing, Missed as MissedSoFar}
+use Rattle.jm_machine.specs.declared.entry.Entry.TheVariants.{Sent as SentEntry, Committed}
+use Rattle.jm_machine.specs.declared.entry.Event.{Event}
 use Rattle.jm_machine.specs.Life.{life_after, own_life}
 use Rattle.jm_machine.specs.Rows.{protected, is_next, left_of}
-use Rattle.jm_machine.specs.Selectors.{selector_refusal, selects}
-use Rattle.jm_machine.specs.Machine.{new_core, defined, accepts, published, refusal, publish_refusal, after, answer, reply, step}
+use Rattle.jm_selector.specs.Selectors.{selector_refusal, selects}
+use Rattle.jm_machine.specs.Machine.{State, new_core, defined, accepts, published, refusal, publish_refusal, commit_refusal, after, after_commit, answer, reply, step}
 use Rattle.jm_machine.specs.Client.{Progress, begun, reply_to, progress_to, replies_to, progress_after}
-use Rattle.jm_machine.specs.Entries.{entries_of, life_after_entry, committed}
+use Rattle.jm_machine.specs.Entries.{entries_of, expand, life_after_entry, committed}
 use Rattle.jm_machine.specs.Lone.{lone_of, lone_did, is_answered, feed}
-use Rattle.jm_machine.specs.Isolation.{answered, alone}
+use Rattle.jm_machine.specs.Isolation.{answered, alone, feed_of, IsLegal, in_order}
 
 -- a run of a new core in opening 1, in which subscriptions may hold 100,000 rows
 abbrev pub new_run : Progress
@@ -77,8 +81,8 @@ got = got_of (Topic topic)
 -- both connections and sessions, and consumer 1 of the topic
 abbrev pub opened : List ClientCall
 opened =
-    Ask (Connection 1) Open ∷ Ask (Connection 2) Open ∷ Ask (Session receiver) (CreateSession Auto) ∷ Ask (Session publisher) (CreateSession Auto)
-    ∷ Ask (Session receiver) (CreateConsumer 1 topic None) ∷ []
+    Ask (Connection 1) (Open None) ∷ Ask (Connection 2) (Open None) ∷ Ask (Session receiver) (CreateSession Auto) ∷ Ask (Session publisher) (CreateSession Auto)
+    ∷ Ask (Session receiver) (CreateConsumer 1 (Topic topic) None false) ∷ []
 
 -- the same, and connection 1 starts
 abbrev pub started : List ClientCall
@@ -147,13 +151,13 @@ unfolding life_after is_next left_of selector_refusal selects defined accepts pu
 greatest_moment = refl
 
 -- a receive drops expired messages of its own subscription alone, at its own moment alone
-pub each_sweeps_its_own : replies_to new_run (started ++ Ask (Session receiver) (CreateConsumer 2 topic None) ∷ send 1000 (living 500 97) ∷ receive 2 1500 ∷ receive 1 1400 ∷ [])
+pub each_sweeps_its_own : replies_to new_run (started ++ Ask (Session receiver) (CreateConsumer 2 (Topic topic) None false) ∷ send 1000 (living 500 97) ∷ receive 2 1500 ∷ receive 1 1400 ∷ [])
     ≡ six ++ ok ∷ Ok (Sent 1) ∷ none ∷ got (living 500 97) 1 1000 1 ∷ []
 unfolding life_after is_next left_of selector_refusal selects defined accepts published refusal publish_refusal after answer reply step reply_to progress_to
 each_sweeps_its_own = refl
 
 -- a session and a connection are used once, and a session sends only while it is open
-pub used_numbers : replies_to new_run (started ++ Ask (Connection 1) Open ∷ Ask (Session receiver) (CreateSession Auto) ∷ Ask (Session receiver) (CreateConsumer 1 topic None)
+pub used_numbers : replies_to new_run (started ++ Ask (Connection 1) (Open None) ∷ Ask (Session receiver) (CreateSession Auto) ∷ Ask (Session receiver) (CreateConsumer 1 (Topic topic) None false)
     ∷ receive 2 1000 ∷ Ask (Connection 3) Start ∷ Ask (Connection 1) (Receive 1 1000) ∷ Send (record { connection = 3; number = 1 }) (text 97) (Topic topic) 1000 ∷ [])
     ≡ six ++ Err IllegalState ∷ Err IllegalState ∷ Err IllegalState ∷ Err IllegalState ∷ Err IllegalState ∷ Err IllegalState ∷ Err IllegalState ∷ []
 unfolding life_after is_next left_of selector_refusal selects defined accepts published refusal publish_refusal after answer reply step reply_to progress_to
@@ -168,7 +172,7 @@ abbrev pub send_other : ℕ → Settings → ClientCall
 send_other now draft = Send publisher draft (Topic other_topic) now
 
 -- each topic's consumers get its messages alone
-pub second_topic : replies_to new_run (started ++ Ask (Session receiver) (CreateConsumer 2 other_topic None) ∷ send_other 1000 (text 97) ∷ send 1000 (text 98)
+pub second_topic : replies_to new_run (started ++ Ask (Session receiver) (CreateConsumer 2 (Topic other_topic) None false) ∷ send_other 1000 (text 97) ∷ send 1000 (text 98)
     ∷ receive 1 1000 ∷ receive 1 1000 ∷ receive 2 1000 ∷ receive 2 1000 ∷ [])
     ≡ six ++ ok ∷ Ok (Sent 1) ∷ Ok (Sent 2) ∷ got (text 98) 2 1000 1 ∷ none ∷ got_of (Topic other_topic) (text 97) 1 1000 1 ∷ none ∷ []
 unfolding life_after is_next left_of selector_refusal selects defined accepts published refusal publish_refusal after answer reply step reply_to progress_to
@@ -220,17 +224,18 @@ second_list_alone = refl
 -- both connections and sessions, of which session 1.1 has that mode, consumer 1 of the topic, and connection 1 starts
 abbrev pub started_in : Mode → List ClientCall
 started_in mode =
-    Ask (Connection 1) Open ∷ Ask (Connection 2) Open ∷ Ask (Session receiver) (CreateSession mode) ∷ Ask (Session publisher) (CreateSession Auto)
-    ∷ Ask (Session receiver) (CreateConsumer 1 topic None) ∷ Ask (Connection 1) Start ∷ []
+    Ask (Connection 1) (Open None) ∷ Ask (Connection 2) (Open None) ∷ Ask (Session receiver) (CreateSession mode) ∷ Ask (Session publisher) (CreateSession Auto)
+    ∷ Ask (Session receiver) (CreateConsumer 1 (Topic topic) None false) ∷ Ask (Connection 1) Start ∷ []
 
 -- a session of the receiver's connection asks
 abbrev pub asks : Request → ClientCall
 asks request = Ask (Session receiver) request
 
--- what is not acknowledged comes again after a recovery, counted; what is acknowledged does not
-pub recover_and_acknowledge : replies_to new_run (started_in Client ++ send 1000 (text 97) ∷ send 1000 (text 98) ∷ receive 1 1000 ∷ receive 1 1000 ∷ asks Recover ∷ receive 1 1000 ∷ receive 1 1000 ∷ asks Acknowledge ∷ asks Recover ∷ receive 1 1000 ∷ [])
-    ≡ six ++ Ok (Sent 1) ∷ Ok (Sent 2) ∷ got (text 97) 1 1000 1 ∷ got (text 98) 2 1000 1 ∷ ok ∷ got (text 97) 1 1000 2 ∷ got (text 98) 2 1000 2 ∷ ok ∷ ok ∷ none ∷ []
-unfolding life_after is_next left_of selector_refusal selects defined accepts published refusal publish_refusal after answer reply step reply_to progress_to
+-- what is not acknowledged comes again after a recovery, counted; what is acknowledged does not; and there is no
+-- transaction to be committed
+pub recover_and_acknowledge : replies_to new_run (started_in Client ++ send 1000 (text 97) ∷ send 1000 (text 98) ∷ receive 1 1000 ∷ receive 1 1000 ∷ asks Recover ∷ receive 1 1000 ∷ receive 1 1000 ∷ asks Acknowledge ∷ asks Recover ∷ receive 1 1000 ∷ CommitSession receiver ∷ [])
+    ≡ six ++ Ok (Sent 1) ∷ Ok (Sent 2) ∷ got (text 97) 1 1000 1 ∷ got (text 98) 2 1000 1 ∷ ok ∷ got (text 97) 1 1000 2 ∷ got (text 98) 2 1000 2 ∷ ok ∷ ok ∷ none ∷ Err IllegalState ∷ []
+unfolding life_after is_next left_of selector_refusal selects defined accepts published refusal publish_refusal commit_refusal after answer reply step reply_to progress_to
 recover_and_acknowledge = refl
 
 -- lazily acknowledged, a message does not come again
@@ -252,14 +257,173 @@ unfolding life_after is_next left_of selector_refusal selects defined accepts pu
 limit_of_one = refl
 
 -- a closed consumer's subscription ends with what is out of it
-pub closed_consumer_ends : replies_to new_run (started_in Client ++ send 1000 (text 97) ∷ receive 1 1000 ∷ asks (CloseConsumer 1) ∷ asks Recover ∷ asks (CreateConsumer 2 topic None) ∷ receive 2 1000 ∷ receive 1 1000 ∷ asks (CloseConsumer 1) ∷ [])
+pub closed_consumer_ends : replies_to new_run (started_in Client ++ send 1000 (text 97) ∷ receive 1 1000 ∷ asks (CloseConsumer 1) ∷ asks Recover ∷ asks (CreateConsumer 2 (Topic topic) None false) ∷ receive 2 1000 ∷ receive 1 1000 ∷ asks (CloseConsumer 1) ∷ [])
     ≡ six ++ Ok (Sent 1) ∷ got (text 97) 1 1000 1 ∷ ok ∷ ok ∷ ok ∷ none ∷ Err IllegalState ∷ ok ∷ []
 unfolding life_after is_next left_of selector_refusal selects defined accepts published refusal publish_refusal after answer reply step reply_to progress_to
 closed_consumer_ends = refl
 
 -- what is closed may be closed again, and nothing else; numbers are not free again
 pub closed_sessions : replies_to new_run (started ++ asks CloseSession ∷ asks CloseSession ∷ asks (CloseConsumer 7) ∷ receive 1 1000 ∷ asks Recover ∷ asks (CreateSession Auto)
-    ∷ Ask (Connection 1) CloseConnection ∷ Ask (Connection 1) CloseConnection ∷ Ask (Connection 1) Start ∷ Ask (Connection 1) Open ∷ Ask (Session (record { connection = 1; number = 9 })) CloseSession ∷ Ask (Connection 3) CloseConnection ∷ [])
+    ∷ Ask (Connection 1) CloseConnection ∷ Ask (Connection 1) CloseConnection ∷ Ask (Connection 1) Start ∷ Ask (Connection 1) (Open None) ∷ Ask (Session (record { connection = 1; number = 9 })) CloseSession ∷ Ask (Connection 3) CloseConnection ∷ [])
     ≡ six ++ ok ∷ ok ∷ ok ∷ Err IllegalState ∷ Err IllegalState ∷ Err IllegalState ∷ ok ∷ ok ∷ Err IllegalState ∷ Err IllegalState ∷ ok ∷ Err IllegalState ∷ []
 unfolding life_after is_next left_of selector_refusal selects defined accepts published refusal publish_refusal after answer reply step reply_to progress_to
 closed_sessions = refl
+
+-- Transactions
+
+-- a transacted session acknowledges nothing, and recovers only by a rollback; another session has none
+pub no_recovery_in_transaction : replies_to new_run (started_in Transacted ++ send 1000 (text 97) ∷ receive 1 1000 ∷ asks Acknowledge ∷ asks Recover ∷ asks Rollback ∷ receive 1 1000 ∷ Ask (Session publisher) Rollback ∷ [])
+    ≡ six ++ Ok (Sent 1) ∷ got (text 97) 1 1000 1 ∷ ok ∷ Err IllegalState ∷ ok ∷ got (text 97) 1 1000 2 ∷ Err IllegalState ∷ []
+unfolding life_after is_next left_of selector_refusal selects defined accepts published refusal publish_refusal after answer reply step reply_to progress_to
+no_recovery_in_transaction = refl
+
+-- session 2.2, which sends too
+abbrev pub second_publisher : SessionId
+second_publisher = record { connection = 2; number = 2 }
+
+-- two transacted sessions send, and commit one after the other
+abbrev pub interleaved_calls : List ClientCall
+interleaved_calls =
+    Ask (Connection 1) (Open None) ∷ Ask (Connection 2) (Open None) ∷ Ask (Session receiver) (CreateSession Auto) ∷ Ask (Session publisher) (CreateSession Transacted) ∷ Ask (Session second_publisher) (CreateSession Transacted)
+    ∷ Ask (Session receiver) (CreateConsumer 1 (Topic topic) None false) ∷ Ask (Connection 1) Start ∷ send 1000 (text 97) ∷ Send second_publisher (text 98) (Topic topic) 1000 ∷ CommitSession second_publisher
+    ∷ send 1000 (text 99) ∷ CommitSession publisher ∷ receive 1 1000 ∷ receive 1 1000 ∷ receive 1 1000 ∷ receive 1 1000 ∷ []
+
+-- the reply to a receive that gets the message of that draft and number from session 2.2
+abbrev pub got_of_second : Settings → ℕ → Result Answer Refusal
+got_of_second draft n = Ok (Delivered (record {
+  message = protected (message_of draft (Topic topic) (record { opening = 1; session = second_publisher }) n 1000);
+  count = 1;
+}))
+
+-- the replies to these calls
+abbrev pub interleaved_replies : List (Result Answer Refusal)
+interleaved_replies = six ++ ok ∷ Ok (Sent 1) ∷ Ok (Sent 1) ∷ ok ∷ Ok (Sent 2) ∷ ok ∷ got_of_second (text 98) 1 ∷ got (text 97) 1 1000 1 ∷ got (text 99) 2 1000 1 ∷ none ∷ []
+
+-- they come in the order of the commits
+pub interleaved_commits : replies_to new_run interleaved_calls ≡ interleaved_replies
+unfolding life_after is_next left_of selector_refusal selects defined accepts published refusal publish_refusal commit_refusal after after_commit answer reply step reply_to progress_to
+interleaved_commits = refl
+
+-- what the consumer's subscription answers alone
+pub interleaved_alone : alone (Own receiver 1) (new_core 1 100000) (entries_of 1 interleaved_calls interleaved_replies)
+    ≡ (5, ok) ∷ (12, got_of_second (text 98) 1) ∷ (13, got (text 97) 1 1000 1) ∷ (14, got (text 99) 2 1000 1) ∷ (15, none) ∷ []
+unfolding life_after own_life is_next left_of selector_refusal selects defined accepts published refusal publish_refusal commit_refusal after after_commit answer reply step reply_to progress_to life_after_entry committed lone_of lone_did is_answered feed
+interleaved_alone = refl
+
+-- a rollback gives back what was received, counted, and drops what was sent: a commit after it publishes nothing
+abbrev pub rollback_calls : List ClientCall
+rollback_calls =
+    started_in Transacted ++ Ask (Session publisher) (CreateConsumer 1 (Topic other_topic) None false) ∷ Ask (Connection 2) Start
+    ∷ send 1000 (text 97) ∷ receive 1 1000 ∷ Send receiver (text 120) (Topic other_topic) 1000 ∷ asks Rollback ∷ receive 1 1000 ∷ CommitSession receiver ∷ receive 1 1000 ∷ Ask (Session publisher) (Receive 1 1000) ∷ []
+
+-- the replies to these calls
+abbrev pub rollback_replies : List (Result Answer Refusal)
+rollback_replies = six ++ ok ∷ ok ∷ Ok (Sent 1) ∷ got (text 97) 1 1000 1 ∷ Ok (Sent 1) ∷ ok ∷ got (text 97) 1 1000 2 ∷ ok ∷ none ∷ none ∷ []
+
+-- they are the machine's replies
+pub rollback_redelivers : replies_to new_run rollback_calls ≡ rollback_replies
+unfolding life_after is_next left_of selector_refusal selects defined accepts published refusal publish_refusal commit_refusal after after_commit answer reply step reply_to progress_to
+rollback_redelivers = refl
+
+-- what the two consumers' subscriptions answer alone
+pub rollback_alone : alone (Own receiver 1) (new_core 1 100000) (entries_of 1 rollback_calls rollback_replies)
+    ≡ (4, ok) ∷ (9, got (text 97) 1 1000 1) ∷ (12, got (text 97) 1 1000 2) ∷ (14, none) ∷ []
+unfolding life_after own_life is_next left_of selector_refusal selects defined accepts published refusal publish_refusal commit_refusal after after_commit answer reply step reply_to progress_to life_after_entry committed lone_of lone_did is_answered feed
+rollback_alone = refl
+
+-- the same of the second consumer
+pub rolled_back_never_comes : alone (Own publisher 1) (new_core 1 100000) (entries_of 1 rollback_calls rollback_replies) ≡ (6, ok) ∷ (15, none) ∷ []
+unfolding life_after own_life is_next left_of selector_refusal selects defined accepts published refusal publish_refusal commit_refusal after after_commit answer reply step reply_to progress_to life_after_entry committed lone_of lone_did is_answered feed
+rolled_back_never_comes = refl
+
+-- a commit settles what was received before what was sent comes: of two rows one is free then, and the second message
+-- is missed
+abbrev pub held_limit_calls : List ClientCall
+held_limit_calls =
+    started_in Transacted ++ send 1000 (text 97) ∷ send 1000 (text 98) ∷ receive 1 1000 ∷ Send receiver (text 99) (Topic topic) 1000 ∷ Send receiver (text 100) (Topic topic) 1000 ∷ CommitSession receiver
+    ∷ asks (Missed 1) ∷ receive 1 1000 ∷ receive 1 1000 ∷ receive 1 1000 ∷ []
+
+-- the reply to a receive that gets the message of that draft and number from session 1.1
+abbrev pub got_of_own : Settings → ℕ → Result Answer Refusal
+got_of_own draft n = Ok (Delivered (record {
+  message = protected (message_of draft (Topic topic) (record { opening = 1; session = receiver }) n 1000);
+  count = 1;
+}))
+
+-- the replies to these calls, where a subscription may hold two rows
+abbrev pub held_limit_replies : List (Result Answer Refusal)
+held_limit_replies = six ++ Ok (Sent 1) ∷ Ok (Sent 2) ∷ got (text 97) 1 1000 1 ∷ Ok (Sent 1) ∷ Ok (Sent 2) ∷ ok ∷ Ok (MissedSoFar 1) ∷ got (text 98) 2 1000 1 ∷ got_of_own (text 99) 1 ∷ none ∷ []
+
+-- they are the machine's replies
+pub held_limit : replies_to (begun (new_core 1 2)) held_limit_calls ≡ held_limit_replies
+unfolding life_after is_next left_of selector_refusal selects defined accepts published refusal publish_refusal commit_refusal after after_commit answer reply step reply_to progress_to
+held_limit = refl
+
+-- what the consumer's subscription answers alone
+pub held_limit_alone : alone (Own receiver 1) (new_core 1 2) (entries_of 1 held_limit_calls held_limit_replies)
+    ≡ (4, ok) ∷ (8, got (text 97) 1 1000 1) ∷ (12, Ok (MissedSoFar 1)) ∷ (13, got (text 98) 2 1000 1) ∷ (14, got_of_own (text 99) 1) ∷ (15, none) ∷ []
+unfolding life_after own_life is_next left_of selector_refusal selects defined accepts published refusal publish_refusal commit_refusal after after_commit answer reply step reply_to progress_to life_after_entry committed lone_of lone_did is_answered feed
+held_limit_alone = refl
+
+-- what a session sent before it or its connection is closed never comes, and a session that is closed commits nothing
+pub closed_in_transaction : replies_to new_run (Ask (Connection 1) (Open None) ∷ Ask (Connection 2) (Open None) ∷ Ask (Session receiver) (CreateSession Auto) ∷ Ask (Session publisher) (CreateSession Transacted) ∷ Ask (Session second_publisher) (CreateSession Transacted)
+    ∷ Ask (Session receiver) (CreateConsumer 1 (Topic topic) None false) ∷ Ask (Connection 1) Start ∷ send 1000 (text 97) ∷ Send second_publisher (text 98) (Topic topic) 1000
+    ∷ Ask (Session publisher) CloseSession ∷ CommitSession publisher ∷ Ask (Connection 2) CloseConnection ∷ CommitSession second_publisher ∷ receive 1 1000 ∷ [])
+    ≡ six ++ ok ∷ Ok (Sent 1) ∷ Ok (Sent 1) ∷ ok ∷ Err IllegalState ∷ ok ∷ Err IllegalState ∷ none ∷ []
+unfolding life_after is_next left_of selector_refusal selects defined accepts published refusal publish_refusal commit_refusal after after_commit answer reply step reply_to progress_to
+closed_in_transaction = refl
+
+-- a state with a transacted session 1.1 and a session 2.1 of mode Auto
+abbrev pub two_sessions : State
+two_sessions = (progress_after new_run (started_in Transacted)).state
+
+-- the message of that opening and session
+abbrev pub stamped_by : ℕ → SessionId → List Content
+stamped_by opening s = message_of (text 97) (Topic topic) (record { opening = opening; session = s }) 1 1000 ∷ []
+
+-- a publication is of a session that is not transacted, and a commit of one that is; each message was stamped by that
+-- session in this opening
+pub foreign_stamps :
+    reply two_sessions (Session receiver) (Publish (stamped_by 1 receiver)) ∷ reply two_sessions (Session publisher) (Publish (stamped_by 1 receiver)) ∷ reply two_sessions (Session publisher) (Publish (stamped_by 2 publisher))
+    ∷ reply two_sessions (Session publisher) (Publish (stamped_by 1 publisher)) ∷ reply two_sessions (Session publisher) (Commit (stamped_by 1 publisher)) ∷ reply two_sessions (Session receiver) (Commit (stamped_by 1 publisher))
+    ∷ reply two_sessions (Session receiver) (Commit (stamped_by 2 receiver)) ∷ reply two_sessions (Session receiver) (Commit (stamped_by 1 receiver)) ∷ []
+    ≡ Err IllegalState ∷ Err IllegalState ∷ Err IllegalState ∷ ok ∷ Err IllegalState ∷ Err IllegalState ∷ Err IllegalState ∷ ok ∷ []
+unfolding life_after is_next left_of selector_refusal selects defined accepts published refusal publish_refusal commit_refusal after after_commit answer reply step reply_to progress_to
+foreign_stamps = refl
+
+-- two events of the two sessions: a commit that is done, and one that is refused
+abbrev pub two_commits : List Event
+two_commits =
+    record { step = record { who = Session receiver; call = Commit (stamped_by 1 receiver) }; reply = ok }
+    ∷ record { step = record { who = Session publisher; call = Commit (stamped_by 1 publisher) }; reply = Err IllegalState } ∷ []
+
+-- they are a legal list, and expand to the first one's message and its commit
+pub legal_commits : IsLegal two_sessions two_commits
+unfolding life_after is_next left_of selector_refusal selects defined accepts published refusal publish_refusal commit_refusal after after_commit answer reply step reply_to progress_to
+legal_commits = (refl, (refl, tt))
+
+-- the record of these events
+pub expanded_commits : expand two_commits ≡ map (λ m. SentEntry m) (stamped_by 1 receiver) ++ Committed receiver ∷ []
+expanded_commits = refl
+
+-- one message from a publisher to a subscriber, and beside it a transacted session that sends, rolls back and sends again
+abbrev pub disturbed_calls : List ClientCall
+disturbed_calls =
+    started ++ Ask (Session second_publisher) (CreateSession Transacted) ∷ Send second_publisher (text 98) (Topic topic) 1000 ∷ send 1000 (text 97) ∷ Ask (Session second_publisher) Rollback
+    ∷ Send second_publisher (text 99) (Topic topic) 1000 ∷ receive 1 1000 ∷ receive 1 1000 ∷ []
+
+-- the replies to these calls
+abbrev pub disturbed_replies : List (Result Answer Refusal)
+disturbed_replies = six ++ ok ∷ Ok (Sent 1) ∷ Ok (Sent 1) ∷ ok ∷ Ok (Sent 2) ∷ got (text 97) 1 1000 1 ∷ none ∷ []
+
+-- they are the machine's replies
+pub disturbed : replies_to new_run disturbed_calls ≡ disturbed_replies
+unfolding life_after is_next left_of selector_refusal selects defined accepts published refusal publish_refusal commit_refusal after after_commit answer reply step reply_to progress_to
+disturbed = refl
+
+-- the consumer's subscription is fed what it is fed where there is no such session
+pub fed_alike :
+    in_order (feed_of (Own receiver 1) (new_core 1 100000) (entries_of 1 disturbed_calls disturbed_replies))
+    ≡ in_order (feed_of (Own receiver 1) (new_core 1 100000) (entries_of 1 first_message_calls first_message_replies))
+unfolding life_after own_life is_next left_of selector_refusal selects defined accepts published refusal publish_refusal commit_refusal after after_commit answer reply step reply_to progress_to life_after_entry committed lone_of lone_did is_answered feed
+fed_alike = refl

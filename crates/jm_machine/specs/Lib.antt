@@ -1,11 +1,10 @@
 pub mod Owns
 pub mod Life
 pub mod Rows
-pub mod Selectors
 pub mod Machine
 pub mod Wants
-pub mod Client
 pub mod Entries
+pub mod Client
 pub mod Lone
 pub mod Isolation
 pub mod Examples

@@ -3,7 +3,8 @@
 use Rattle.std.specs.Prelude.{ℕ, Bool, true, false, ◌&&◌, not, ◌==◌, List, [], ◌∷◌, ◌++◌, filter, map, find, Option, Some, None, is_some, if◌then◌else◌}
 use Rattle.jm_base.specs.declared.mode.Mode.{Mode}
 use Rattle.jm_dest.specs.declared.session.SessionId.{SessionId}
-use Rattle.jm_dest.specs.Names.{session_eq}
+use Rattle.std.specs.List.{list_any}
+use Rattle.jm_dest.specs.Names.{client_eq, session_eq}
 use Rattle.jm_machine.specs.declared.call.Who.{Who}
 use Rattle.jm_machine.specs.declared.call.Who.TheVariants.{Connection, Session}
 use Rattle.jm_machine.specs.declared.call.Request.{Request}
@@ -40,9 +41,23 @@ abbrev pub is_started_connection : Option ConnectionState → Bool
 is_started_connection None = false
 is_started_connection (Some x) = x.is_started
 
--- the client identifier of the connection of that number: none, since no call gives one
+-- the client identifier of a connection that was opened, where it has one
+abbrev pub client_at : Option ConnectionState → Option (List ℕ)
+client_at None = None
+client_at (Some x) = x.client
+
+-- the client identifier of the connection of that number, where it was opened and has one
 abbrev pub client_of : Life → ℕ → Option (List ℕ)
-client_of life c = None
+client_of life c = client_at (connection_of life.connections c)
+
+-- an open connection has the client identifier
+abbrev pub is_client_open : List ConnectionState → List ℕ → Bool
+is_client_open connections client = list_any (λ x. x.is_open && client_eq x.client (Some client)) connections
+
+-- a client identifier that may be absent is there, and an open connection has it (Jakarta Messaging 3.1, section 6.1.2)
+abbrev pub is_client_taken : Life → Option (List ℕ) → Bool
+is_client_taken life None = false
+is_client_taken life (Some client) = is_client_open life.connections client
 
 -- the mode of a session that is open
 abbrev pub open_mode : Option SessionState → Option Mode
@@ -84,7 +99,7 @@ close_sessions p sessions = map (closed_where p) sessions
 -- the connections and sessions after a call by a connection that was accepted, or after any call by a
 -- session
 unfoldable pub life_after : Life → Who → Request → Life
-life_after life (Connection c) Open = record life { connections = life.connections ++ record { id = c; is_started = false; is_open = true } ∷ [] }
+life_after life (Connection c) (Open client) = record life { connections = life.connections ++ record { id = c; client = client; is_started = false; is_open = true } ∷ [] }
 life_after life (Connection c) Start = record life { connections = with_started c true life.connections }
 life_after life (Connection c) Stop = record life { connections = with_started c false life.connections }
 life_after life (Connection c) CloseConnection = record {

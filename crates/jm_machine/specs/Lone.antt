@@ -4,23 +4,25 @@ use Rattle.jm_base.specs.declared.refusal.Refusal.{Refusal}
 use Rattle.jm_dest.specs.declared.session.SessionId.{SessionId}
 use Rattle.jm_dest.specs.declared.key.Key.{Key}
 use Rattle.jm_dest.specs.declared.key.Key.TheVariants.{Own, SharedOwn, Durable, Queue as OfQueue}
+use Rattle.jm_dest.specs.declared.destination.Destination.{Destination}
+use Rattle.jm_dest.specs.declared.destination.Destination.TheVariants.{Queue, Topic}
 use Rattle.jm_dest.specs.Names.{session_eq}
 use Rattle.jm_dest.specs.Keys.{key_eq}
 use Rattle.jm_header.specs.declared.content.Content.{Content}
 use Rattle.jm_machine.specs.declared.call.Who.{Who}
 use Rattle.jm_machine.specs.declared.call.Who.TheVariants.{Connection, Session}
 use Rattle.jm_machine.specs.declared.call.Request.{Request}
-use Rattle.jm_machine.specs.declared.call.Request.TheVariants.{CloseConnection, CreateSession, CloseSession, CreateConsumer, CloseConsumer, Receive, Acknowledge, Recover, Missed}
+use Rattle.jm_machine.specs.declared.call.Request.TheVariants.{CloseConnection, CreateSession, CloseSession, CreateConsumer, CloseConsumer, Receive, Acknowledge, Recover, Rollback, Missed}
 use Rattle.jm_machine.specs.declared.answer.Answer.{Answer}
 use Rattle.jm_machine.specs.declared.entry.Entry.{Entry}
-use Rattle.jm_machine.specs.declared.entry.Entry.TheVariants.{Asked, Sent}
+use Rattle.jm_machine.specs.declared.entry.Entry.TheVariants.{Asked, Sent, Committed}
 use Rattle.jm_machine.specs.declared.state.Row.{Row}
 use Rattle.jm_machine.specs.declared.state.Consumer.{Consumer}
 use Rattle.jm_machine.specs.declared.state.Definition.{Definition}
 use Rattle.jm_machine.specs.Owns.{is_own, is_own_connection}
 use Rattle.jm_machine.specs.Life.{Life, mode_of, is_started, life_after, own_life}
 use Rattle.jm_machine.specs.Rows.{fresh, left_of, is_out, given_back, deliver}
-use Rattle.jm_machine.specs.Machine.{State, station_of, definition_of, missed_of, rows_of, Publisher, publisher_of, accepts, is_full, one_missed, consumer_of, new_consumer, defined, of_session, of_connection, of_number, closed_consumer, ends, is_client, Holding, refusal, reply_by}
+use Rattle.jm_machine.specs.Machine.{State, station_of, definition_of, missed_of, rows_of, Publisher, publisher_of, accepts, is_full, one_missed, consumer_of, key_made, new_consumer, defined, of_session, of_connection, of_number, closed_consumer, ends, is_client, is_transacted, Holding, refusal, reply_by}
 use Rattle.jm_machine.specs.Entries.{life_after_entry, committed}
 
 -- what belongs to an unshared topic subscription: its key, its own sessions, and its consumers' numbers
@@ -38,7 +40,7 @@ own_sessions (Durable client name) = []
 
 -- the number that a creating request gives to its consumer
 abbrev pub number_made : Request → Option ℕ
-number_made (CreateConsumer c topic selector) = Some c
+number_made (CreateConsumer c destination selector no_local) = Some c
 number_made _ = None
 
 -- a number that may be absent is there, and is that one
@@ -53,7 +55,7 @@ creates s c _ = false
 
 -- a session's creating request names the key by its own words
 abbrev pub names_key : Key → SessionId → Request → Bool
-names_key key s (CreateConsumer c topic selector) = key_eq (Own s c) key
+names_key key s (CreateConsumer c destination selector no_local) = key_eq (key_made s c destination) key
 names_key key s _ = false
 
 -- the entry is a creating call that names the key
@@ -109,9 +111,10 @@ lone_of scope state = record {
   rows = rows_of (station_of scope.key state.stations);
 }
 
--- what it is fed: a call, and a publication that comes to it
+-- what it is fed: a call, a commit of one of its own sessions, which settles, and a publication that comes to it
 pub data Item : Type 0 where
   Called : (who : Who) → (request : Request) → Item
+  Settled : (session : SessionId) → Item
   Came : (message : Content) → Item
 
 -- an empty subscription in place of any other
@@ -142,7 +145,12 @@ lone_life who request lone = record lone { life = life_after lone.life who reque
 
 -- a consumer joins
 abbrev pub lone_joined : SessionId → ℕ → Key → Lone → Lone
-lone_joined s c key lone = record lone { consumers = lone.consumers ++ new_consumer s c key ∷ [] }
+lone_joined s c key lone = record lone { consumers = lone.consumers ++ new_consumer s c key None ∷ [] }
+
+-- a consumer of the topic is made, with a new subscription; one of a queue is no consumer of a subscription
+abbrev pub lone_made : Key → SessionId → ℕ → Destination → Option (List ℕ) → Bool → Lone → Lone
+lone_made key s c (Queue name) selector no_local lone = lone
+lone_made key s c (Topic name) selector no_local lone = lone_joined s c key (lone_put (defined name selector no_local) lone)
 
 -- a consumer receives
 abbrev pub lone_receive : (Row → List Row) → ℕ → Lone → Lone
@@ -154,11 +162,12 @@ lone_did key lone (Connection c) CloseConnection = lone_closed key (of_connectio
 lone_did key lone (Connection c) request = lone_life (Connection c) request lone
 lone_did key lone (Session s) (CreateSession mode) = lone_life (Session s) (CreateSession mode) lone
 lone_did key lone (Session s) CloseSession = lone_closed key (of_session s) (lone_returned (of_session s) (lone_life (Session s) CloseSession lone))
-lone_did key lone (Session s) (CreateConsumer c topic selector) = lone_joined s c key (lone_put (defined topic selector) lone)
+lone_did key lone (Session s) (CreateConsumer c destination selector no_local) = lone_made key s c destination selector no_local lone
 lone_did key lone (Session s) (Receive c now) = if is_started lone.life s.connection then lone_receive (left_of (mode_of lone.life s) s c) now lone else lone
 lone_did key lone (Session s) (CloseConsumer c) = lone_closed key (of_number s c) lone
 lone_did key lone (Session s) Acknowledge = if is_client (mode_of lone.life s) then lone_settled (of_session s) lone else lone
 lone_did key lone (Session s) Recover = lone_returned (of_session s) lone
+lone_did key lone (Session s) Rollback = lone_returned (of_session s) lone
 lone_did key lone (Session s) _ = lone
 
 -- a consumer's number belongs to the key
@@ -168,7 +177,7 @@ belongs scope s c = is_own scope.sessions s && scope.numbers s c
 -- whether a request that creates a consumer names the key by its own words, and whether one that names a
 -- consumer names one of the key's; of any other request nothing
 abbrev pub about : Scope → SessionId → Request → Option Bool
-about scope s (CreateConsumer c topic selector) = Some (is_own scope.sessions s && names_key scope.key s (CreateConsumer c topic selector))
+about scope s (CreateConsumer c destination selector no_local) = Some (is_own scope.sessions s && names_key scope.key s (CreateConsumer c destination selector no_local))
 about scope s (CloseConsumer c) = Some (belongs scope s c)
 about scope s (Receive c now) = Some (belongs scope s c)
 about scope s (Missed c) = Some (belongs scope s c)
@@ -217,6 +226,7 @@ lone_brought key m lone =
 -- what it holds after an item
 abbrev pub lone_after : Scope → Lone → Item → Lone
 lone_after scope lone (Called who request) = if takes_up scope lone who request then lone_did scope.key lone who request else lone
+lone_after scope lone (Settled s) = if is_transacted (mode_of lone.life s) then lone_settled (of_session s) lone else lone
 lone_after scope lone (Came m) = lone_brought scope.key m lone
 
 -- what it holds after a list of items
@@ -227,6 +237,7 @@ lone_end scope lone (i ∷ items) = lone_end scope (lone_after scope lone i) ite
 -- what it answers to an item, where that is a call that it answers
 abbrev pub lone_told : Scope → Lone → Item → Option (Result Answer Refusal)
 lone_told scope lone (Called who request) = if is_answered scope who request then Some (lone_reply lone who request) else None
+lone_told scope lone (Settled s) = None
 lone_told scope lone (Came m) = None
 
 -- a reply beside its place, where there is one
@@ -244,10 +255,11 @@ abbrev pub is_own_call : Scope → Who → Result Answer Refusal → Bool
 is_own_call scope (Connection c) told = is_own_connection scope.sessions c && is_ok told
 is_own_call scope (Session s) told = is_own scope.sessions s
 
--- an entry's own call, where it is one
+-- an entry's own call or commit, where it is one
 abbrev pub own_items : Scope → Entry → List Item
 own_items scope (Asked who request told) = if is_own_call scope who told then Called who request ∷ [] else []
 own_items scope (Sent m) = []
+own_items scope (Committed s) = if is_own scope.sessions s then Settled s ∷ [] else []
 
 -- the subscription accepts a publication, where there is one
 abbrev pub lone_accepts : Key → Option Definition → Publisher → Content → Bool
@@ -263,7 +275,7 @@ abbrev pub accepted : Key → Option Definition → Life → List Content → Li
 accepted key d life messages = filter (λ m. lone_accepts key d (publisher_of life m) m) messages
 
 -- what an entry feeds to it, with the connections and sessions of all and the entries before, newest
--- first: its own call, and the committed publications that it accepts
+-- first: its own call or commit, and the committed publications that it accepts
 abbrev pub fed : Scope → Life → List Entry → Lone → Entry → List Item
 fed scope life before lone e = own_items scope e ++ came (accepted scope.key lone.definition life (committed life before e))
 
@@ -283,6 +295,7 @@ feed scope place life before lone (e ∷ entries) =
 abbrev pub told : Scope → Entry → Option (Result Answer Refusal)
 told scope (Asked who request r) = if is_answered scope who request then Some r else None
 told scope (Sent m) = None
+told scope (Committed s) = None
 
 -- the replies to its calls, as the entries have them, each beside its place, the first entry being at
 -- that place

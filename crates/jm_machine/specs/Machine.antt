@@ -2,24 +2,24 @@
 use Rattle.std.specs.Prelude.{ℕ, ◌+◌, Bool, true, false, ◌&&◌, ◌||◌, not, ◌==◌, nat_le, nat_lt, List, [], ◌∷◌, ◌++◌, filter, map, find, length, Option, Some, None, is_some, Result, Ok, Err, if◌then◌else◌}
 use Rattle.std.specs.List.{list_all, list_any}
 use Rattle.jm_base.specs.declared.mode.Mode.{Mode}
-use Rattle.jm_base.specs.declared.mode.Mode.TheVariants.{Auto, Client, Dups}
+use Rattle.jm_base.specs.declared.mode.Mode.TheVariants.{Auto, Client, Dups, Transacted}
 use Rattle.jm_base.specs.declared.refusal.Refusal.{Refusal}
-use Rattle.jm_base.specs.declared.refusal.Refusal.TheVariants.{IllegalState, Exhausted}
+use Rattle.jm_base.specs.declared.refusal.Refusal.TheVariants.{IllegalState, InvalidClientId, Exhausted}
 use Rattle.jm_dest.specs.declared.session.SessionId.{SessionId}
 use Rattle.jm_dest.specs.declared.destination.Destination.{Destination}
 use Rattle.jm_dest.specs.declared.destination.Destination.TheVariants.{Queue, Topic}
 use Rattle.jm_dest.specs.declared.key.Key.{Key}
 use Rattle.jm_dest.specs.declared.key.Key.TheVariants.{Own, SharedOwn, Durable, Queue as OfQueue}
-use Rattle.jm_dest.specs.Names.{text_eq, session_eq}
+use Rattle.jm_dest.specs.Names.{text_eq, client_eq, session_eq}
 use Rattle.jm_dest.specs.Numbers.{long_end}
 use Rattle.jm_dest.specs.Keys.{key_eq}
 use Rattle.jm_header.specs.declared.content.Content.{Content}
 use Rattle.jm_machine.specs.declared.call.Who.{Who}
 use Rattle.jm_machine.specs.declared.call.Who.TheVariants.{Connection, Session}
 use Rattle.jm_machine.specs.declared.call.Request.{Request}
-use Rattle.jm_machine.specs.declared.call.Request.TheVariants.{Open, Start, Stop, CloseConnection, CreateSession, CloseSession, CreateConsumer, CloseConsumer, Receive, Acknowledge, Recover, Missed}
+use Rattle.jm_machine.specs.declared.call.Request.TheVariants.{Open, Start, Stop, CloseConnection, CreateSession, CloseSession, CreateConsumer, CloseConsumer, Receive, Acknowledge, Recover, Rollback, Missed}
 use Rattle.jm_machine.specs.declared.call.Call.{Call}
-use Rattle.jm_machine.specs.declared.call.Call.TheVariants.{Ask, Publish}
+use Rattle.jm_machine.specs.declared.call.Call.TheVariants.{Ask, Publish, Commit}
 use Rattle.jm_machine.specs.declared.consumers.Consumers.{Consumers}
 use Rattle.jm_machine.specs.declared.consumers.Consumers.TheVariants.{OfConnection, OfSession, One}
 use Rattle.jm_machine.specs.declared.answer.Answer.{Answer}
@@ -29,9 +29,9 @@ use Rattle.jm_machine.specs.declared.state.PlacedRow.{PlacedRow}
 use Rattle.jm_machine.specs.declared.state.Station.{Station}
 use Rattle.jm_machine.specs.declared.state.Definition.{Definition}
 use Rattle.jm_machine.specs.declared.state.Consumer.{Consumer}
-use Rattle.jm_machine.specs.Life.{Life, connection_of, session_of, client_of, is_open_connection, is_closed_connection, mode_of, is_started, is_new_session, life_after}
-use Rattle.jm_machine.specs.Selectors.{selector_read, selector_refusal, standing, read_selects}
-use Rattle.jm_machine.specs.Rows.{protected, fresh, is_out, given_back, live, next, raised, left_of, bare, deliver_placed, InOrder}
+use Rattle.jm_machine.specs.Life.{Life, connection_of, session_of, client_of, is_open_connection, is_closed_connection, is_client_taken, mode_of, is_started, is_new_session, life_after}
+use Rattle.jm_selector.specs.Selectors.{selector_read, selector_refusal, standing, read_selects}
+use Rattle.jm_machine.specs.Rows.{protected, fresh, is_out, given_back, live, next, raised, left_of, bare, chosen, deliver_placed, deliver_chosen, InOrder}
 
 -- all that the provider holds
 pub record State : Type 0 where
@@ -44,12 +44,14 @@ pub record State : Type 0 where
   pub consumers : List Consumer
   -- the subscriptions, each with its rows, in order of creation
   pub stations : List Station
+  -- what each queue holds, by its name: rows by place
+  pub queues : List ℕ → List PlacedRow
   -- the place of the next publication
   pub next_place : ℕ
 
 -- the state of a new core, in that opening and with that limit
 abbrev pub new_core : ℕ → ℕ → State
-new_core opening limit = record { opening = opening; limit = limit; life = record { connections = []; sessions = [] }; consumers = []; stations = []; next_place = 1 }
+new_core opening limit = record { opening = opening; limit = limit; life = record { connections = []; sessions = [] }; consumers = []; stations = []; queues = λ name. []; next_place = 1 }
 
 -- what is held under the key
 abbrev pub station_of : Key → List Station → Option Station
@@ -83,6 +85,21 @@ at_key key f (x ∷ stations) = if key_eq x.key key then f x ∷ stations else x
 abbrev pub without : Key → List Station → List Station
 without key stations = filter (λ x. not (key_eq x.key key)) stations
 
+-- other rows at the queue of that name
+abbrev pub at_queue : List ℕ → (List PlacedRow → List PlacedRow) → (List ℕ → List PlacedRow) → List ℕ → List PlacedRow
+at_queue name f queues other = if text_eq name other then f (queues other) else queues other
+
+-- other rows at the queue whose key it is
+abbrev pub at_queue_of : Key → (List PlacedRow → List PlacedRow) → (List ℕ → List PlacedRow) → List ℕ → List PlacedRow
+at_queue_of (OfQueue name) f queues = at_queue name f queues
+at_queue_of (Own s c) f queues = queues
+at_queue_of (SharedOwn client name) f queues = queues
+at_queue_of (Durable client name) f queues = queues
+
+-- other rows at each queue
+abbrev pub at_queues : (List PlacedRow → List PlacedRow) → (List ℕ → List PlacedRow) → List ℕ → List PlacedRow
+at_queues f queues name = f (queues name)
+
 -- the rows of each station stand by place, below the next place
 abbrev pub AllInOrder : ℕ → List Station → Type 0
 AllInOrder next_place [] = Unit {0}
@@ -104,10 +121,19 @@ pub record Publisher : Type 0 where
 abbrev pub publisher_of : Life → Content → Publisher
 publisher_of life m = record { connection = m.sender.session.connection; client = client_of life m.sender.session.connection }
 
--- a subscription of the key accepts a publication: the topics are equal, and the selector is absent or
--- TRUE for the message (Jakarta Messaging 3.1, sections 4.2 and 3.8.1), whoever publishes
+-- a publisher is local to the key: of a consumer's own subscription it is the consumer's connection, and of a durable
+-- one a connection that has the subscription's client identifier
+abbrev pub is_local : Key → Publisher → Bool
+is_local (OfQueue name) publisher = false
+is_local (Own s c) publisher = publisher.connection == s.connection
+is_local (SharedOwn client name) publisher = false
+is_local (Durable client name) publisher = is_some client && client_eq publisher.client client
+
+-- a subscription of the key accepts a publication: the topics are equal, the publisher is not local where it asks for none
+-- that is, and the selector is absent or TRUE for the message (Jakarta Messaging 3.1, sections 4.2, 8.3.1 and 3.8.1)
 unfoldable pub accepts : Key → Definition → Publisher → Content → Bool
-accepts key definition publisher m = is_to definition.topic m.destination && read_selects (selector_read definition.selector) m
+accepts key definition publisher m =
+    is_to definition.topic m.destination && (not (definition.no_local && is_local key publisher) && read_selects (selector_read definition.selector) m)
 
 -- the rows of a subscription that is not durable have a limit (ours)
 abbrev pub is_limited : Key → Bool
@@ -139,10 +165,16 @@ brought limit m place x =
 abbrev pub offered : ℕ → Publisher → Content → ℕ → Station → Station
 offered limit publisher m place x = if accepts x.key x.definition publisher m then brought limit m place x else x
 
--- a message is published: it comes to each subscription that accepts it, and takes one place
+-- a message that is sent to a queue comes to it, at its place; a queue needs no creation (ours)
+abbrev pub queued : Destination → Content → ℕ → (List ℕ → List PlacedRow) → List ℕ → List PlacedRow
+queued (Queue name) m place queues = at_queue name (λ rows. rows ++ record { place = place; row = fresh m } ∷ []) queues
+queued (Topic name) m place queues = queues
+
+-- a message is published: it comes to its queue, or to each subscription that accepts it, and takes one place
 abbrev pub with_message : State → Content → State
 with_message state m = record state {
   stations = map (offered state.limit (publisher_of state.life m) m state.next_place) state.stations;
+  queues = queued m.destination m state.next_place state.queues;
   next_place = state.next_place + 1;
 }
 
@@ -171,21 +203,41 @@ abbrev pub key_at : Option Consumer → Option Key
 key_at None = None
 key_at (Some x) = Some x.key
 
--- a new consumer
-abbrev pub new_consumer : SessionId → ℕ → Key → Consumer
-new_consumer s c key = record { session = s; id = c; key = key; is_active = true }
+-- what a consumer of the destination receives from: the queue, or a subscription of its own
+abbrev pub key_made : SessionId → ℕ → Destination → Key
+key_made s c (Queue name) = OfQueue name
+key_made s c (Topic name) = Own s c
 
--- what a topic's subscription asks for; a selector whose text holds no token is none
-unfoldable pub defined : List ℕ → Option (List ℕ) → Definition
-defined topic selector = record { topic = topic; selector = standing selector (selector_read selector) }
+-- the messages that a consumer's own selector selects, where the consumer was made; only one of a queue has a selector of
+-- its own
+abbrev pub selected_by : Option Consumer → Content → Bool
+selected_by None m = false
+selected_by (Some x) m = read_selects (selector_read x.selector) m
+
+-- a new consumer, with its selector where it receives from a queue; that of a topic's stands with the subscription
+abbrev pub new_consumer : SessionId → ℕ → Key → Option (List ℕ) → Consumer
+new_consumer s c key selector = record { session = s; id = c; key = key; selector = selector; is_active = true }
+
+-- a selector as it stands: none where its text holds no token
+abbrev pub standing_as : Option (List ℕ) → Option (List ℕ)
+standing_as selector = standing selector (selector_read selector)
+
+-- what a topic's subscription asks for
+unfoldable pub defined : List ℕ → Option (List ℕ) → Bool → Definition
+defined topic selector no_local = record { topic = topic; selector = standing_as selector; no_local = no_local }
 
 -- an empty subscription of the key, in place of any other
 abbrev pub put : Key → Definition → State → State
 put key d state = record state { stations = without key state.stations ++ record { key = key; definition = d; missed = 0; rows = [] } ∷ [] }
 
 -- a consumer joins
-abbrev pub joined : SessionId → ℕ → Key → State → State
-joined s c key state = record state { consumers = state.consumers ++ new_consumer s c key ∷ [] }
+abbrev pub joined : SessionId → ℕ → Key → Option (List ℕ) → State → State
+joined s c key selector state = record state { consumers = state.consumers ++ new_consumer s c key selector ∷ [] }
+
+-- a consumer of the destination is made: of a topic with a subscription of its own, to which no_local applies alone
+abbrev pub made : SessionId → ℕ → Destination → Option (List ℕ) → Bool → State → State
+made s c (Queue name) selector no_local state = joined s c (OfQueue name) (standing_as selector) state
+made s c (Topic name) selector no_local state = joined s c (Own s c) None (put (Own s c) (defined name selector no_local) state)
 
 -- Acknowledgement and closing
 
@@ -226,13 +278,19 @@ returned_row p x = record { place = x.place; row = given_back p x.row }
 abbrev pub returned_rows : (SessionId → ℕ → Bool) → List PlacedRow → List PlacedRow
 returned_rows p rows = map (returned_row p) rows
 
--- they are settled in all subscriptions
+-- they are settled in all subscriptions and queues
 abbrev pub settled : (SessionId → ℕ → Bool) → State → State
-settled p state = record state { stations = map (with_rows (settled_rows p)) state.stations }
+settled p state = record state {
+  stations = map (with_rows (settled_rows p)) state.stations;
+  queues = at_queues (settled_rows p) state.queues;
+}
 
--- they wait again in all subscriptions
+-- they wait again in all subscriptions and queues
 abbrev pub returned : (SessionId → ℕ → Bool) → State → State
-returned p state = record state { stations = map (with_rows (returned_rows p)) state.stations }
+returned p state = record state {
+  stations = map (with_rows (returned_rows p)) state.stations;
+  queues = at_queues (returned_rows p) state.queues;
+}
 
 -- a consumer, closed where it passes
 abbrev pub closed_consumer : (SessionId → ℕ → Bool) → Consumer → Consumer
@@ -249,7 +307,7 @@ ends p consumers (Own s c) = is_one_of p consumers (Own s c)
 ends p consumers (SharedOwn client name) = false
 ends p consumers (Durable client name) = false
 
--- the consumers that pass close
+-- the consumers that pass close; what is out through them stays out to their sessions, where no subscription ends
 abbrev pub closed : (SessionId → ℕ → Bool) → State → State
 closed p state = record state {
   consumers = map (closed_consumer p) state.consumers;
@@ -270,31 +328,43 @@ pub record Holding : Type 0 where
 abbrev pub nothing_held : Holding
 nothing_held = record { definition = None; missed = 0; rows = []; consumers = [] }
 
--- what a state holds of a key
-abbrev pub holding_of : Key → State → Holding
-holding_of key state = record {
+-- the rows under a key, without their places; of a queue those whose messages pass
+abbrev pub rows_under : (Content → Bool) → Key → State → List Row
+rows_under p (OfQueue name) state = chosen p (bare (state.queues name))
+rows_under p (Own s c) state = rows_of (station_of (Own s c) state.stations)
+rows_under p (SharedOwn client name) state = rows_of (station_of (SharedOwn client name) state.stations)
+rows_under p (Durable client name) state = rows_of (station_of (Durable client name) state.stations)
+
+-- what a state holds of a key, and of a queue for a consumer that selects so
+abbrev pub holding_of : (Content → Bool) → Key → State → Holding
+holding_of p key state = record {
   definition = definition_of (station_of key state.stations);
   missed = missed_of (station_of key state.stations);
-  rows = rows_of (station_of key state.stations);
+  rows = rows_under p key state;
   consumers = filter (λ x. key_eq x.key key) state.consumers;
 }
 
 -- what a state holds of a key that may be absent
-abbrev pub holding_at : Option Key → State → Holding
-holding_at None state = nothing_held
-holding_at (Some key) state = holding_of key state
+abbrev pub holding_at : (Content → Bool) → Option Key → State → Holding
+holding_at p None state = nothing_held
+holding_at p (Some key) state = holding_of p key state
 
 -- the key that a request names, by its own words or by the number of its consumer; none where it names
 -- none
 abbrev pub key_named : Life → List Consumer → Who → Request → Option Key
-key_named life consumers (Session s) (CreateConsumer c topic selector) = Some (Own s c)
+key_named life consumers (Session s) (CreateConsumer c destination selector no_local) = Some (key_made s c destination)
 key_named life consumers (Session s) (Receive c now) = key_at (consumer_of consumers s c)
 key_named life consumers (Session s) (Missed c) = key_at (consumer_of consumers s c)
 key_named life consumers _ _ = None
 
+-- the consumer that a request names by its number; none where it names none
+abbrev pub consumer_named : List Consumer → Who → Request → Option Consumer
+consumer_named consumers (Session s) (Receive c now) = consumer_of consumers s c
+consumer_named consumers _ _ = None
+
 -- what is held of the key that a request names
 abbrev pub held : State → Who → Request → Holding
-held state who request = holding_at (key_named state.life state.consumers who request) state
+held state who request = holding_at (selected_by (consumer_named state.consumers who request)) (key_named state.life state.consumers who request) state
 
 -- The checks of a call, in the order of the causes
 
@@ -326,20 +396,34 @@ may_close_consumer life consumers s c =
 abbrev pub may_use : Life → List Consumer → SessionId → ℕ → Bool
 may_use life consumers s c = is_some (mode_of life s) && is_active (consumer_of consumers s c)
 
+-- a session that is open is transacted
+abbrev pub is_transacted : Option Mode → Bool
+is_transacted (Some Auto) = false
+is_transacted (Some Client) = false
+is_transacted (Some Dups) = false
+is_transacted (Some Transacted) = true
+is_transacted None = false
+
+-- a session that is open is not transacted
+abbrev pub is_untransacted : Option Mode → Bool
+is_untransacted None = false
+is_untransacted (Some mode) = not (is_transacted (Some mode))
+
 -- why a request is refused, by the connections and sessions, the consumers, and what is held of the key
 -- that it names; none where it is not
 unfoldable pub refusal : Life → List Consumer → Holding → Who → Request → Option Refusal
-refusal life consumers holding (Connection c) Open = unless (not (is_some (connection_of life.connections c))) IllegalState
+refusal life consumers holding (Connection c) (Open client) = first_cause (unless (not (is_some (connection_of life.connections c))) IllegalState) (unless (not (is_client_taken life client)) InvalidClientId)
 refusal life consumers holding (Connection c) Start = unless (is_open_connection (connection_of life.connections c)) IllegalState
 refusal life consumers holding (Connection c) Stop = unless (is_open_connection (connection_of life.connections c)) IllegalState
 refusal life consumers holding (Connection c) CloseConnection = unless (is_some (connection_of life.connections c)) IllegalState
 refusal life consumers holding (Session s) (CreateSession mode) = unless (is_new_session life s) IllegalState
 refusal life consumers holding (Session s) CloseSession = unless (may_close_session life s) IllegalState
-refusal life consumers holding (Session s) (CreateConsumer c topic selector) = first_cause (unless (may_begin life consumers s c) IllegalState) (selector_refusal selector)
+refusal life consumers holding (Session s) (CreateConsumer c destination selector no_local) = first_cause (unless (may_begin life consumers s c) IllegalState) (selector_refusal selector)
 refusal life consumers holding (Session s) (CloseConsumer c) = unless (may_close_consumer life consumers s c) IllegalState
 refusal life consumers holding (Session s) (Receive c now) = unless (may_use life consumers s c) IllegalState
 refusal life consumers holding (Session s) Acknowledge = unless (is_some (mode_of life s)) IllegalState
-refusal life consumers holding (Session s) Recover = unless (is_some (mode_of life s)) IllegalState
+refusal life consumers holding (Session s) Recover = unless (is_untransacted (mode_of life s)) IllegalState
+refusal life consumers holding (Session s) Rollback = unless (is_transacted (mode_of life s)) IllegalState
 refusal life consumers holding (Session s) (Missed c) = unless (may_use life consumers s c) IllegalState
 refusal life consumers holding _ _ = Some IllegalState
 
@@ -359,16 +443,28 @@ has_places place messages = nat_le (place + length messages) places_end
 unfoldable pub publish_refusal : State → Who → List Content → Option Refusal
 publish_refusal state (Connection c) messages = Some IllegalState
 publish_refusal state (Session s) messages =
-    if is_some (mode_of state.life s) && is_stamped state.opening s messages
+    if is_untransacted (mode_of state.life s) && is_stamped state.opening s messages
+    then unless (has_places state.next_place messages) Exhausted
+    else Some IllegalState
+
+-- why a commit is refused; none where it is not
+unfoldable pub commit_refusal : State → Who → List Content → Option Refusal
+commit_refusal state (Connection c) messages = Some IllegalState
+commit_refusal state (Session s) messages =
+    if is_transacted (mode_of state.life s) && is_stamped state.opening s messages
     then unless (has_places state.next_place messages) Exhausted
     else Some IllegalState
 
 -- What a call does that is not refused
 
--- a consumer of a key receives: rows that have lapsed go, and the next one is delivered
-abbrev pub receive : (Row → List Row) → ℕ → Option Key → State → State
-receive f now None state = state
-receive f now (Some key) state = record state { stations = at_key key (with_rows (deliver_placed now f)) state.stations }
+-- a consumer of a key receives: rows that have lapsed go, and the next one is delivered, of a queue the next whose message
+-- passes
+abbrev pub receive : (Content → Bool) → (Row → List Row) → ℕ → Option Key → State → State
+receive p f now None state = state
+receive p f now (Some key) state = record state {
+  stations = at_key key (with_rows (deliver_placed now f)) state.stations;
+  queues = at_queue_of key (deliver_chosen p now f) state.queues;
+}
 
 -- the connections and sessions after a request
 abbrev pub with_life : Who → Request → State → State
@@ -379,6 +475,7 @@ abbrev pub is_client : Option Mode → Bool
 is_client (Some Auto) = false
 is_client (Some Client) = true
 is_client (Some Dups) = false
+is_client (Some Transacted) = false
 is_client None = false
 
 -- the state after a request that is not refused
@@ -387,15 +484,22 @@ after state (Connection c) CloseConnection = closed (of_connection c) (returned 
 after state (Connection c) request = with_life (Connection c) request state
 after state (Session s) (CreateSession mode) = with_life (Session s) (CreateSession mode) state
 after state (Session s) CloseSession = closed (of_session s) (returned (of_session s) (with_life (Session s) CloseSession state))
-after state (Session s) (CreateConsumer c topic selector) = joined s c (Own s c) (put (Own s c) (defined topic selector) state)
+after state (Session s) (CreateConsumer c destination selector no_local) = made s c destination selector no_local state
 after state (Session s) (Receive c now) =
     if is_started state.life s.connection
-    then receive (left_of (mode_of state.life s) s c) now (key_at (consumer_of state.consumers s c)) state
+    then receive (selected_by (consumer_of state.consumers s c)) (left_of (mode_of state.life s) s c) now (key_at (consumer_of state.consumers s c)) state
     else state
 after state (Session s) (CloseConsumer c) = closed (of_number s c) state
 after state (Session s) Acknowledge = if is_client (mode_of state.life s) then settled (of_session s) state else state
 after state (Session s) Recover = returned (of_session s) state
+after state (Session s) Rollback = returned (of_session s) state
 after state (Session s) _ = state
+
+-- the state after a commit that is not refused: all that is out to the session is settled, and then the messages are
+-- published, in order
+unfoldable pub after_commit : State → Who → List Content → State
+after_commit state (Connection c) messages = state
+after_commit state (Session s) messages = published (settled (of_session s) state) messages
 
 -- what is handed out of a row: the message as it was published, read-only, with its count
 abbrev pub delivery : Option Row → Answer
@@ -430,8 +534,10 @@ reply_by life consumers holding who request = replied (refusal life consumers ho
 unfoldable pub reply : State → Who → Call → Result Answer Refusal
 reply state who (Ask request) = reply_by state.life state.consumers (held state who request) who request
 reply state who (Publish messages) = replied (publish_refusal state who messages) Done
+reply state who (Commit messages) = replied (commit_refusal state who messages) Done
 
 -- the state after a call
 unfoldable pub step : State → Who → Call → State
 step state who (Ask request) = moved (refusal state.life state.consumers (held state who request) who request) (after state who request) state
 step state who (Publish messages) = moved (publish_refusal state who messages) (published state messages) state
+step state who (Commit messages) = moved (commit_refusal state who messages) (after_commit state who messages) state

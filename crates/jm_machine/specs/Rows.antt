@@ -3,7 +3,7 @@
 use Rattle.std.specs.Prelude.{ℕ, ◌+◌, ◌<◌, Bool, true, false, ◌&&◌, ◌||◌, not, ◌==◌, nat_le, nat_lt, List, [], ◌∷◌, ◌++◌, filter, map, find, Option, Some, None, if◌then◌else◌}
 use Rattle.std.specs.List.{list_all}
 use Rattle.jm_base.specs.declared.mode.Mode.{Mode}
-use Rattle.jm_base.specs.declared.mode.Mode.TheVariants.{Auto, Client, Dups}
+use Rattle.jm_base.specs.declared.mode.Mode.TheVariants.{Auto, Client, Dups, Transacted}
 use Rattle.jm_header.specs.declared.content.Content.{Content}
 use Rattle.jm_dest.specs.declared.session.SessionId.{SessionId}
 use Rattle.jm_machine.specs.declared.state.Row.{Row}
@@ -80,6 +80,7 @@ abbrev pub settles_at_once : Option Mode → Bool
 settles_at_once (Some Auto) = true
 settles_at_once (Some Client) = false
 settles_at_once (Some Dups) = true
+settles_at_once (Some Transacted) = false
 settles_at_once None = false
 
 -- a row that is delivered to the session through its consumer: out, and counted once more
@@ -98,6 +99,10 @@ given_back p r = if is_out p r then record r { state = Waiting } else r
 abbrev pub change_first : (Row → Bool) → (Row → List Row) → List Row → List Row
 change_first p f [] = []
 change_first p f (r ∷ rows) = if p r then f r ++ rows else r ∷ change_first p f rows
+
+-- the rows whose messages pass
+abbrev pub chosen : (Content → Bool) → List Row → List Row
+chosen p rows = filter (λ r. p r.message) rows
 
 -- rows that have lapsed go, and the next one is delivered
 abbrev pub deliver : ℕ → (Row → List Row) → List Row → List Row
@@ -119,6 +124,15 @@ live_placed now rows = filter (λ x. not (has_lapsed now x.row)) rows
 -- rows at their places that have lapsed go, and the next one is delivered
 abbrev pub deliver_placed : ℕ → (Row → List Row) → List PlacedRow → List PlacedRow
 deliver_placed now f rows = change_placed (is_next now (live now (bare rows))) f (live_placed now rows)
+
+-- of the rows whose messages pass, a row is the next one
+abbrev pub is_next_chosen : (Content → Bool) → ℕ → List Row → Row → Bool
+is_next_chosen p now rows r = p r.message && is_next now (chosen p rows) r
+
+-- rows at their places that have lapsed go, also those whose messages do not pass; and of those that do the next one is
+-- delivered
+abbrev pub deliver_chosen : (Content → Bool) → ℕ → (Row → List Row) → List PlacedRow → List PlacedRow
+deliver_chosen p now f rows = change_placed (is_next_chosen p now (live now (bare rows))) f (live_placed now rows)
 
 -- the rows stand at places above that one
 abbrev pub AllAbove : ℕ → List PlacedRow → Type 0

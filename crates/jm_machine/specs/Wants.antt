@@ -4,18 +4,20 @@ use Rattle.jm_base.specs.declared.mode.Mode.{Mode}
 use Rattle.jm_base.specs.declared.refusal.Refusal.{Refusal}
 use Rattle.jm_base.specs.declared.refusal.Refusal.TheVariants.{Memory}
 use Rattle.jm_dest.specs.declared.key.Key.{Key}
+use Rattle.jm_dest.specs.declared.key.Key.TheVariants.{Own, SharedOwn, Durable, Queue as OfQueue}
+use Rattle.jm_header.specs.declared.content.Content.{Content}
 use Rattle.jm_machine.specs.declared.call.Who.{Who}
 use Rattle.jm_machine.specs.declared.call.Who.TheVariants.{Connection, Session}
 use Rattle.jm_machine.specs.declared.call.Request.{Request}
 use Rattle.jm_machine.specs.declared.call.Request.TheVariants.{Open, CreateSession, CreateConsumer, Receive}
 use Rattle.jm_machine.specs.declared.call.Call.{Call}
-use Rattle.jm_machine.specs.declared.call.Call.TheVariants.{Ask, Publish}
+use Rattle.jm_machine.specs.declared.call.Call.TheVariants.{Ask, Publish, Commit}
 use Rattle.jm_machine.specs.declared.answer.Answer.{Answer}
 use Rattle.jm_machine.specs.declared.state.PlacedRow.{PlacedRow}
 use Rattle.jm_machine.specs.declared.state.Station.{Station}
-use Rattle.jm_machine.specs.Life.{connection_of, is_new_session, is_started, mode_of}
-use Rattle.jm_machine.specs.Rows.{bare, is_next, live, live_placed, settles_at_once}
-use Rattle.jm_machine.specs.Machine.{State, consumer_of, key_at, may_begin, publish_refusal, station_of}
+use Rattle.jm_machine.specs.Life.{connection_of, is_client_taken, is_new_session, is_started, mode_of}
+use Rattle.jm_machine.specs.Rows.{bare, is_next, is_next_chosen, live, live_placed, settles_at_once}
+use Rattle.jm_machine.specs.Machine.{State, consumer_of, key_at, may_begin, publish_refusal, commit_refusal, selected_by, station_of}
 
 -- a reply that says that memory was wanted
 abbrev pub is_want : Result Answer Refusal → Bool
@@ -25,6 +27,10 @@ is_want _ = false
 -- the row that a delivery at that moment takes
 abbrev pub next_placed : ℕ → List PlacedRow → Option PlacedRow
 next_placed now rows = find (λ x. is_next now (live now (bare rows)) x.row) (live_placed now rows)
+
+-- the row that a delivery at that moment takes of those whose messages pass
+abbrev pub next_chosen : (Content → Bool) → ℕ → List PlacedRow → Option PlacedRow
+next_chosen p now rows = find (λ x. is_next_chosen p now (live now (bare rows)) x.row) (live_placed now rows)
 
 -- how many rows of all subscriptions stand at the place: each holds the message that was published there
 abbrev pub holders_of : ℕ → List Station → ℕ
@@ -40,24 +46,32 @@ abbrev pub placed_rows : Option Station → List PlacedRow
 placed_rows None = []
 placed_rows (Some x) = x.rows
 
+-- a delivery from a queue hands out a copy where the row stays: a queue's message is held there alone
+abbrev pub is_kept : Option Mode → Option PlacedRow → Bool
+is_kept mode x = not (settles_at_once mode) && is_some x
+
 -- a delivery of the next row of the key, where there is one, hands out a copy
-abbrev pub is_next_copied : Option Mode → ℕ → Option Key → List Station → Bool
-is_next_copied mode now None stations = false
-is_next_copied mode now (Some key) stations = is_copied mode stations (next_placed now (placed_rows (station_of key stations)))
+abbrev pub is_next_copied : Option Mode → ℕ → (Content → Bool) → Option Key → State → Bool
+is_next_copied mode now p None state = false
+is_next_copied mode now p (Some (OfQueue name)) state = is_kept mode (next_chosen p now (state.queues name))
+is_next_copied mode now p (Some (Own s c)) state = is_copied mode state.stations (next_placed now (placed_rows (station_of (Own s c) state.stations)))
+is_next_copied mode now p (Some (SharedOwn client name)) state = is_copied mode state.stations (next_placed now (placed_rows (station_of (SharedOwn client name) state.stations)))
+is_next_copied mode now p (Some (Durable client name)) state = is_copied mode state.stations (next_placed now (placed_rows (station_of (Durable client name) state.stations)))
 
 -- a request takes memory where it opens a connection or a session, or makes a consumer, and none of the causes
 -- stands that are seen before: a consumer's selector is parsed, so a want of memory may come in place of its
 -- refusal. A receive takes memory where it hands out a copy of a message that is still held after it. To start and
--- to stop, to close, to acknowledge and to recover takes none
+-- to stop, to close, to acknowledge, to recover and to roll back takes none
 abbrev pub takes_memory : State → Who → Request → Bool
-takes_memory state (Connection c) Open = not (is_some (connection_of state.life.connections c))
+takes_memory state (Connection c) (Open client) = not (is_some (connection_of state.life.connections c)) && not (is_client_taken state.life client)
 takes_memory state (Session s) (CreateSession mode) = is_new_session state.life s
-takes_memory state (Session s) (CreateConsumer c topic selector) = may_begin state.life state.consumers s c
+takes_memory state (Session s) (CreateConsumer c destination selector no_local) = may_begin state.life state.consumers s c
 takes_memory state (Session s) (Receive c now) =
-    is_some (mode_of state.life s) && is_started state.life s.connection && is_next_copied (mode_of state.life s) now (key_at (consumer_of state.consumers s c)) state.stations
+    is_some (mode_of state.life s) && is_started state.life s.connection && is_next_copied (mode_of state.life s) now (selected_by (consumer_of state.consumers s c)) (key_at (consumer_of state.consumers s c)) state
 takes_memory state _ _ = false
 
--- memory may be wanted by a call: a request that takes it, or a publication that is not refused
+-- memory may be wanted by a call: a request that takes it, or a publication or a commit that is not refused
 unfoldable pub may_want : State → Who → Call → Bool
 may_want state who (Ask request) = takes_memory state who request
 may_want state who (Publish messages) = is_none (publish_refusal state who messages)
+may_want state who (Commit messages) = is_none (commit_refusal state who messages)

@@ -1,9 +1,10 @@
 ghost use Rattle.std.specs.Prelude.{◌≡◌, ◌↔◌, IfOk, IsTrue};
 
-use crate::selector::copy_selector;
+use crate::state::copy_client;
 use jm_base::{List, Mode, Str};
-use jm_dest::{ConnectionId, ConsumerId, Destination, Moment, Name, SessionId};
+use jm_dest::{ClientId, ConnectionId, ConsumerId, Destination, Moment, SessionId};
 use jm_header::{Draft, Message};
+use jm_selector::copy_text;
 use std::alloc::{AllocError, Global};
 
 /// Who makes a call: a connection or a session.
@@ -16,8 +17,11 @@ pub enum Who {
 /// What is asked of the provider by a call that carries no messages.
 #[derive(Debug, PartialEq, Drop)]
 pub enum Request {
-    /// Opens the connection, stopped (Jakarta Messaging 3.1, section 6.1.4).
-    Open,
+    /// Opens the connection, stopped (Jakarta Messaging 3.1, section 6.1.4), for that client, or for none (section
+    /// 6.1.2).
+    Open {
+        client: Option<ClientId>,
+    },
     /// Starts the delivery of messages to the connection's consumers.
     Start,
     /// Stops the delivery of messages to the connection's consumers.
@@ -31,14 +35,18 @@ pub enum Request {
     /// Closes the session with its consumers; what is out to it waits again (Jakarta Messaging 3.1, section
     /// 6.2.15).
     CloseSession,
-    /// Makes a consumer of the topic, with an unshared non-durable subscription of its own, to the
-    /// messages that the selector's text selects, or to all where there is none.
+    /// Makes a consumer of the messages that the selector's text selects, or of all where there is none: of a queue, or
+    /// of a topic, with an unshared non-durable subscription of its own. Where `no_local` is set, what the consumer's own
+    /// connection publishes does not come to that subscription (Jakarta Messaging 3.1, section 8.3.1); of a queue it has no
+    /// effect.
     CreateConsumer {
         consumer: ConsumerId,
-        topic: Name,
+        destination: Destination,
         selector: Option<Str>,
+        no_local: bool,
     },
-    /// Closes the consumer, and ends its subscription, with all that is held for it.
+    /// Closes the consumer. A subscription of its own ends, with all that is held for it; what a queue's consumer
+    /// received stays with the session.
     CloseConsumer {
         consumer: ConsumerId,
     },
@@ -50,8 +58,12 @@ pub enum Request {
     /// Settles all that is out to the session, in mode `Client`; in any other it does nothing (Jakarta
     /// Messaging 3.1, section 6.2.10).
     Acknowledge,
-    /// Lets all that is out to the session wait again, in its order (Jakarta Messaging 3.1, section 6.2.10).
+    /// Lets all that is out to the session wait again, in its order, unless the session is transacted (Jakarta
+    /// Messaging 3.1, section 6.2.10).
     Recover,
+    /// Ends the session's transaction: all that is out to it waits again, in its order, and what it sent is dropped
+    /// (Jakarta Messaging 3.1, section 6.2).
+    Rollback,
     /// Asks how many publications the consumer's subscription missed, since it was at its limit (ours).
     Missed {
         consumer: ConsumerId,
@@ -63,8 +75,11 @@ pub enum Request {
 pub enum Call {
     /// A call that carries no messages.
     Ask(Request),
-    /// Publishes stamped messages of a session, in the order of the list.
+    /// Publishes stamped messages of a session that is not transacted, in the order of the list.
     Publish(List<Message>),
+    /// Commits the session's transaction: settles all that is out to it, and then publishes the stamped messages that
+    /// it sent, in the order of the list (Jakarta Messaging 3.1, section 6.2).
+    Commit(List<Message>),
 }
 
 /// One event of the core: a call, and who makes it.
@@ -74,7 +89,8 @@ pub struct Step {
     pub call: Call,
 }
 
-/// What a client asks: a step other than a publication, or a send, which is stamped on the way.
+/// What a client asks: a step that carries no messages; a send, which is stamped on the way; or a commit of what the
+/// session sent.
 #[derive(PartialEq, Drop)]
 pub enum ClientCall {
     Ask {
@@ -88,6 +104,8 @@ pub enum ClientCall {
         destination: Destination,
         now: Moment,
     },
+    /// Commits the session's transaction, with the messages that it sent in it.
+    CommitSession(SessionId),
 }
 
 impl Request {
@@ -103,7 +121,9 @@ impl Request {
         ensures { IfOk result (λ copy. copy ≡ self.now) }
     {
         match self {
-            Request::Open => Ok(Request::Open),
+            Request::Open { client } => Ok(Request::Open {
+                client: copy_client(client)?,
+            }),
             Request::Start => Ok(Request::Start),
             Request::Stop => Ok(Request::Stop),
             Request::CloseConnection => Ok(Request::CloseConnection),
@@ -113,18 +133,21 @@ impl Request {
             }),
             Request::Acknowledge => Ok(Request::Acknowledge),
             Request::Recover => Ok(Request::Recover),
+            Request::Rollback => Ok(Request::Rollback),
             Request::Missed { consumer } => Ok(Request::Missed {
                 consumer: *consumer,
             }),
             Request::CreateSession { mode } => Ok(Request::CreateSession { mode: *mode }),
             Request::CreateConsumer {
                 consumer,
-                topic,
+                destination,
                 selector,
+                no_local,
             } => Ok(Request::CreateConsumer {
                 consumer: *consumer,
-                topic: topic.copy()?,
-                selector: copy_selector(selector)?,
+                destination: destination.copy()?,
+                selector: copy_text(selector)?,
+                no_local: *no_local,
             }),
             Request::Receive { consumer, now } => Ok(Request::Receive {
                 consumer: *consumer,
@@ -160,6 +183,9 @@ impl Step {
             Call::Ask(request) => Call::Ask(request.copy()?),
             Call::Publish(messages) => {
                 Call::Publish(List::new(copy_messages(alloc, messages.as_slice())?))
+            }
+            Call::Commit(messages) => {
+                Call::Commit(List::new(copy_messages(alloc, messages.as_slice())?))
             }
         };
         Ok(Step {
@@ -197,6 +223,7 @@ impl ClientCall {
                 destination: destination.copy()?,
                 now: *now,
             }),
+            ClientCall::CommitSession(session) => Ok(ClientCall::CommitSession(*session)),
         }
     }
 }

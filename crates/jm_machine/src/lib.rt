@@ -9,14 +9,12 @@ mod consumers;
 mod delivery;
 mod entry;
 pub mod find;
-mod selector;
 mod state;
 
 pub use answer::{Answer, Delivery, Reply, copy_reply, same_reply};
 pub use call::{Call, ClientCall, Request, Step, Who};
 pub use consumers::Consumers;
-pub use entry::Entry;
-pub use selector::copy_selector;
+pub use entry::{Entry, Event};
 pub use state::{
     ConnectionState, Consumer, Definition, PlacedRow, Row, RowState, SessionState, Station,
 };

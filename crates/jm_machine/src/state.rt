@@ -1,16 +1,18 @@
 ghost use Rattle.std.specs.Prelude.{◌≡◌, IfOk};
 ghost use Rattle.jm_machine.specs.Machine as machine;
 
-use crate::selector::copy_selector;
-use jm_base::{List, Mode, Str};
-use jm_dest::{ConnectionId, ConsumerId, Destination, Key, Name, SessionId};
+use jm_base::{List, Mode};
+use jm_dest::{ClientId, ConnectionId, ConsumerId, Destination, Key, Name, SessionId};
 use jm_header::Message;
+use jm_selector::Selector;
 use std::alloc::{AllocError, Global};
 
 /// A connection that was opened.
-#[derive(Clone, Copy, Debug, PartialEq, Eq)]
+#[derive(Debug, PartialEq, Drop)]
 pub struct ConnectionState {
     pub id: ConnectionId,
+    /// The client for which it was opened, if any.
+    pub client: Option<ClientId>,
     pub is_started: bool,
     /// A connection that was closed stays known, and is not opened again.
     pub is_open: bool,
@@ -32,6 +34,8 @@ pub struct Consumer {
     pub id: ConsumerId,
     /// What it receives from.
     pub key: Key,
+    /// Which messages of a queue it takes; that of a topic's consumer stands with the subscription.
+    pub selector: Selector,
     /// A consumer that was closed stays known, and is not made again.
     pub is_active: bool,
 }
@@ -40,8 +44,10 @@ pub struct Consumer {
 #[derive(Debug, PartialEq, Drop)]
 pub struct Definition {
     pub topic: Name,
-    /// The selector's text as it was handed in, and none where it holds no token.
-    pub selector: Option<Str>,
+    /// The selector as it was handed in, and none where its text holds no token.
+    pub selector: Selector,
+    /// Whether it asks for no message that a local publisher sends: of a consumer's own subscription its own connection.
+    pub no_local: bool,
 }
 
 /// Where a row is (ours).
@@ -78,6 +84,38 @@ pub struct Station {
     pub rows: List<PlacedRow>,
 }
 
+/// An equal client identifier, or none. `AllocError` where a request for memory was refused.
+pub fn copy_client(client: &Option<ClientId>) -> Result<Option<ClientId>, AllocError>
+    ensures { IfOk result (λ copy. copy ≡ client.now) }
+{
+    match client {
+        None => Ok(None),
+        Some(client) => Ok(Some(client.copy()?)),
+    }
+}
+
+impl ConnectionState {
+    /// An equal connection. `AllocError` where a request for memory was refused.
+    pub fn copy(&self) -> Result<ConnectionState, AllocError>
+        ensures { IfOk result (λ copy. copy ≡ self.now) }
+    {
+        Ok(ConnectionState {
+            id: self.id,
+            client: copy_client(&self.client)?,
+            is_started: self.is_started,
+            is_open: self.is_open,
+        })
+    }
+}
+
+impl Clone for ConnectionState {
+    ghost is_clone = { λ a b. b ≡ a };
+
+    fn clone(&self) -> Result<ConnectionState, AllocError> {
+        self.copy()
+    }
+}
+
 impl Consumer {
     /// An equal consumer. `AllocError` where a request for memory was refused.
     pub fn copy(&self) -> Result<Consumer, AllocError>
@@ -87,6 +125,7 @@ impl Consumer {
             session: self.session,
             id: self.id,
             key: self.key.copy()?,
+            selector: self.selector.copy()?,
             is_active: self.is_active,
         })
     }
@@ -107,7 +146,8 @@ impl Definition {
     {
         Ok(Definition {
             topic: self.topic.copy()?,
-            selector: copy_selector(&self.selector)?,
+            selector: self.selector.copy()?,
+            no_local: self.no_local,
         })
     }
 

@@ -1,4 +1,5 @@
 pub mod Records
+pub mod Courses
 pub mod Owners
 pub mod Fed
 pub mod Found
@@ -7,6 +8,5 @@ pub mod Reached
 pub mod Seen
 pub mod Placing
 pub mod Loaded
-pub mod Accepted
 pub mod Taken
 pub mod Opening

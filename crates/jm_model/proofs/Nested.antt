@@ -27,10 +27,10 @@ open_more None p h = cc
 open_more (Some x) p h = h
 
 -- one more connection
-pub nested_opened : (life : Life) (consumers : List Consumer) (c : ℕ) → AllNested life consumers → AllNested (life_after life (Connection c) Open) consumers
+pub nested_opened : (life : Life) (consumers : List Consumer) (c : ℕ) (client : Option (List ℕ)) → AllNested life consumers → AllNested (life_after life (Connection c) (Open client)) consumers
 unfolding life_after
-nested_opened life consumers c h s n =
-    let new : ConnectionState = record { id = c; is_started = false; is_open = true } in
+nested_opened life consumers c client h s n =
+    let new : ConnectionState = record { id = c; client = client; is_started = false; is_open = true } in
     let more : Option ConnectionState = find (λ x. x.id == s.connection) (new ∷ []) in
     let found : connection_of (life.connections ++ new ∷ []) s.connection ≡ option_or (connection_of life.connections s.connection) more = find-append (λ x. x.id == s.connection) life.connections (new ∷ []) in
     rw found (record {

@@ -1,28 +1,26 @@
 -- What an owner sees of an opening.
 use Rattle.std.proofs.Common.{◌≡◌, ◌≤◌, ℕ, Bool, true, false, cond, List, [], ◌∷◌, length, refl, ap, sym, subst, ◌∙◌, arith, Option, Some, None}
-use Rattle.std.specs.Prelude.{◌&&◌, ◌||◌, not, find, filter, is_some, option_to_list, IfOk, IfSome, Result, Ok, Err}
+use Rattle.std.specs.Prelude.{◌&&◌, ◌||◌, ◌==◌, not, find, filter, is_some, option_to_list, IfOk, IfSome, Result, Ok, Err}
 use Rattle.std.specs.List.{list_all}
 use Rattle.std.proofs.lemmas.Bool.Decides.{nat_tests}
 use Rattle.jm_dest.specs.declared.session.SessionId.{SessionId}
 use Rattle.jm_dest.specs.declared.key.Key.{Key}
-use Rattle.jm_dest.specs.declared.key.Key.TheVariants.{Own}
+use Rattle.jm_dest.specs.declared.key.Key.TheVariants.{Own, SharedOwn, Durable, Queue as OfQueue}
 use Rattle.jm_dest.specs.Names.{session_eq}
 use Rattle.jm_dest.specs.Keys.{key_eq}
-use Rattle.jm_header.specs.declared.content.Content.{Content}
 use Rattle.jm_machine.specs.declared.state.SessionState.{SessionState}
 use Rattle.jm_machine.specs.declared.state.Consumer.{Consumer}
 use Rattle.jm_machine.specs.declared.state.Station.{Station}
-use Rattle.jm_machine.specs.Isolation.{is_unshared}
 use Rattle.jm_machine.specs.Life.{Life, connection_of, session_of, open_mode, is_open_connection, own_life}
-use Rattle.jm_machine.specs.Machine.{State, Publisher, has_number, consumer_of, station_of, definition_of, missed_of, rows_of, ends, is_limited, is_one_of}
-use Rattle.jm_machine.specs.Lone.{Lone, lone_of, lone_accepts}
+use Rattle.jm_machine.specs.Machine.{State, has_number, consumer_of, station_of, definition_of, missed_of, rows_of, ends, is_limited, is_one_of}
+use Rattle.jm_machine.specs.Lone.{Lone, lone_of}
 use Rattle.jm_law.proofs.Consumers.{ends_in}
-use Rattle.jm_law.proofs.Keyed.{Keyed}
+use Rattle.jm_law.proofs.Keyed.{Keyed, OwnFits, keeps}
 use Rattle.jm_law.proofs.Life.{own_connection_of, own_session}
 use Rattle.jm_law.proofs.Same.{key_same, session_refl, session_same}
 use Rattle.jm_core.specs.Limits.{AllWithin}
 use Rattle.jm_model.specs.declared.owner.Owner.{Owner}
-use Rattle.jm_model.specs.Owners.{scope}
+use Rattle.jm_model.specs.Owners.{is_alone, scope}
 use Rattle.jm_model.specs.Parts.{AllNested, connection_seen, seen}
 use Rattle.jm_model.proofs.Found.{Passes, found_passes}
 
@@ -52,13 +50,37 @@ either true b = refl
 either false true = refl
 either false false = refl
 
+both : (a b : Bool) → (a ≡ true → b ≡ true) → (b ≡ true → a ≡ true) → a ≡ b
+both true b f g = sym (f refl)
+both false true f g = g refl
+both false false f g = refl
+
+first_holds : (a b : Bool) → (a && b) ≡ true → a ≡ true
+first_holds true b h = refl
+first_holds false b h = cc
+
+other_holds : (a b : Bool) → (a && b) ≡ true → b ≡ true
+other_holds true b h = h
+other_holds false b h = cc
+
+or_else : (a b : Bool) → (not a || b) ≡ true → a ≡ true → b ≡ true
+or_else true b h e = h
+or_else false b h e = cc
+
+-- a consumer whose key is another's own is that one
+own_only : (t : SessionId) (d : ℕ) (key : Key) (s : SessionId) (c : ℕ) → OwnFits key s c → key_eq key (Own t d) ≡ true → (session_eq s t && (c == d)) ≡ true
+own_only t d (OfQueue name) s c h e = cc
+own_only t d (Own r n) s c h e = grind (arith, nat_tests, session_same s r)
+own_only t d (SharedOwn client name) s c h e = cc
+own_only t d (Durable client name) s c h e = cc
+
 -- each consumer of the key has its number, so the one that is found says whether the subscription ends
-one_found : (p : SessionId → ℕ → Bool) (t : SessionId) (d : ℕ) (xs : List Consumer) → Keyed xs → is_one_of p xs (Own t d) ≡ (is_some (consumer_of xs t d) && p t d)
-one_found p t d [] h = refl
-one_found p t d (x ∷ xs) h = go (has_number t d x) refl (one_found p t d xs h.1)
+one_found : (p : SessionId → ℕ → Bool) (t : SessionId) (d : ℕ) (xs : List Consumer) → Keyed xs → keeps (Own t d) t d xs ≡ true → is_one_of p xs (Own t d) ≡ (is_some (consumer_of xs t d) && p t d)
+one_found p t d [] h u = refl
+one_found p t d (x ∷ xs) h u = go (has_number t d x) refl (one_found p t d xs h.1 (other_holds _ (keeps (Own t d) t d xs) u))
   where
     key : key_eq x.key (Own t d) ≡ has_number t d x
-    key = ap (λ k. key_eq k (Own t d)) h.0
+    key = both (key_eq x.key (Own t d)) (has_number t d x) (own_only t d x.key x.session x.id h.0) (or_else (has_number t d x) (key_eq x.key (Own t d)) (first_holds _ (keeps (Own t d) t d xs) u))
 
     go : (b : Bool) → has_number t d x ≡ b → is_one_of p xs (Own t d) ≡ (is_some (consumer_of xs t d) && p t d) →
         ((key_eq x.key (Own t d) && p x.session x.id) || is_one_of p xs (Own t d)) ≡ (is_some (cond b (Some x) (consumer_of xs t d)) && p t d)
@@ -75,6 +97,17 @@ keyed_found t d (x ∷ xs) h = go (has_number t d x) (keyed_found t d xs h.1)
   where
     go : (b : Bool) → Keyed (option_to_list (consumer_of xs t d)) → Keyed (option_to_list (cond b (Some x) (consumer_of xs t d)))
     go true r = (h.0, tt)
+    go false r = r
+
+own_found : (t : SessionId) (d : ℕ) (xs : List Consumer) → keeps (Own t d) t d xs ≡ true → keeps (Own t d) t d (option_to_list (consumer_of xs t d)) ≡ true
+own_found t d [] u = refl
+own_found t d (x ∷ xs) u = go (has_number t d x) (own_found t d xs (other_holds _ (keeps (Own t d) t d xs) u))
+  where
+    alone : (b : Bool) → b ≡ true → (b && true) ≡ true
+    alone b e = ap (λ c. c && true) e
+
+    go : (b : Bool) → keeps (Own t d) t d (option_to_list (consumer_of xs t d)) ≡ true → keeps (Own t d) t d (option_to_list (cond b (Some x) (consumer_of xs t d))) ≡ true
+    go true r = alone (not (has_number t d x) || key_eq x.key (Own t d)) (first_holds _ (keeps (Own t d) t d xs) u)
     go false r = r
 
 -- within the limit
@@ -142,12 +175,12 @@ nested_found o opening life consumers n c s x t d = record {
     session i e = ap (λ xs. is_some (session_of xs t)) s ∙ ap (λ (u : SessionId). is_some (session_of (option_to_list (session_of opening.life.sessions o.session)) u)) i ∙ ap is_some (found_alone _ opening.life.sessions) ∙ e
 
 -- what is taken of an opening shows the owner what the opening holds of its subscription
-pub opened : (o : Owner) (opening : State) (l : Lone) → is_unshared (scope o).key opening ≡ true → Keyed opening.consumers →
+pub opened : (o : Owner) (opening : State) (l : Lone) → is_alone o opening.consumers ≡ true → Keyed opening.consumers →
     l.limit ≡ opening.limit →
     l.life.connections ≡ option_to_list (connection_of opening.life.connections o.session.connection) →
     l.life.sessions ≡ option_to_list (session_of opening.life.sessions o.session) →
     l.consumers ≡ option_to_list (consumer_of opening.consumers o.session o.consumer) →
-    ((publisher : Publisher) (m : Content) → lone_accepts (scope o).key l.definition publisher m ≡ lone_accepts (scope o).key (definition_of (station_of (scope o).key opening.stations)) publisher m) →
+    l.definition ≡ definition_of (station_of (scope o).key opening.stations) →
     l.missed ≡ missed_of (station_of (scope o).key opening.stations) →
     l.rows ≡ rows_of (station_of (scope o).key opening.stations) →
     seen o l ≡ seen o (lone_of (scope o) opening)
@@ -158,7 +191,7 @@ opened o opening l u k n c s x a m r = λ i. record {
   session = session i;
   consumer = consumer i;
   ends = λ p. ending p i;
-  accepts = λ publisher m. a publisher m i;
+  definition = a i;
   missed = m i;
   rows = r i;
 }
@@ -175,7 +208,7 @@ opened o opening l u k n c s x a m r = λ i. record {
     ending : (p : SessionId → ℕ → Bool) → ends p l.consumers (scope o).key ≡ ends p (filter (λ y. key_eq y.key (scope o).key) opening.consumers) (scope o).key
     ending p =
         ap (λ xs. is_one_of p xs (scope o).key) x
-        ∙ one_found p o.session o.consumer (option_to_list (consumer_of opening.consumers o.session o.consumer)) (keyed_found o.session o.consumer opening.consumers k)
+        ∙ one_found p o.session o.consumer (option_to_list (consumer_of opening.consumers o.session o.consumer)) (keyed_found o.session o.consumer opening.consumers k) (own_found o.session o.consumer opening.consumers u)
         ∙ ap (λ (y : Option Consumer). is_some y && p o.session o.consumer) (found_alone (has_number o.session o.consumer) opening.consumers)
-        ∙ sym (one_found p o.session o.consumer opening.consumers k)
+        ∙ sym (one_found p o.session o.consumer opening.consumers k u)
         ∙ sym (ends_in p (scope o).key opening.consumers)

@@ -1,6 +1,7 @@
 -- What is answered to an entry, at its place.
-use Rattle.std.proofs.Common.{◌≡◌, ℕ, suc, ◌+◌, ◌<◌, List, [], ◌∷◌, ◌++◌, length, drop, get_or, refl, ap, sym, ◌∙◌, append_assoc, append-nil, Option, add-one}
+use Rattle.std.proofs.Common.{◌≡◌, ℕ, suc, ◌+◌, ◌<◌, List, [], ◌∷◌, ◌++◌, length, drop, get_or, refl, ap, sym, ◌∙◌, append_assoc, append-nil, Option, subst, add-one}
 use Rattle.std.specs.Prelude.{Result}
+use Rattle.std.proofs.lemmas.Option.{slice_get_read}
 use Rattle.std.proofs.Math.Seq.{drop-cons}
 use Rattle.jm_base.specs.declared.refusal.Refusal.{Refusal}
 use Rattle.jm_machine.specs.declared.answer.Answer.{Answer}
@@ -12,6 +13,8 @@ use Rattle.jm_model.specs.declared.owner.Owner.{Owner}
 use Rattle.jm_model.specs.Owners.{scope}
 use Rattle.jm_model.specs.Parts.{seen}
 use Rattle.jm_model.specs.Answers.{Answers}
+use Rattle.jm_model.specs.Transactions.{Course, Follows, noted}
+use Rattle.jm_model.proofs.Courses.{follows_noted}
 use Rattle.jm_law.proofs.Steps.{lone_replies-append}
 use Rattle.jm_model.proofs.Seen.{entry_same}
 
@@ -19,11 +22,13 @@ use Rattle.jm_model.proofs.Seen.{entry_same}
 abbrev pub to_answer : Scope → ℕ → Life → List Entry → Lone → List Entry → List (ℕ × Result Answer Refusal)
 to_answer S place life before l entries = lone_replies S l (feed S place life before l entries)
 
--- what was answered so far, and is still to be answered to an owner that sees the same, is all, whatever was before
-pub record Remains (o : Owner) (so_far : List (ℕ × Result Answer Refusal)) (place : ℕ) (l : Lone) (entries : List Entry) (all : List (ℕ × Result Answer Refusal)) : Type 0 where
+-- what was answered so far, and is still to be answered to an owner that sees the same, is all; what was noted is so of what
+-- was before
+pub record Remains (o : Owner) (given : List Entry) (x : Course) (so_far : List (ℕ × Result Answer Refusal)) (place : ℕ) (l : Lone) (entries : List Entry) (all : List (ℕ × Result Answer Refusal)) : Type 0 where
   pub lone : Lone
   pub life : Life
   pub before : List Entry
+  pub follows : Follows given life before x
   pub same : seen o lone ≡ seen o l
   pub rest : so_far ++ to_answer (scope o) place life before lone entries ≡ all
 
@@ -37,10 +42,11 @@ one_entry S place life before l next e entries o h n =
     ∙ ap (λ (x : Lone). placed place o ++ to_answer S (place + 1) (life_after_entry life e) (e ∷ before) x entries) (sym n)
 
 -- one turn over a list of entries
-pub answer_turn : (o : Owner) (place : ℕ) (l next : Lone) (entries : List Entry) (e : Entry) (reply : Option (Result Answer Refusal)) (so_far all : List (ℕ × Result Answer Refusal)) →
-    place < length entries → e ≡ get_or entries place e → Answers o l e reply next →
-    Remains o so_far place l (drop place entries) all → Remains o (so_far ++ placed place reply) (place + 1) next (drop (place + 1) entries) all
-answer_turn o place l next entries e reply so_far all h is f r = record {
+pub answer_turn : (o : Owner) (x y : Course) (place : ℕ) (l next : Lone) (entries : List Entry) (e : Entry) (reply : Option (Result Answer Refusal)) (so_far all : List (ℕ × Result Answer Refusal)) →
+    place < length entries → e ≡ get_or entries place e → Answers o entries x l e reply next → y ≡ noted place e x →
+    Remains o entries x so_far place l (drop place entries) all → Remains o entries y (so_far ++ placed place reply) (place + 1) next (drop (place + 1) entries) all
+answer_turn o x y place l next entries e reply so_far all h is f n r = record {
+  follows = subst (Follows entries (life_after_entry r.life e) (e ∷ r.before)) (sym n) (follows_noted entries r.before r.life x place e (slice_get_read entries (length entries) place e refl h is) r.follows);
   lone = after;
   life = life_after_entry r.life e;
   before = e ∷ r.before;
@@ -54,7 +60,7 @@ answer_turn o place l next entries e reply so_far all h is f r = record {
     after = lone_end (scope o) r.lone (fed (scope o) r.life r.before r.lone e)
 
     told : (placed place reply ≡ lone_replies (scope o) l (at_place place (fed (scope o) r.life r.before l e))) × (seen o next ≡ seen o (lone_end (scope o) l (fed (scope o) r.life r.before l e)))
-    told = f r.life r.before place
+    told = f r.life r.before place r.follows
 
     both : (lone_replies (scope o) r.lone (at_place place (fed (scope o) r.life r.before r.lone e)) ≡ lone_replies (scope o) l (at_place place (fed (scope o) r.life r.before l e)))
         × (seen o after ≡ seen o (lone_end (scope o) l (fed (scope o) r.life r.before l e)))
@@ -64,8 +70,8 @@ answer_turn o place l next entries e reply so_far all h is f r = record {
     front = rw (add-one) (drop-cons entries place e h ∙ ap (λ x. x ∷ drop (suc place) entries) (sym is))
 
 -- where nothing is left, all is answered
-pub all_answered : (o : Owner) (so_far : List (ℕ × Result Answer Refusal)) (place : ℕ) (l : Lone) (entries : List Entry) (all : List (ℕ × Result Answer Refusal)) →
-    entries ≡ [] → Remains o so_far place l entries all → so_far ≡ all
+pub all_answered : (o : Owner) (given : List Entry) (x : Course) (so_far : List (ℕ × Result Answer Refusal)) (place : ℕ) (l : Lone) (entries : List Entry) (all : List (ℕ × Result Answer Refusal)) →
+    entries ≡ [] → Remains o given x so_far place l entries all → so_far ≡ all
 unfolding feed
-all_answered o so_far place l entries all e r =
+all_answered o given x so_far place l entries all e r =
     sym (append-nil so_far) ∙ sym (ap (λ (xs : List Entry). so_far ++ to_answer (scope o) place r.life r.before r.lone xs) e) ∙ r.rest

@@ -8,31 +8,35 @@ use Rattle.jm_base.specs.declared.refusal.Refusal.{Refusal}
 use Rattle.jm_base.specs.declared.refusal.Refusal.TheVariants.{IllegalState}
 use Rattle.jm_base.specs.declared.mode.Mode.{Mode}
 use Rattle.jm_dest.specs.declared.session.SessionId.{SessionId}
+use Rattle.jm_dest.specs.declared.destination.Destination.TheVariants.{Queue, Topic}
 use Rattle.jm_dest.specs.Names.{session_eq}
 use Rattle.jm_header.specs.declared.content.Content.{Content}
 use Rattle.jm_machine.specs.declared.call.Who.{Who}
 use Rattle.jm_machine.specs.declared.call.Who.TheVariants.{Connection, Session}
 use Rattle.jm_machine.specs.declared.call.Request.{Request}
-use Rattle.jm_machine.specs.declared.call.Request.TheVariants.{Open, Start, Stop, CloseConnection, CreateSession, CloseSession, CreateConsumer, CloseConsumer, Receive, Acknowledge, Recover, Missed}
+use Rattle.jm_machine.specs.declared.call.Request.TheVariants.{Open, Start, Stop, CloseConnection, CreateSession, CloseSession, CreateConsumer, CloseConsumer, Receive, Acknowledge, Recover, Rollback, Missed}
 use Rattle.jm_machine.specs.declared.answer.Answer.{Answer}
 use Rattle.jm_machine.specs.declared.answer.Answer.TheVariants.{Missed as MissedSoFar}
 use Rattle.jm_machine.specs.declared.entry.Entry.{Entry}
-use Rattle.jm_machine.specs.declared.entry.Entry.TheVariants.{Asked, Sent}
+use Rattle.jm_machine.specs.declared.entry.Entry.TheVariants.{Asked, Sent, Committed}
 use Rattle.jm_machine.specs.declared.state.ConnectionState.{ConnectionState}
 use Rattle.jm_machine.specs.declared.state.SessionState.{SessionState}
 use Rattle.jm_machine.specs.declared.state.Consumer.{Consumer}
 use Rattle.jm_machine.specs.declared.state.Row.{Row}
 use Rattle.jm_machine.specs.declared.state.Definition.{Definition}
 use Rattle.jm_machine.specs.Life.{Life, connection_of, session_of, open_mode, is_open_connection, is_closed_connection, is_started_connection, is_started, is_new_session, mode_of, with_started, started_if, closed_if, closed_where, close_sessions, life_after}
+use Rattle.jm_machine.specs.Owns.{is_own}
+use Rattle.jm_machine.specs.Entries.{committed}
 use Rattle.jm_machine.specs.Rows.{fresh, deliver, left_of, is_out, given_back}
-use Rattle.jm_machine.specs.Machine.{unless, replied, delivered, consumer_of, is_active, may_begin, may_use, may_close_session, may_close_consumer, new_consumer, publisher_of, defined, refusal, answer, one_missed, is_client, of_connection, of_session, of_number, closed_consumer, is_one_of}
+use Rattle.jm_machine.specs.Machine.{unless, replied, delivered, consumer_of, is_active, may_begin, may_use, may_close_session, may_close_consumer, new_consumer, publisher_of, defined, refusal, answer, one_missed, is_client, is_transacted, is_untransacted, of_connection, of_session, of_number, closed_consumer, is_one_of}
 use Rattle.jm_machine.specs.Lone.{Lone, lone_did, lone_life, lone_joined, lone_put, lone_ended, lone_settled, lone_returned, lone_closed, lone_receive, lone_brought, lone_refusal, lone_reply, lone_told, lone_after, lone_end, lone_replies, placed, fed, at_place, is_answered, is_own_call, lone_accepts}
 use Rattle.jm_machine.specs.Lone.Item.{Called}
 use Rattle.jm_law.proofs.Same.{session_same}
 use Rattle.jm_model.specs.declared.owner.Owner.{Owner}
 use Rattle.jm_model.specs.Owners.{scope}
 use Rattle.jm_model.specs.Parts.{Seen, seen, connection_seen}
-use Rattle.jm_model.proofs.Fed.{fed_own, fed_none, fed_sent}
+use Rattle.jm_model.specs.Answers.{after_commit, brought, came_to}
+use Rattle.jm_model.proofs.Fed.{fed_own, fed_none, fed_sent, fed_commit, brought_one}
 use Rattle.jm_model.proofs.Found.{Passes, found_passes, found_more, found_started, found_closed, found_session, found_consumer, one_of_closed, one_of_more}
 use Rattle.jm_model.proofs.Owners.{owner_named, owner_same, second_true}
 
@@ -142,15 +146,15 @@ more_seen : (n : Bool) (o more : Option ConnectionState) → connection_seen n (
 more_seen n None more = refl
 more_seen n (Some x) more = refl
 
-abbrev more_of : Owner → ℕ → Option ConnectionState
-more_of o c = connection_of (record { id = c; is_started = false; is_open = true } ∷ []) o.session.connection
+abbrev more_of : Owner → ℕ → Option (List ℕ) → Option ConnectionState
+more_of o c client = connection_of (record { id = c; client = client; is_started = false; is_open = true } ∷ []) o.session.connection
 
-opens_same : (o : Owner) (a b : Lone) (c : ℕ) → Same o a b → Same o (lone_did (scope o).key a (Connection c) Open) (lone_did (scope o).key b (Connection c) Open)
+opens_same : (o : Owner) (a b : Lone) (c : ℕ) (client : Option (List ℕ)) → Same o a b → Same o (lone_did (scope o).key a (Connection c) (Open client)) (lone_did (scope o).key b (Connection c) (Open client))
 unfolding lone_did life_after
-opens_same o a b c h = connections_same o a b _ _ h (one a ∙ (λ i. option_or (same_connection o a b h i) (connection_seen (same_up o a b h i) (more_of o c))) ∙ sym (one b))
+opens_same o a b c client h = connections_same o a b _ _ h (one a ∙ (λ i. option_or (same_connection o a b h i) (connection_seen (same_up o a b h i) (more_of o c client))) ∙ sym (one b))
   where
-    one : (l : Lone) → connection_seen (up o l) (connection_of (l.life.connections ++ record { id = c; is_started = false; is_open = true } ∷ []) o.session.connection) ≡ option_or (connection_seen (up o l) (conn o l)) (connection_seen (up o l) (more_of o c))
-    one l = ap (connection_seen (up o l)) (find-append (λ x. x.id == o.session.connection) l.life.connections (record { id = c; is_started = false; is_open = true } ∷ [])) ∙ more_seen (up o l) (conn o l) (more_of o c)
+    one : (l : Lone) → connection_seen (up o l) (connection_of (l.life.connections ++ record { id = c; client = client; is_started = false; is_open = true } ∷ []) o.session.connection) ≡ option_or (connection_seen (up o l) (conn o l)) (connection_seen (up o l) (more_of o c client))
+    one l = ap (connection_seen (up o l)) (find-append (λ x. x.id == o.session.connection) l.life.connections (record { id = c; client = client; is_started = false; is_open = true } ∷ [])) ∙ more_seen (up o l) (conn o l) (more_of o c client)
 
 set_same : (o : Owner) (a b : Lone) (c : ℕ) (on : Bool) → Same o a b →
     Same o (record a { life = record a.life { connections = with_started c on a.life.connections } }) (record b { life = record b.life { connections = with_started c on b.life.connections } })
@@ -169,7 +173,7 @@ settled_same : (o : Owner) (a b : Lone) (p : SessionId → ℕ → Bool) → Sam
 settled_same o a b p h = λ i. record (h i) { rows = filter (λ r. not (is_out p r)) (h i).rows }
 
 ended_same : (o : Owner) (a b : Lone) → Same o a b → Same o (lone_ended a) (lone_ended b)
-ended_same o a b h = λ i. record (h i) { accepts = λ publisher m. false; missed = 0; rows = [] }
+ended_same o a b h = λ i. record (h i) { definition = None; missed = 0; rows = [] }
 
 pub ended_if : (o : Owner) (a b : Lone) (n : Bool) → Same o a b → Same o (cond n (lone_ended a) a) (cond n (lone_ended b) b)
 ended_if o a b true h = ended_same o a b h
@@ -229,7 +233,7 @@ leaves_same o a b h = life_same o a b _ _ h sessions (one a ∙ (λ i. connectio
 -- a request of the owner's connection
 connection_same : (o : Owner) (a b : Lone) (request : Request) → Same o a b → Same o (lone_after (scope o) a (Called (Connection o.session.connection) request)) (lone_after (scope o) b (Called (Connection o.session.connection) request))
 unfolding lone_did life_after
-connection_same o a b Open h = opens_same o a b o.session.connection h
+connection_same o a b (Open client) h = opens_same o a b o.session.connection client h
 connection_same o a b Start h = set_same o a b o.session.connection true h
 connection_same o a b Stop h = set_same o a b o.session.connection false h
 connection_same o a b CloseConnection h =
@@ -301,7 +305,14 @@ acknowledged_same o a b h = (refl, rw mode (allowed_same o (is_some (mode_of b.l
 
 recovered_same : (o : Owner) (a b : Lone) → Same o a b → Both o a b o.session Recover
 unfolding is_answered lone_did refusal
-recovered_same o a b h = (refl, rw mode (allowed_same o (is_some (mode_of b.life o.session)) _ _ a b (returned_same o a b (of_session o.session) h) h))
+recovered_same o a b h = (refl, rw mode (allowed_same o (is_untransacted (mode_of b.life o.session)) _ _ a b (returned_same o a b (of_session o.session) h) h))
+  where
+    mode : mode_of a.life o.session ≡ mode_of b.life o.session
+    mode = ap open_mode (same_session o a b h)
+
+rolled_same : (o : Owner) (a b : Lone) → Same o a b → Both o a b o.session Rollback
+unfolding is_answered lone_did refusal
+rolled_same o a b h = (refl, rw mode (allowed_same o (is_transacted (mode_of b.life o.session)) _ _ a b (returned_same o a b (of_session o.session) h) h))
   where
     mode : mode_of a.life o.session ≡ mode_of b.life o.session
     mode = ap open_mode (same_session o a b h)
@@ -316,19 +327,19 @@ OnOwn n o a b request =
 joined_same : (o : Owner) (a b : Lone) (d : Definition) (n : Bool) → Same o a b →
     Same o (cond n (lone_joined o.session o.consumer (scope o).key (lone_put d a)) a) (cond n (lone_joined o.session o.consumer (scope o).key (lone_put d b)) b)
 joined_same o a b d true h =
-    λ i. record (h i) { consumer = e i; ends = λ p. more p i; accepts = λ publisher m. lone_accepts (scope o).key (Some d) publisher m; missed = 0; rows = [] }
+    λ i. record (h i) { consumer = e i; ends = λ p. more p i; definition = Some d; missed = 0; rows = [] }
   where
-    e : consumer_of (a.consumers ++ new_consumer o.session o.consumer (scope o).key ∷ []) o.session o.consumer ≡ consumer_of (b.consumers ++ new_consumer o.session o.consumer (scope o).key ∷ []) o.session o.consumer
+    e : consumer_of (a.consumers ++ new_consumer o.session o.consumer (scope o).key None ∷ []) o.session o.consumer ≡ consumer_of (b.consumers ++ new_consumer o.session o.consumer (scope o).key None ∷ []) o.session o.consumer
     e = found_more _ a.consumers b.consumers _ (ap (λ (x : Seen). x.consumer) h)
 
     more : (p : SessionId → ℕ → Bool) →
-        is_one_of p (a.consumers ++ new_consumer o.session o.consumer (scope o).key ∷ []) (scope o).key ≡ is_one_of p (b.consumers ++ new_consumer o.session o.consumer (scope o).key ∷ []) (scope o).key
-    more p = one_of_more p (scope o).key a.consumers b.consumers (new_consumer o.session o.consumer (scope o).key) (ap (λ (x : Seen). x.ends p) h)
+        is_one_of p (a.consumers ++ new_consumer o.session o.consumer (scope o).key None ∷ []) (scope o).key ≡ is_one_of p (b.consumers ++ new_consumer o.session o.consumer (scope o).key None ∷ []) (scope o).key
+    more p = one_of_more p (scope o).key a.consumers b.consumers (new_consumer o.session o.consumer (scope o).key None) (ap (λ (x : Seen). x.ends p) h)
 joined_same o a b d false h = h
 
-created_same : (o : Owner) (a b : Lone) (topic : List ℕ) (selector : Option (List ℕ)) → Same o a b → OnOwn true o a b (CreateConsumer o.consumer topic selector)
+created_same : (o : Owner) (a b : Lone) (topic : List ℕ) (selector : Option (List ℕ)) (no_local : Bool) → Same o a b → OnOwn true o a b (CreateConsumer o.consumer (Topic topic) selector no_local)
 unfolding refusal answer lone_did
-created_same o a b topic selector h = rw begin (refl, joined_same o a b (defined topic selector) _ h)
+created_same o a b topic selector no_local h = rw begin (refl, joined_same o a b (defined topic selector no_local) _ h)
   where
     begin : may_begin a.life a.consumers o.session o.consumer ≡ may_begin b.life b.consumers o.session o.consumer
     begin = ap (λ (x : Seen). is_some (open_mode x.session) && not (is_some x.consumer)) h
@@ -387,15 +398,29 @@ on_own : (o : Owner) (a b : Lone) (n : Bool) (make : ℕ → Request) (c : ℕ) 
 on_own o a b true make c e h own = subst (λ (d : ℕ). OnOwn true o a b (make d)) (sym (e refl)) own
 on_own o a b false make c e h own = (refl, h)
 
+-- one that makes a consumer of a queue is not the owner's
+of_queue : (o : Owner) (a b : Lone) (c : ℕ) (name : List ℕ) (selector : Option (List ℕ)) (no_local : Bool) → Same o a b → Both o a b o.session (CreateConsumer c (Queue name) selector no_local)
+unfolding is_answered
+of_queue o a b c name selector no_local h = go (is_own (scope o).sessions o.session)
+  where
+    request : Request
+    request = CreateConsumer c (Queue name) selector no_local
+
+    go : (n : Bool) → OnOwn (n && false) o a b request
+    go true = (refl, h)
+    go false = (refl, h)
+
 -- an own session's request
 own_same : (o : Owner) (a b : Lone) (request : Request) → Same o a b → Both o a b o.session request
 unfolding is_answered refusal
 own_same o a b (CreateSession mode) h = session_opened o a b mode h
-own_same o a b (CreateConsumer c topic selector) h =
-    on_own o a b _ (λ d. CreateConsumer d topic selector) c (λ e. (owner_named o o.session c (second_true _ _ e)).1) h (created_same o a b topic selector h)
+own_same o a b (CreateConsumer c (Queue name) selector no_local) h = of_queue o a b c name selector no_local h
+own_same o a b (CreateConsumer c (Topic topic) selector no_local) h =
+    on_own o a b _ (λ d. CreateConsumer d (Topic topic) selector no_local) c (λ e. (owner_named o o.session c (second_true _ _ e)).1) h (created_same o a b topic selector no_local h)
 own_same o a b CloseSession h = session_closed o a b h
 own_same o a b Acknowledge h = acknowledged_same o a b h
 own_same o a b Recover h = recovered_same o a b h
+own_same o a b Rollback h = rolled_same o a b h
 own_same o a b (CloseConsumer c) h = on_own o a b _ (λ d. CloseConsumer d) c (λ e. (owner_same o o.session c e).1) h (left_same o a b h)
 own_same o a b (Missed c) h = on_own o a b _ (λ d. Missed d) c (λ e. (owner_same o o.session c e).1) h (missed_same o a b h)
 own_same o a b (Receive c now) h = on_own o a b _ (λ d. Receive d now) c (λ e. (owner_same o o.session c e).1) h (received_same o a b now h)
@@ -425,6 +450,41 @@ came_if : (o : Owner) (a b : Lone) (m : Content) (n : Bool) → Same o a b → S
 came_if o a b m true h = came_same o a b m h
 came_if o a b m false h = h
 
+-- so do all that are published
+brought_same : (o : Owner) (a b : Lone) (life : Life) (ms : List Content) → Same o a b → Same o (brought (scope o) life ms a) (brought (scope o) life ms b)
+brought_same o a b life [] h = h
+brought_same o a b life (m ∷ ms) h =
+    ap (seen o) (brought_one (scope o) life m ms a)
+    ∙ brought_same o (came_to (scope o) life m a) (came_to (scope o) life m b) life ms one
+    ∙ sym (ap (seen o) (brought_one (scope o) life m ms b))
+  where
+    accepts : lone_accepts (scope o).key a.definition (publisher_of life m) m ≡ lone_accepts (scope o).key b.definition (publisher_of life m) m
+    accepts = ap (λ (x : Seen). lone_accepts (scope o).key x.definition (publisher_of life m) m) h
+
+    one : Same o (came_to (scope o) life m a) (came_to (scope o) life m b)
+    one =
+        ap (λ n. seen o (cond n (lone_brought (scope o).key m a) a)) accepts
+        ∙ came_if o a b m (lone_accepts (scope o).key b.definition (publisher_of life m) m) h
+
+settled_if : (o : Owner) (a b : Lone) (s : SessionId) (n : Bool) → Same o a b → Same o (cond n (lone_settled (of_session s) a) a) (cond n (lone_settled (of_session s) b) b)
+settled_if o a b s true h = settled_same o a b (of_session s) h
+settled_if o a b s false h = h
+
+-- an own session's mode is seen
+own_mode_same : (o : Owner) (a b : Lone) (s : SessionId) → Same o a b → (is_own (scope o).sessions s && is_transacted (mode_of a.life s)) ≡ (is_own (scope o).sessions s && is_transacted (mode_of b.life s))
+own_mode_same o a b s h = go (is_own (scope o).sessions s) refl
+  where
+    go : (n : Bool) → is_own (scope o).sessions s ≡ n → (n && is_transacted (mode_of a.life s)) ≡ (n && is_transacted (mode_of b.life s))
+    go true e =
+        let mine : s ≡ o.session = grind (arith, nat_tests, session_same s o.session) in
+        subst (λ (t : SessionId). is_transacted (mode_of a.life t) ≡ is_transacted (mode_of b.life t)) (sym mine) (ap (λ m. is_transacted (open_mode m)) (same_session o a b h))
+    go false e = refl
+
+commit_same : (o : Owner) (a b : Lone) (life : Life) (s : SessionId) (ms : List Content) → Same o a b → Same o (after_commit (scope o) life s ms a) (after_commit (scope o) life s ms b)
+commit_same o a b life s ms h =
+    ap (λ n. seen o (brought (scope o) life ms (cond n (lone_settled (of_session s) a) a))) (own_mode_same o a b s h)
+    ∙ brought_same o _ _ life ms (settled_if o a b s (is_own (scope o).sessions s && is_transacted (mode_of b.life s)) h)
+
 -- what an entry feeds is answered the same, and leaves the same to be seen
 pub entry_same : (o : Owner) (a b : Lone) (life : Life) (before : List Entry) (place : ℕ) (e : Entry) → Same o a b →
     (lone_replies (scope o) a (at_place place (fed (scope o) life before a e)) ≡ lone_replies (scope o) b (at_place place (fed (scope o) life before b e)))
@@ -432,13 +492,11 @@ pub entry_same : (o : Owner) (a b : Lone) (life : Life) (before : List Entry) (p
 entry_same o a b life before place (Sent m) h =
     let f = fed_sent (scope o) life before a place m in
     let g = fed_sent (scope o) life before b place m in
-    let accepts : lone_accepts (scope o).key a.definition (publisher_of life m) m ≡ lone_accepts (scope o).key b.definition (publisher_of life m) m = ap (λ (x : Seen). x.accepts (publisher_of life m) m) h in (
-      f.0 ∙ sym g.0,
-      ap (seen o) f.1
-          ∙ ap (λ n. seen o (cond n (lone_brought (scope o).key m a) a)) accepts
-          ∙ came_if o a b m (lone_accepts (scope o).key b.definition (publisher_of life m) m) h
-          ∙ sym (ap (seen o) g.1),
-    )
+    (f.0 ∙ sym g.0, ap (seen o) f.1 ∙ brought_same o a b life (committed life before (Sent m)) h ∙ sym (ap (seen o) g.1))
+entry_same o a b life before place (Committed s) h =
+    let f = fed_commit (scope o) life before a place s in
+    let g = fed_commit (scope o) life before b place s in
+    (f.0 ∙ sym g.0, ap (seen o) f.1 ∙ commit_same o a b life s (committed life before (Committed s)) h ∙ sym (ap (seen o) g.1))
 entry_same o a b life before place (Asked who request r) h = go (is_own_call (scope o) who r) refl
   where
     go : (n : Bool) → is_own_call (scope o) who r ≡ n →

@@ -14,20 +14,20 @@ use Rattle.jm_machine.specs.Rows.{given_back}
 use Rattle.jm_machine.specs.Machine.{consumer_of, closed_consumer, ends, may_close_session, of_connection, of_session, refusal}
 use Rattle.jm_machine.specs.Lone.{Lone, lone_did, lone_ended, lone_refusal}
 use Rattle.jm_session.specs.Known.{Known}
-use Rattle.jm_sub.specs.Subscriptions.{Subscription}
+use Rattle.jm_machine.specs.declared.state.Definition.{Definition}
 use Rattle.jm_model.specs.declared.owner.Owner.{Owner}
 use Rattle.jm_model.specs.Owners.{scope}
-use Rattle.jm_model.specs.Parts.{Rows, AllNested, seen, connection_seen, definition_in}
+use Rattle.jm_model.specs.Parts.{Rows, AllNested, seen, connection_seen}
 use Rattle.jm_model.proofs.Found.{found_started, found_closed, found_session, found_consumer, one_of_closed}
 use Rattle.jm_model.proofs.Seen.{ended_if}
 
 -- what is known, asked for and held
-abbrev pub held : Known → List Subscription → Rows → Lone
-held k s r = record { limit = r.limit; life = k.life; consumers = k.consumers; definition = definition_in s; missed = r.missed; rows = r.rows }
+abbrev pub held : Known → Option Definition → Rows → Lone
+held k s r = record { limit = r.limit; life = k.life; consumers = k.consumers; definition = s; missed = r.missed; rows = r.rows }
 
 -- it is the same as what is said of it
-known_as : (k new : Known) (s : List Subscription) (r : Rows) (life : Life) (consumers : List Consumer) → new.life ≡ life → new.consumers ≡ consumers → held new s r ≡ record (held k s r) { life = life; consumers = consumers }
-known_as k new s r life consumers l c = λ i. record { limit = r.limit; life = l i; consumers = c i; definition = definition_in s; missed = r.missed; rows = r.rows }
+known_as : (k new : Known) (s : Option Definition) (r : Rows) (life : Life) (consumers : List Consumer) → new.life ≡ life → new.consumers ≡ consumers → held new s r ≡ record (held k s r) { life = life; consumers = consumers }
+known_as k new s r life consumers l c = λ i. record { limit = r.limit; life = l i; consumers = c i; definition = s; missed = r.missed; rows = r.rows }
 
 abbrev own : Owner → Known → Option ConnectionState
 own o k = connection_of k.life.connections o.session.connection
@@ -40,14 +40,14 @@ opened_again xs c y h = stays (connection_of xs c) h ∙ sym (find-append (λ x.
     stays None h = cc
     stays (Some x) h = refl
 
-pub open_seen : (o : Owner) (k new : Known) (s : List Subscription) (r : Rows) (ok : Bool) → (ok ≡ false → is_some (own o k) ≡ true) →
-    new.life ≡ cond ok (life_after k.life (Connection o.session.connection) Open) k.life → new.consumers ≡ k.consumers →
-    seen o (held new s r) ≡ seen o (lone_did (scope o).key (held k s r) (Connection o.session.connection) Open)
+pub open_seen : (o : Owner) (k new : Known) (s : Option Definition) (r : Rows) (client : Option (List ℕ)) (ok : Bool) → (ok ≡ false → is_some (own o k) ≡ true) →
+    new.life ≡ cond ok (life_after k.life (Connection o.session.connection) (Open client)) k.life → new.consumers ≡ k.consumers →
+    seen o (held new s r) ≡ seen o (lone_did (scope o).key (held k s r) (Connection o.session.connection) (Open client))
 unfolding lone_did life_after
-open_seen o k new s r true h l c = ap (seen o) (known_as k new s r _ _ l c)
-open_seen o k new s r false h l c =
+open_seen o k new s r client true h l c = ap (seen o) (known_as k new s r _ _ l c)
+open_seen o k new s r client false h l c =
     ap (seen o) (known_as k new s r _ _ l c)
-    ∙ (λ i. record (seen o (held k s r)) { connection = connection_seen (is_some (mode_of k.life o.session)) (opened_again k.life.connections o.session.connection (record { id = o.session.connection; is_started = false; is_open = true }) (h refl) i) })
+    ∙ (λ i. record (seen o (held k s r)) { connection = connection_seen (is_some (mode_of k.life o.session)) (opened_again k.life.connections o.session.connection (record { id = o.session.connection; client = client; is_started = false; is_open = true }) (h refl) i) })
 
 -- it starts or stops; of one that is closed with its session nothing is seen
 unseen : (n : Bool) (c : ℕ) (on : Bool) (o : Option ConnectionState) → is_open_connection o ≡ false → n ≡ false → connection_seen n o ≡ connection_seen n (option_map (started_if c on) o)
@@ -65,7 +65,7 @@ not_up : (n m : Bool) → m ≡ false → (n ≡ true → m ≡ true) → n ≡ 
 not_up true m e h = let i : m ≡ true = h refl in cc
 not_up false m e h = refl
 
-set_seen : (o : Owner) (k new : Known) (s : List Subscription) (r : Rows) (on ok : Bool) → AllNested k.life k.consumers → ok ≡ is_open_connection (own o k) →
+set_seen : (o : Owner) (k new : Known) (s : Option Definition) (r : Rows) (on ok : Bool) → AllNested k.life k.consumers → ok ≡ is_open_connection (own o k) →
     new.life ≡ cond ok (record k.life { connections = with_started o.session.connection on k.life.connections }) k.life → new.consumers ≡ k.consumers →
     seen o (held new s r) ≡ seen o (record (held k s r) { life = record k.life { connections = with_started o.session.connection on k.life.connections } })
 set_seen o k new s r on true n h l c = ap (seen o) (known_as k new s r _ _ l c)
@@ -76,28 +76,28 @@ set_seen o k new s r on false n h l c =
           ∙ sym (ap (connection_seen (is_some (mode_of k.life o.session))) (found_started o.session.connection on o.session.connection k.life.connections))) i;
     })
 
-pub start_seen : (o : Owner) (k new : Known) (s : List Subscription) (r : Rows) (ok : Bool) → AllNested k.life k.consumers → ok ≡ is_open_connection (own o k) →
+pub start_seen : (o : Owner) (k new : Known) (s : Option Definition) (r : Rows) (ok : Bool) → AllNested k.life k.consumers → ok ≡ is_open_connection (own o k) →
     new.life ≡ cond ok (life_after k.life (Connection o.session.connection) Start) k.life → new.consumers ≡ k.consumers →
     seen o (held new s r) ≡ seen o (lone_did (scope o).key (held k s r) (Connection o.session.connection) Start)
 unfolding lone_did life_after
 start_seen o k new s r ok n h l c = set_seen o k new s r true ok n h l c
 
-pub stop_seen : (o : Owner) (k new : Known) (s : List Subscription) (r : Rows) (ok : Bool) → AllNested k.life k.consumers → ok ≡ is_open_connection (own o k) →
+pub stop_seen : (o : Owner) (k new : Known) (s : Option Definition) (r : Rows) (ok : Bool) → AllNested k.life k.consumers → ok ≡ is_open_connection (own o k) →
     new.life ≡ cond ok (life_after k.life (Connection o.session.connection) Stop) k.life → new.consumers ≡ k.consumers →
     seen o (held new s r) ≡ seen o (lone_did (scope o).key (held k s r) (Connection o.session.connection) Stop)
 unfolding lone_did life_after
 stop_seen o k new s r ok n h l c = set_seen o k new s r false ok n h l c
 
 -- consumers close, what is out to them waits again, and the subscription ends
-abbrev pub after_close : (SessionId → ℕ → Bool) → Bool → Life → Known → List Subscription → Rows → Lone
+abbrev pub after_close : (SessionId → ℕ → Bool) → Bool → Life → Known → Option Definition → Rows → Lone
 after_close p b life k s r =
     let left : Lone = record (held k s r) { life = life; consumers = map (closed_consumer p) k.consumers; rows = map (given_back p) r.rows } in
     cond b (lone_ended left) left
 
-closed_as : (p : SessionId → ℕ → Bool) (b : Bool) (life : Life) (k new : Known) (s : List Subscription) (r t : Rows) → new.life ≡ life → new.consumers ≡ map (closed_consumer p) k.consumers → t ≡ record r { rows = map (given_back p) r.rows } →
+closed_as : (p : SessionId → ℕ → Bool) (b : Bool) (life : Life) (k new : Known) (s : Option Definition) (r t : Rows) → new.life ≡ life → new.consumers ≡ map (closed_consumer p) k.consumers → t ≡ record r { rows = map (given_back p) r.rows } →
     cond b (lone_ended (held new s t)) (held new s t) ≡ after_close p b life k s r
 closed_as p b life k new s r t l c w = λ i.
-    let left : Lone = record { limit = (w i).limit; life = l i; consumers = c i; definition = definition_in s; missed = (w i).missed; rows = (w i).rows } in
+    let left : Lone = record { limit = (w i).limit; life = l i; consumers = c i; definition = s; missed = (w i).missed; rows = (w i).rows } in
     cond b (lone_ended left) left
 
 -- the owner's connection closes; of one that was never opened nothing is seen
@@ -105,7 +105,7 @@ none : {A : Type 0} (x : Option A) → is_some x ≡ false → x ≡ None
 none None h = refl
 none (Some x) h = cc
 
-pub close_seen : (o : Owner) (k new : Known) (s : List Subscription) (r t : Rows) (b ok : Bool) → AllNested k.life k.consumers → ok ≡ is_some (own o k) →
+pub close_seen : (o : Owner) (k new : Known) (s : Option Definition) (r t : Rows) (b ok : Bool) → AllNested k.life k.consumers → ok ≡ is_some (own o k) →
     new.life ≡ cond ok (life_after k.life (Connection o.session.connection) CloseConnection) k.life →
     new.consumers ≡ cond ok (map (closed_consumer (of_connection o.session.connection)) k.consumers) k.consumers →
     t ≡ record r { rows = map (given_back (of_connection o.session.connection)) r.rows } → b ≡ ends (of_connection o.session.connection) k.consumers (scope o).key →
@@ -162,14 +162,14 @@ close_seen o k new s r t b false n h l c w e =
     }
 
 -- a session closes, where it may
-pub leave_refused : (key : Key) (u : SessionId) (k new : Known) (s : List Subscription) (r : Rows) (ok : Bool) → ok ≡ false → ok ≡ may_close_session k.life u → new.life ≡ cond ok (life_after k.life (Session u) CloseSession) k.life →
+pub leave_refused : (key : Key) (u : SessionId) (k new : Known) (s : Option Definition) (r : Rows) (ok : Bool) → ok ≡ false → ok ≡ may_close_session k.life u → new.life ≡ cond ok (life_after k.life (Session u) CloseSession) k.life →
     new.consumers ≡ cond ok (map (closed_consumer (of_session u)) k.consumers) k.consumers →
     held new s r ≡ cond (is_none (lone_refusal (held k s r) (Session u) CloseSession)) (lone_did key (held k s r) (Session u) CloseSession) (held k s r)
 unfolding refusal
 leave_refused key u k new s r true e h l c = cc
 leave_refused key u k new s r false e h l c = rw (sym h) (known_as k new s r k.life k.consumers l c)
 
-pub leaves : (key : Key) (u : SessionId) (k new : Known) (s : List Subscription) (r t : Rows) (b ok : Bool) → ok ≡ true → ok ≡ may_close_session k.life u → new.life ≡ cond ok (life_after k.life (Session u) CloseSession) k.life →
+pub leaves : (key : Key) (u : SessionId) (k new : Known) (s : Option Definition) (r t : Rows) (b ok : Bool) → ok ≡ true → ok ≡ may_close_session k.life u → new.life ≡ cond ok (life_after k.life (Session u) CloseSession) k.life →
     new.consumers ≡ cond ok (map (closed_consumer (of_session u)) k.consumers) k.consumers → t ≡ record r { rows = map (given_back (of_session u)) r.rows } → b ≡ ends (of_session u) k.consumers key →
     cond b (lone_ended (held new s t)) (held new s t) ≡ cond (is_none (lone_refusal (held k s r) (Session u) CloseSession)) (lone_did key (held k s r) (Session u) CloseSession) (held k s r)
 unfolding refusal lone_did

@@ -1,4 +1,6 @@
 pub mod Owners
 pub mod Parts
+pub mod Transactions
+pub mod Courses
 pub mod Answers
 pub mod Faults

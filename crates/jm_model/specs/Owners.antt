@@ -1,7 +1,11 @@
 -- What belongs to the subscription of one consumer.
-use Rattle.std.specs.Prelude.{◌==◌, ◌&&◌, [], ◌∷◌}
+use Rattle.std.specs.Prelude.{Bool, ◌==◌, ◌&&◌, ◌||◌, not, List, [], ◌∷◌}
+use Rattle.std.specs.List.{list_all}
 use Rattle.jm_dest.specs.declared.key.Key.TheVariants.{Own}
+use Rattle.jm_dest.specs.Keys.{key_eq}
 use Rattle.jm_dest.specs.Names.{session_eq}
+use Rattle.jm_machine.specs.declared.state.Consumer.{Consumer}
+use Rattle.jm_machine.specs.Machine.{has_number}
 use Rattle.jm_machine.specs.Lone.{Scope}
 use Rattle.jm_model.specs.declared.owner.Owner.{Owner}
 
@@ -12,3 +16,7 @@ scope owner = record {
   sessions = owner.session ∷ [];
   numbers = λ s c. owner.is_made && (session_eq s owner.session && (c == owner.consumer));
 }
+
+-- the owner's number names nothing else among the consumers
+abbrev pub is_alone : Owner → List Consumer → Bool
+is_alone owner consumers = list_all (λ x. not (has_number owner.session owner.consumer x) || key_eq x.key (scope owner).key) consumers

@@ -1,7 +1,6 @@
 -- What the parts of a subscription alone show.
 use Rattle.std.specs.Prelude.{◌≡◌, ◌≤◌, ◌+◌, ◌&&◌, ◌||◌, ℕ, Bool, true, List, [], ◌∷◌, ◌++◌, length, min, nat_le, slice_index_or, is_some, Option, Some, None, if◌then◌else◌}
 use Rattle.jm_dest.specs.declared.session.SessionId.{SessionId}
-use Rattle.jm_header.specs.declared.content.Content.{Content}
 use Rattle.jm_machine.specs.declared.state.Row.{Row}
 use Rattle.jm_machine.specs.declared.state.Definition.{Definition}
 use Rattle.jm_machine.specs.declared.state.Consumer.{Consumer}
@@ -9,11 +8,10 @@ use Rattle.jm_machine.specs.declared.state.ConnectionState.{ConnectionState}
 use Rattle.jm_machine.specs.declared.state.SessionState.{SessionState}
 use Rattle.jm_machine.specs.Life.{Life, connection_of, session_of, mode_of, open_mode, is_open_connection}
 use Rattle.jm_machine.specs.Rows.{bare}
-use Rattle.jm_machine.specs.Machine.{Publisher, consumer_of, ends, greatest_missed, one_missed, places_end}
-use Rattle.jm_machine.specs.Lone.{Lone, lone_accepts}
+use Rattle.jm_machine.specs.Machine.{consumer_of, ends, greatest_missed, one_missed, places_end}
+use Rattle.jm_machine.specs.Lone.{Lone}
 use Rattle.jm_stations.specs.Backlogs.{Backlog}
 use Rattle.jm_stations.specs.Stations.{Stations}
-use Rattle.jm_sub.specs.Subscriptions.{Subscription}
 use Rattle.jm_model.specs.declared.owner.Owner.{Owner}
 use Rattle.jm_model.specs.Owners.{scope}
 
@@ -59,11 +57,6 @@ pub record HasRoom (n : ℕ) (stations : Stations) : Type 0 where
   pub messages : n ≤ stations.message_room
   pub rows : (d : Backlog) → n ≤ (slice_index_or stations.list 0 d).room
 
--- what the first subscription asks for, where there is one
-abbrev pub definition_in : List Subscription → Option Definition
-definition_in [] = None
-definition_in (s ∷ list) = Some s.definition
-
 -- what may be open lies within what is: a consumer was made in a session that was opened, and a session was opened in a
 -- connection that was; an open session's connection is open
 pub record IsNested (connection : Option ConnectionState) (session : Option SessionState) (consumer : Option Consumer) : Type 0 where
@@ -81,14 +74,14 @@ connection_seen is_open None = None
 connection_seen is_open (Some x) = Some (record x { is_started = (x.is_open || is_open) && x.is_started })
 
 -- what an owner sees of its own: the limit, its connection, session and consumer by their numbers, with the close of
--- which consumers the subscription ends, which publications come, how many were missed, and the rows
+-- which consumers the subscription ends, what it asks for, how many publications were missed, and the rows
 pub record Seen : Type 0 where
   pub limit : ℕ
   pub connection : Option ConnectionState
   pub session : Option SessionState
   pub consumer : Option Consumer
   pub ends : (SessionId → ℕ → Bool) → Bool
-  pub accepts : Publisher → Content → Bool
+  pub definition : Option Definition
   pub missed : ℕ
   pub rows : List Row
 
@@ -100,7 +93,7 @@ seen owner lone = record {
   session = session_of lone.life.sessions owner.session;
   consumer = consumer_of lone.consumers owner.session owner.consumer;
   ends = λ p. ends p lone.consumers (scope owner).key;
-  accepts = λ publisher m. lone_accepts (scope owner).key lone.definition publisher m;
+  definition = lone.definition;
   missed = lone.missed;
   rows = lone.rows;
 }

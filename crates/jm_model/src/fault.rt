@@ -4,8 +4,8 @@ use std::fmt;
 /// Why the replies of one subscription alone are not given.
 #[derive(Clone, Copy, Debug, PartialEq, Eq)]
 pub enum LoneFault {
-    /// The key is not that of an unshared topic subscription, or its consumer's number names another
-    /// consumer of the opening too.
+    /// The key is not that of an unshared topic subscription, or its consumer's number names something else: another
+    /// consumer of the opening, or what a creating call among the entries names.
     NotUnshared,
     /// A request for memory was refused.
     Memory,

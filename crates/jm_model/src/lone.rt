@@ -1,34 +1,39 @@
 //! One subscription alone: what it holds, and what it answers to what it is fed.
 
-ghost use Rattle.std.specs.Prelude.{◌≡◌, ◌≤◌, ◌&&◌, ◌++◌, [], ◌∷◌, true, length, option_to_list};
-ghost use Rattle.std.specs.Prelude.{is_none, is_some, IfOk, IfSome, OnOk, if◌then◌else◌};
+ghost use Rattle.std.specs.Prelude.{◌≡◌, ◌≤◌, ◌&&◌, ◌++◌, [], ◌∷◌, true, length, option_to_list, List};
+ghost use Rattle.std.specs.Prelude.{is_none, slice_get, IfOk, IfSome, None, OnOk, Some, if◌then◌else◌};
 ghost use Rattle.std.specs.Option.{option_copied};
-ghost use Rattle.jm_dest.specs.declared.key.Key.{Key as OfKey};
 ghost use Rattle.jm_dest.specs.Keys.{key_eq};
-ghost use Rattle.jm_header.specs.declared.content.Content.{Content};
+ghost use Rattle.jm_dest.specs.declared.destination.Destination.TheVariants.{Topic};
+ghost use Rattle.jm_machine.specs.declared.entry.Entry.{Entry as OfEntry};
 ghost use Rattle.jm_machine.specs.Owns as owns;
 ghost use Rattle.jm_machine.specs.Life as life;
+ghost use Rattle.jm_machine.specs.Life.{Life};
 ghost use Rattle.jm_machine.specs.Rows.{bare};
 ghost use Rattle.jm_machine.specs.Machine as machine;
-ghost use Rattle.jm_machine.specs.Isolation.{is_unshared};
 ghost use Rattle.jm_machine.specs.Lone as spec;
 ghost use Rattle.jm_machine.specs.Lone.Item.{Called};
 ghost use Rattle.jm_core.specs.Provider.{state_of};
-ghost use Rattle.jm_model.specs.Owners.{scope};
-ghost use Rattle.jm_model.specs.Parts.{AllNested, definition_in, seen};
-ghost use Rattle.jm_model.specs.Answers.{Answers, IsAnswered, IsTakenUp, after};
+ghost use Rattle.jm_model.specs.Owners.{is_alone, scope};
+ghost use Rattle.jm_model.specs.Parts.{AllNested, seen};
+ghost use Rattle.jm_model.specs.Answers.{Answers, IsAnswered, IsTakenUp, after, after_commit, brought, came_to};
+ghost use Rattle.jm_model.specs.Transactions.{Course, committed_places, message_in, messages_at, mode_in};
+ghost use Rattle.jm_model.specs.Courses.{course_of};
 
 use crate::owner::Owner;
 use crate::rows::Rows;
-use crate::subscription::{accepts, created, restored};
+use crate::subscription::{accepts, created};
+use crate::transactions::Transactions;
 use jm_base::{Mode, Refusal, Str};
 use jm_core::{Core, law_core_reached, law_rows_within_limit};
-use jm_dest::{ConnectionId, Key, Moment, Name, SessionId};
+use jm_dest::{ClientId, ConnectionId, Destination, Key, Moment, Name, SessionId};
 use jm_header::Message;
 use jm_machine::find::{connection_of, consumer_of, session_of};
-use jm_machine::{Answer, Consumer, Consumers, Entry, Reply, Request, Station, Who};
+use jm_machine::{
+    Answer, ConnectionState, Consumer, Consumers, Definition, Entry, Reply, Request, Station, Who,
+};
+use jm_selector::Selector;
 use jm_session::Sessions;
-use jm_sub::Subs;
 use std::alloc::{AllocError, Global};
 use std::marker::Model;
 
@@ -36,7 +41,7 @@ use std::marker::Model;
 /// that a function with several ways out does not drop part by part on each.
 pub(crate) struct Lone {
     sessions: Sessions,
-    subs: Subs,
+    definition: Option<Definition>,
     rows: Rows,
 }
 
@@ -44,18 +49,18 @@ impl Drop for Lone {
     fn drop(self) {
         let Lone {
             sessions,
-            subs,
+            definition,
             rows,
         } = self;
         drop(sessions);
-        drop(subs);
+        drop(definition);
         drop(rows);
     }
 }
 
 impl Model for Lone {
     ghost use Rattle.jm_machine.specs.Lone.{Lone as LoneHeld};
-    ghost use Rattle.jm_model.specs.Parts.{AllNested, definition_in};
+    ghost use Rattle.jm_model.specs.Parts.{AllNested};
 
     ghost Value = { LoneHeld };
 
@@ -63,12 +68,32 @@ impl Model for Lone {
       limit = l.rows.limit;
       life = l.sessions.life;
       consumers = l.sessions.consumers;
-      definition = definition_in l.subs.list;
+      definition = l.definition;
       missed = l.rows.missed;
       rows = l.rows.rows;
     } };
 
     ghost invariant = { λ l. AllNested l.sessions.life l.sessions.consumers };
+}
+
+fn copy_client(client: &Option<ClientId>) -> Result<Option<ClientId>, AllocError>
+    ensures { IfOk result (λ copy. copy ≡ client.now) }
+{
+    match client {
+        None => Ok(None),
+        Some(client) => Ok(Some(client.copy()?)),
+    }
+}
+
+fn copy_connection(
+    connection: Option<&ConnectionState>,
+) -> Result<Option<ConnectionState>, AllocError>
+    ensures { IfOk result (λ copy. copy ≡ option_copied connection.entry) }
+{
+    match connection {
+        None => Ok(None),
+        Some(connection) => Ok(Some(connection.copy()?)),
+    }
 }
 
 fn copy_consumer(consumer: Option<&Consumer>) -> Result<Option<Consumer>, AllocError>
@@ -92,7 +117,8 @@ fn own_sessions(alloc: Global, opening: &Core, owner: &Owner) -> Result<Sessions
     let connection = connection_of(opening.connections(), owner.session.connection);
     let session = session_of(opening.sessions(), &owner.session);
     let consumer = consumer_of(opening.consumers(), &owner.session, owner.consumer);
-    Sessions::of_one(alloc, connection, session, copy_consumer(consumer)?)
+    let (connection, consumer) = (copy_connection(connection)?, copy_consumer(consumer)?);
+    Sessions::of_one(alloc, connection, session, consumer)
 }
 
 /// What is held under the owner's key in the opening.
@@ -106,29 +132,26 @@ fn own_station(opening: &Core, owner: &Owner) -> Result<Option<Station>, AllocEr
     opening.station(&key)
 }
 
-/// The subscription that stands there, and its rows.
+/// What the subscription that stands there asks for, and its rows.
 fn parts_of(
     alloc: Global,
     owner: &Owner,
     limit: u32,
     station: Station,
-) -> Result<(Subs, Rows), AllocError>
+) -> Result<(Definition, Rows), AllocError>
     requires { length station.rows ≤ limit }
-    ensures accepts { (key : OfKey) (publisher : machine.Publisher) (m : Content) →
-        IfOk result (λ parts. spec.lone_accepts key (definition_in parts.0.list) publisher m
-        ≡ machine.accepts key station.definition publisher m) }
+    ensures definition { IfOk result (λ parts. parts.0 ≡ station.definition) }
     ensures rows { IfOk result (λ parts. parts.1
         ≡ record { limit = limit; missed = station.missed; rows = bare station.rows }) }
 {
     let Station {
-        key,
+        key: _,
         definition,
         missed,
         rows,
     } = station;
-    let subs = restored(alloc, key, &definition)?;
     let rows = Rows::of(alloc, owner.key(), limit, missed, rows.into_inner())?;
-    Ok((subs, rows))
+    Ok((definition, rows))
 }
 
 /// The same of a subscription that may stand there.
@@ -137,36 +160,57 @@ fn own_parts(
     owner: &Owner,
     limit: u32,
     station: Option<Station>,
-) -> Result<(Subs, Rows), AllocError>
+) -> Result<(Option<Definition>, Rows), AllocError>
     requires { IfSome station (λ x. length x.rows ≤ limit) }
-    ensures accepts { (key : OfKey) (publisher : machine.Publisher) (m : Content) →
-        IfOk result (λ parts. spec.lone_accepts key (definition_in parts.0.list) publisher m
-        ≡ spec.lone_accepts key (machine.definition_of station) publisher m) }
+    ensures definition { IfOk result (λ parts. parts.0 ≡ machine.definition_of station) }
     ensures rows { IfOk result (λ parts. parts.1
         ≡ record { limit = limit; missed = machine.missed_of station; rows = machine.rows_of station }) }
 {
     match station {
-        None => Ok((Subs::new(alloc), Rows::new(alloc, owner.key(), limit)?)),
-        Some(station) => parts_of(alloc, owner, limit, station),
+        None => Ok((None, Rows::new(alloc, owner.key(), limit)?)),
+        Some(station) => {
+            let (definition, rows) = parts_of(alloc, owner, limit, station)?;
+            Ok((Some(definition), rows))
+        }
     }
 }
 
 impl Lone {
     /// What the opening holds of the owner's subscription.
     pub(crate) fn of(alloc: Global, opening: &Core, owner: &Owner) -> Result<Lone, AllocError>
-        requires { is_unshared (scope owner.now).key (state_of opening.now) ≡ true }
+        requires { is_alone owner.now (state_of opening.now).consumers ≡ true }
         ensures { IfOk result (λ lone. seen owner.now lone
             ≡ seen owner.now (spec.lone_of (scope owner.now) (state_of opening.now))) }
     {
         law_core_reached(opening);
         let station = own_station(opening, owner)?;
-        let (subs, rows) = own_parts(alloc, owner, opening.held_limit(), station)?;
+        let (definition, rows) = own_parts(alloc, owner, opening.held_limit(), station)?;
         let sessions = own_sessions(alloc, opening, owner)?;
         Ok(Lone {
             sessions,
-            subs,
+            definition,
             rows,
         })
+    }
+}
+
+/// The message that the entry sent.
+fn sent_by(entry: &Entry) -> Option<&Message>
+    ensures { option_to_list (option_copied result) ≡ message_in (Some entry.now) }
+{
+    match entry {
+        Entry::Sent(message) => Some(message),
+        Entry::Asked { .. } | Entry::Committed(_) => None,
+    }
+}
+
+/// The message that was sent at that place among the entries.
+fn message_at(entries: &[Entry], place: usize) -> Option<&Message>
+    ensures { option_to_list (option_copied result) ≡ message_in (slice_get entries.now place) }
+{
+    match entries.get(place) {
+        Some(entry) => sent_by(entry),
+        None => None,
     }
 }
 
@@ -195,19 +239,21 @@ impl Lone {
     {
         if ends {
             self.rows = Rows::new(alloc, owner.key(), self.rows.limit())?;
-            self.subs = Subs::new(alloc);
+            self.definition = None;
         }
         Ok(())
     }
 
-    /// The owner's connection is opened. One that was opened before is as it was, and nothing is seen of it.
-    fn open(&mut self, owner: &Owner) -> Result<(), AllocError>
-        ensures { OnOk result (IsTakenUp owner.now self.old Request.Open self.new) }
+    /// The owner's connection is opened for that client. One that was opened before is as it was, and nothing is seen
+    /// of it. No other connection is held, so none has the client.
+    fn open(&mut self, owner: &Owner, client: &Option<ClientId>) -> Result<(), AllocError>
+        ensures { OnOk result (IsTakenUp owner.now self.old (Request.Open client.now) self.new) }
     {
         if self.sessions.is_used(owner.session.connection) {
             return Ok(());
         }
-        let Ok(_) = self.sessions.open(owner.session.connection) else {
+        let client = copy_client(client)?;
+        let Ok(_) = self.sessions.open(owner.session.connection, client) else {
             return Err(AllocError);
         };
         Ok(())
@@ -245,7 +291,7 @@ impl Lone {
         ensures { OnOk result (IsTakenUp owner.now self.old request.now self.new) }
     {
         match request {
-            Request::Open => self.open(owner)?,
+            Request::Open { client } => self.open(owner, client)?,
             Request::Start => self.start(owner),
             Request::Stop => self.stop(owner),
             Request::CloseConnection => self.close_connection(alloc, owner)?,
@@ -286,51 +332,82 @@ impl Lone {
     }
 
     /// Adds the owner with that subscription, empty, in place of any other.
-    fn join(&mut self, alloc: Global, owner: &Owner, subs: Subs) -> Result<(), AllocError>
+    fn join(
+        &mut self,
+        alloc: Global,
+        owner: &Owner,
+        definition: Definition,
+    ) -> Result<(), AllocError>
         requires { machine.may_begin self.old.life self.old.consumers owner.now.session owner.now.consumer ≡ true }
         ensures { OnOk result (self.new ≡ record self.old {
           consumers = self.old.consumers
-              ++ machine.new_consumer owner.now.session owner.now.consumer (scope owner.now).key ∷ [];
-          definition = definition_in subs.list;
+              ++ machine.new_consumer owner.now.session owner.now.consumer (scope owner.now).key None ∷ [];
+          definition = Some definition;
           missed = 0;
           rows = [];
         }) }
     {
         let rows = Rows::new(alloc, owner.key(), self.rows.limit())?;
+        let (key, selector) = (owner.key(), Selector::none(alloc));
         let Ok(_) = self
             .sessions
-            .consumer(&owner.session, owner.consumer, owner.key())
+            .consumer(&owner.session, owner.consumer, key, selector)
         else {
             return Err(AllocError);
         };
-        self.subs = subs;
+        self.definition = Some(definition);
         self.rows = rows;
         Ok(())
     }
 
-    /// Makes the owner, where it may be made.
+    /// Makes the owner, a consumer of the topic, where it may be made.
     #[tactic(auto, unfolding(jm_machine::specs::Machine::refusal, jm_machine::specs::Machine::answer, jm_machine::specs::Lone::lone_did))]
-    fn create_consumer(
+    fn subscribe(
         &mut self,
         alloc: Global,
         owner: &Owner,
         topic: &Name,
         selector: &Option<Str>,
+        no_local: bool,
     ) -> Result<Reply, AllocError>
         ensures { IfOk result (λ reply.
-            let request = Request.CreateConsumer owner.now.consumer topic.now selector.now in
+            let request = Request.CreateConsumer owner.now.consumer (Topic topic.now) selector.now no_local in
             IsAnswered owner.now self.old request reply self.new) }
     {
         if !self.sessions.may_begin(&owner.session, owner.consumer) {
             return Ok(Err(Refusal::IllegalState));
         }
-        match created(alloc, owner.key(), topic, selector) {
-            Ok(subs) => {
-                self.join(alloc, owner, subs)?;
+        match created(alloc, topic, selector, no_local) {
+            Ok(definition) => {
+                self.join(alloc, owner, definition)?;
                 Ok(Ok(Answer::Done))
             }
             Err(Refusal::Memory) => Err(AllocError),
             Err(refusal) => Ok(Err(refusal)),
+        }
+    }
+
+    /// What is answered to a creating request that names the owner's number, and taken up of it: one of a queue's
+    /// consumer is another's.
+    fn create_consumer(
+        &mut self,
+        alloc: Global,
+        owner: &Owner,
+        destination: &Destination,
+        selector: &Option<Str>,
+        no_local: bool,
+    ) -> Result<Option<Reply>, AllocError>
+        ensures { IfOk result (λ reply.
+            let request = Request.CreateConsumer owner.now.consumer destination.now selector.now no_local in
+            let item = Called (Who.Session owner.now.session) request in
+            (reply ≡ spec.lone_told (scope owner.now) self.old item)
+            × (self.new ≡ spec.lone_after (scope owner.now) self.old item)) }
+    {
+        match destination {
+            Destination::Queue(_) => Ok(None),
+            Destination::Topic(topic) => {
+                Ok(Some(self.subscribe(alloc, owner, topic, selector, no_local)?))
+            }
         }
     }
 
@@ -384,13 +461,36 @@ impl Lone {
         }
     }
 
-    /// Lets what is out to the session wait again, where it is open.
+    /// Lets what is out to the session wait again, where it is open and not transacted.
     fn recover(&mut self, id: &SessionId)
-        ensures { self.new ≡ (if is_some (life.mode_of self.old.life id.now)
+        ensures { self.new ≡ (if machine.is_untransacted (life.mode_of self.old.life id.now)
             then spec.lone_returned (machine.of_session id.now) self.old else self.old) }
     {
-        if self.sessions.is_open(id) {
+        if let Some(Mode::Auto | Mode::Client | Mode::Dups) = self.sessions.mode_of(id) {
             self.rows.give_back(&Consumers::OfSession(*id));
+        }
+    }
+
+    /// Lets what is out to the session wait again, where it is open and transacted.
+    fn roll_back(&mut self, id: &SessionId)
+        ensures { self.new ≡ (if machine.is_transacted (life.mode_of self.old.life id.now)
+            then spec.lone_returned (machine.of_session id.now) self.old else self.old) }
+    {
+        if let Some(Mode::Transacted) = self.sessions.mode_of(id) {
+            self.rows.give_back(&Consumers::OfSession(*id));
+        }
+    }
+
+    /// Settles what is out to the session, where it is the owner's, open and transacted.
+    fn settle_commit(&mut self, owner: &Owner, id: &SessionId)
+        ensures { self.new ≡ (if owns.is_own (scope owner.now).sessions id.now && machine.is_transacted (life.mode_of self.old.life id.now)
+            then spec.lone_settled (machine.of_session id.now) self.old else self.old) }
+    {
+        if !owner.is_own(id) {
+            return;
+        }
+        if let Some(Mode::Transacted) = self.sessions.mode_of(id) {
+            self.rows.settle(&Consumers::OfSession(*id));
         }
     }
 
@@ -424,6 +524,7 @@ impl Lone {
             Request::CloseSession => self.close_session(alloc, owner, session)?,
             Request::Acknowledge => self.acknowledge(session),
             Request::Recover => self.recover(session),
+            Request::Rollback => self.roll_back(session),
             _ => {}
         }
         Ok(())
@@ -446,10 +547,11 @@ impl Lone {
         match request {
             Request::CreateConsumer {
                 consumer,
-                topic,
+                destination,
                 selector,
+                no_local,
             } if owner.names(session, *consumer) => {
-                Ok(Some(self.create_consumer(alloc, owner, topic, selector)?))
+                self.create_consumer(alloc, owner, destination, selector, *no_local)
             }
             Request::CloseConsumer { consumer } if owner.is(session, *consumer) => {
                 Ok(Some(self.close_consumer(alloc, owner)?))
@@ -469,11 +571,9 @@ impl Lone {
 
     /// A publication comes, where it is accepted; at the limit it is missed.
     fn publish(&mut self, owner: &Owner, message: &Message) -> Result<(), AllocError>
-        ensures { (publisher : machine.Publisher) → OnOk result (self.new
-            ≡ (if spec.lone_accepts (scope owner.now).key self.old.definition publisher message.now
-            then spec.lone_brought (scope owner.now).key message.now self.old else self.old)) }
+        ensures { (of : Life) → OnOk result (self.new ≡ came_to (scope owner.now) of message.now self.old) }
     {
-        if accepts(&self.subs, message) {
+        if accepts(owner, &self.definition, message) {
             self.rows.push(message)?;
         }
         Ok(())
@@ -508,8 +608,8 @@ impl Lone {
         request: &Request,
         reply: &Reply,
     ) -> Result<Option<Reply>, AllocError>
-        ensures { IfOk result (λ answer.
-            Answers owner.now self.old (Entry.Asked who request.now reply.now) answer self.new) }
+        ensures { (entries : List OfEntry) (course : Course) → IfOk result (λ answer.
+            Answers owner.now entries course self.old (Entry.Asked who request.now reply.now) answer self.new) }
     {
         match who {
             Who::Connection(id) => {
@@ -525,15 +625,83 @@ impl Lone {
         }
     }
 
-    /// Takes up what an entry feeds to the owner's subscription, and answers it where it is one of its
-    /// calls.
+    /// A message that was sent comes at once, unless its session is transacted.
+    fn take_sent(
+        &mut self,
+        owner: &Owner,
+        transactions: &Transactions,
+        message: &Message,
+    ) -> Result<(), AllocError>
+        ensures { (of : Life) → OnOk result (self.new
+            ≡ (if machine.is_transacted (mode_in (course_of transactions.now) message.now.sender.session)
+            then self.old else came_to (scope owner.now) of message.now self.old)) }
+    {
+        if transactions.is_transacted(&message.sender().session) {
+            return Ok(());
+        }
+        self.publish(owner, message)
+    }
+
+    /// The message at that place among the entries comes, where there is one.
+    fn publish_at(
+        &mut self,
+        owner: &Owner,
+        entries: &[Entry],
+        place: usize,
+    ) -> Result<(), AllocError>
+        ensures { (of : Life) → OnOk result (self.new
+            ≡ brought (scope owner.now) of (message_in (slice_get entries.now place)) self.old) }
+    {
+        if let Some(message) = message_at(entries, place) {
+            self.publish(owner, message)?;
+        }
+        Ok(())
+    }
+
+    /// The messages at those places among the entries come, in the order of the places.
+    fn publish_all(
+        &mut self,
+        owner: &Owner,
+        entries: &[Entry],
+        places: &[usize],
+    ) -> Result<(), AllocError>
+        ensures { (of : Life) → OnOk result (self.new
+            ≡ brought (scope owner.now) of (messages_at entries.now places.now) self.old) }
+    {
+        for place in places {
+            self.publish_at(owner, entries, *place)?;
+        }
+        Ok(())
+    }
+
+    /// The session's commit settles what is out to it, where it is the owner's, and then publishes what it sent in its
+    /// transaction.
+    fn commit(
+        &mut self,
+        owner: &Owner,
+        session: &SessionId,
+        entries: &[Entry],
+        transactions: &Transactions,
+    ) -> Result<(), AllocError>
+        ensures { (of : Life) → OnOk result (self.new
+            ≡ after_commit (scope owner.now) of session.now (messages_at entries.now (committed_places (course_of transactions.now) session.now)) self.old) }
+    {
+        self.settle_commit(owner, session);
+        self.publish_all(owner, entries, transactions.committed(session))
+    }
+
+    /// Takes up what an entry feeds to the owner's subscription, as the transactions stand before it, and answers it
+    /// where it is one of its calls.
     pub(crate) fn feed(
         &mut self,
         alloc: Global,
         owner: &Owner,
+        entries: &[Entry],
+        transactions: &Transactions,
         entry: &Entry,
     ) -> Result<Option<Reply>, AllocError>
-        ensures { IfOk result (λ reply. Answers owner.now self.old entry.now reply self.new) }
+        ensures { IfOk result (λ reply.
+            Answers owner.now entries.now (course_of transactions.now) self.old entry.now reply self.new) }
     {
         match entry {
             Entry::Asked {
@@ -542,7 +710,11 @@ impl Lone {
                 reply,
             } => self.feed_request(alloc, owner, *who, request, reply),
             Entry::Sent(message) => {
-                self.publish(owner, message)?;
+                self.take_sent(owner, transactions, message)?;
+                Ok(None)
+            }
+            Entry::Committed(session) => {
+                self.commit(owner, session, entries, transactions)?;
                 Ok(None)
             }
         }

@@ -9,7 +9,7 @@ use jm_machine::{Answer, ClientCall, Entry, Reply, copy_reply};
 use std::alloc::{AllocError, Global};
 
 /// Whether a call with that reply counts as not made.
-fn is_not_made(reply: &Reply) -> bool
+pub(crate) fn is_not_made(reply: &Reply) -> bool
     ensures { result ≡ spec.is_not_made reply.now }
 {
     match reply {
@@ -65,6 +65,10 @@ fn entry_of(opening: Number, call: &ClientCall, reply: &Reply) -> Result<Option<
             }
             _ => Ok(None),
         },
+        ClientCall::CommitSession(session) => match reply {
+            Ok(_) => Ok(Some(Entry::Committed(*session))),
+            Err(_) => Ok(None),
+        },
     }
 }
 
@@ -83,9 +87,10 @@ fn add_entry(
     Ok(())
 }
 
-/// The record of a run in that opening: each call that carries no messages with its reply, and each
-/// message that was sent, stamped, in order. A call whose reply is `Memory` or `Store` leaves nothing, nor
-/// does a send that was refused; calls without replies, and replies without calls, count for nothing.
+/// The record of a run in that opening: each call that carries no messages with its reply, each message that
+/// was sent, stamped, and each commit that was done, in order. A call whose reply is `Memory` or `Store` leaves
+/// nothing, nor does a send or a commit that was refused; calls without replies, and replies without calls, count
+/// for nothing.
 ///
 /// `AllocError` where a request for memory was refused.
 pub fn entries(

@@ -156,7 +156,7 @@ impl Rows {
     {
         match mode {
             Mode::Auto | Mode::Dups => self.settle_next(now),
-            Mode::Client => self.send_next(session, consumer, now),
+            Mode::Client | Mode::Transacted => self.send_next(session, consumer, now),
         }
     }
 

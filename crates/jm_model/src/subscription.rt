@@ -1,57 +1,60 @@
-//! The subscription of one key, where there is one.
+//! What the one subscription asks for.
 
-ghost use Rattle.std.specs.Prelude.{◌≡◌, ◌≢◌, [], ◌∷◌, IfOk, IfErr, Some, None};
+ghost use Rattle.std.specs.Prelude.{◌≡◌, ◌≢◌, IfOk, IfErr, None, Some};
 ghost use Rattle.jm_base.specs.declared.refusal.Refusal.TheVariants.{Memory};
-ghost use Rattle.jm_dest.specs.declared.key.Key.{Key as OfKey};
-ghost use Rattle.jm_header.specs.declared.content.Content.{Content};
+ghost use Rattle.jm_machine.specs.Life.{Life};
 ghost use Rattle.jm_machine.specs.Machine as machine;
-ghost use Rattle.jm_machine.specs.Machine.{Publisher, defined};
+ghost use Rattle.jm_machine.specs.Machine.{publisher_of};
 ghost use Rattle.jm_machine.specs.Lone.{lone_accepts};
-ghost use Rattle.jm_machine.specs.Selectors.{selector_refusal};
-ghost use Rattle.jm_model.specs.Parts.{definition_in};
+ghost use Rattle.jm_selector.specs.Selectors.{selector_refusal};
+ghost use Rattle.jm_model.specs.Owners.{scope};
 
+use crate::owner::Owner;
 use jm_base::{Refusal, Str};
-use jm_dest::{Key, Name};
+use jm_dest::Name;
 use jm_header::Message;
 use jm_machine::Definition;
-use jm_sub::Subs;
-use std::alloc::{AllocError, Global};
+use jm_selector::Selector;
+use std::alloc::Global;
 
-/// The new subscription of the key to the topic. The refusal of its selector, or `Memory` where a request for memory
+/// What a new subscription to the topic asks for. The refusal of its selector, or `Memory` where a request for memory
 /// was refused, which may come in place of it.
+#[tactic(auto, unfolding(jm_machine::specs::Machine::defined))]
 pub(crate) fn created(
     alloc: Global,
-    key: Key,
     topic: &Name,
     selector: &Option<Str>,
-) -> Result<Subs, Refusal>
-    ensures made { IfOk result (λ subs. subs.list ≡ record { key = key; definition = defined topic.now selector.now } ∷ []) }
+    no_local: bool,
+) -> Result<Definition, Refusal>
+    ensures made { IfOk result (λ definition. definition ≡ machine.defined topic.now selector.now no_local) }
     ensures valid { IfOk result (λ _. selector_refusal selector.now ≡ None) }
     ensures refused { IfErr result (λ refusal. refusal ≢ Memory → selector_refusal selector.now ≡ Some refusal) }
 {
-    let mut subs = Subs::new(alloc);
-    let decision = subs.decide_create(key, topic, selector)?;
-    subs.apply(decision);
-    Ok(subs)
+    let selector = Selector::read(alloc, selector)?;
+    Ok(Definition {
+        topic: topic.copy()?,
+        selector,
+        no_local,
+    })
 }
 
-/// The subscription of a definition that stands: none where its selector is refused, as that accepts nothing.
-#[tactic(auto, using(crate::proofs::Accepted::restoring))]
-pub(crate) fn restored(alloc: Global, key: Key, definition: &Definition) -> Result<Subs, AllocError>
-    ensures { (k : OfKey) (publisher : Publisher) (m : Content) →
-        IfOk result (λ subs. lone_accepts k (definition_in subs.list) publisher m ≡ machine.accepts k definition.now publisher m) }
-{
-    match created(alloc, key, &definition.topic, &definition.selector) {
-        Ok(subs) => Ok(subs),
-        Err(Refusal::Memory) => Err(AllocError),
-        Err(_) => Ok(Subs::new(alloc)),
-    }
-}
-
-/// Whether a publication comes to the subscription, under any key and from any publisher.
+/// Whether the owner's subscription accepts the message, whose publisher is local where its connection is the owner's.
 #[tactic(auto, unfolding(jm_machine::specs::Machine::accepts))]
-pub(crate) fn accepts(subs: &Subs, message: &Message) -> bool
-    ensures { (key : OfKey) (publisher : Publisher) → result ≡ lone_accepts key (definition_in subs.now.list) publisher message.now }
+fn takes(owner: &Owner, definition: &Definition, message: &Message) -> bool
+    ensures { (of : Life) → result ≡ machine.accepts (scope owner.now).key definition.now (publisher_of of message.now) message.now }
 {
-    !subs.is_empty() && subs.accepts_at(0, message)
+    let is_local = owner.session.connection == message.sender().session.connection;
+    definition.is_to(message)
+        && !(definition.no_local && is_local)
+        && definition.selector.selects(message)
+}
+
+/// Whether the owner's subscription, where there is one, accepts the message.
+pub(crate) fn accepts(owner: &Owner, definition: &Option<Definition>, message: &Message) -> bool
+    ensures { (of : Life) → result ≡ lone_accepts (scope owner.now).key definition.now (publisher_of of message.now) message.now }
+{
+    match definition {
+        None => false,
+        Some(definition) => takes(owner, definition, message),
+    }
 }

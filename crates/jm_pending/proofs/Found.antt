@@ -57,26 +57,35 @@ all_in_lane P (x ∷ xs) (suc k) d l a = all_in_lane P xs k d (omega arith) (all
 lt_or_gt : (k at : ℕ) → k ≢ at → (k < at) ⊎ (at < k)
 lt_or_gt k at ne = elim (leb_tells k at) [ inl h ↦ inl (let le : k ≤ at = h.1 in omega arith) | inr h ↦ inr (let gt : at < k = h.1 in gt) ]
 
--- the rows of all other lanes are at other places than the row that is found in this one
-others : (lanes : List Lane) (at : ℕ) (d : Lane) (r : Row) → IsApart (all_rows lanes) → at < length lanes → find is_waiting (get_or lanes at d).rows ≡ Some r → (k : ℕ) (e : Lane) → k < length lanes → k ≢ at → All (λ (y : Row). y.place ≢ r.place) (get_or lanes k e).rows
-others lanes at d r apart l f k e kl ne =
+-- the rows of a lane are at other places than those of the lanes before it, and than those of the lanes behind it
+pub apart_lanes : (lanes : List Lane) (at : ℕ) (d : Lane) → IsApart (all_rows lanes) → at < length lanes → All (λ (x : Row). All (λ (y : Row). y.place ≢ x.place) (all_rows (take at lanes))) (get_or lanes at d).rows × All (λ (x : Row). All (λ (y : Row). y.place ≢ x.place) (all_rows (drop (at + 1) lanes))) (get_or lanes at d).rows
+apart_lanes lanes at d apart l =
     let fronts : List Row = all_rows (take at lanes) in
     let rows : List Row = (get_or lanes at d).rows in
     let backs : List Row = all_rows (drop (at + 1) lanes) in
     let split : IsApart (fronts ++ (rows ++ backs)) = subst IsApart (all_rows_split lanes at d l) apart in
-    let before : IfSome (find is_waiting rows) (λ x. All (λ (y : Row). y.place ≢ x.place) fronts) = find_has (λ x. All (λ (y : Row). y.place ≢ x.place) fronts) is_waiting rows (all_front (λ x. All (λ (y : Row). y.place ≢ x.place) fronts) rows backs (apart_before fronts (rows ++ backs) split)) in
-    let behind : IfSome (find is_waiting rows) (λ x. All (λ (y : Row). y.place ≢ x.place) backs) = find_has (λ x. All (λ (y : Row). y.place ≢ x.place) backs) is_waiting rows (apart_behind rows backs (apart_tail fronts (rows ++ backs) split)) in
-    let before' : All (λ (y : Row). y.place ≢ r.place) fronts = subst (λ o. IfSome o (λ x. All (λ (y : Row). y.place ≢ x.place) fronts)) f before in
-    let behind' : All (λ (y : Row). y.place ≢ r.place) backs = subst (λ o. IfSome o (λ x. All (λ (y : Row). y.place ≢ x.place) backs)) f behind in
-    elim (lt_or_gt k at ne) [
-      | inl lt ↦ rw (← get_or-take at lanes k e lt) (all_in_lane (λ (y : Row). y.place ≢ r.place) (take at lanes) k e (omega (arith, length-take at lanes)) before')
-      | inr gt ↦
-          let back_at : at + 1 + (k - (at + 1)) ≡ k = omega arith in
-          rw (← back_at, ← get_or-drop (at + 1) lanes (k - (at + 1)) e) (all_in_lane (λ (y : Row). y.place ≢ r.place) (drop (at + 1) lanes) (k - (at + 1)) e (omega (arith, length-drop (at + 1) lanes)) behind')
-    ]
+    (all_front (λ (x : Row). All (λ (y : Row). y.place ≢ x.place) fronts) rows backs (apart_before fronts (rows ++ backs) split), apart_behind rows backs (apart_tail fronts (rows ++ backs) split))
+
+-- so those of all other lanes are at other places than one of its rows
+pub others_at : (lanes : List Lane) (at : ℕ) (r : Row) → at < length lanes → All (λ (y : Row). y.place ≢ r.place) (all_rows (take at lanes)) → All (λ (y : Row). y.place ≢ r.place) (all_rows (drop (at + 1) lanes)) → (k : ℕ) (e : Lane) → k < length lanes → k ≢ at → All (λ (y : Row). y.place ≢ r.place) (get_or lanes k e).rows
+others_at lanes at r l before behind k e kl ne = elim (lt_or_gt k at ne) [
+  | inl lt ↦ rw (← get_or-take at lanes k e lt) (all_in_lane (λ (y : Row). y.place ≢ r.place) (take at lanes) k e (omega (arith, length-take at lanes)) before)
+  | inr gt ↦
+      let back_at : at + 1 + (k - (at + 1)) ≡ k = omega arith in
+      rw (← back_at, ← get_or-drop (at + 1) lanes (k - (at + 1)) e) (all_in_lane (λ (y : Row). y.place ≢ r.place) (drop (at + 1) lanes) (k - (at + 1)) e (omega (arith, length-drop (at + 1) lanes)) behind)
+]
+
+-- and than the row that is found in it
+others : (lanes : List Lane) (at : ℕ) (d : Lane) (r : Row) → IsApart (all_rows lanes) → at < length lanes → find is_waiting (get_or lanes at d).rows ≡ Some r → (k : ℕ) (e : Lane) → k < length lanes → k ≢ at → All (λ (y : Row). y.place ≢ r.place) (get_or lanes k e).rows
+others lanes at d r apart l f =
+    let fronts : List Row = all_rows (take at lanes) in
+    let rows : List Row = (get_or lanes at d).rows in
+    let backs : List Row = all_rows (drop (at + 1) lanes) in
+    let both = apart_lanes lanes at d apart l in
+    others_at lanes at r l (subst (λ o. IfSome o (λ x. All (λ (y : Row). y.place ≢ x.place) fronts)) f (find_has (λ x. All (λ (y : Row). y.place ≢ x.place) fronts) is_waiting rows both.0)) (subst (λ o. IfSome o (λ x. All (λ (y : Row). y.place ≢ x.place) backs)) f (find_has (λ x. All (λ (y : Row). y.place ≢ x.place) backs) is_waiting rows both.1))
 
 -- an edit that leaves the rows of all lanes but one
-each_but : (f : List Row → List Row) (lanes : List Lane) (at : ℕ) (d after : Lane) → at < length lanes → Becomes f (get_or lanes at d) after → ((k : ℕ) (e : Lane) → k < length lanes → k ≢ at → f (get_or lanes k e).rows ≡ (get_or lanes k e).rows) → EachBecomes f lanes (set lanes at after)
+pub each_but : (f : List Row → List Row) (lanes : List Lane) (at : ℕ) (d after : Lane) → at < length lanes → Becomes f (get_or lanes at d) after → ((k : ℕ) (e : Lane) → k < length lanes → k ≢ at → f (get_or lanes k e).rows ≡ (get_or lanes k e).rows) → EachBecomes f lanes (set lanes at after)
 each_but f lanes at d after l here rest = record {
   len = length-set lanes at after;
   at = λ k e kl. elim (eqb_tells k at) [

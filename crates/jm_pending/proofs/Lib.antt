@@ -18,3 +18,6 @@ mod Shown
 mod Standing
 pub mod Counting
 pub mod From
+pub mod Choice
+mod Spots
+mod Taking

@@ -19,10 +19,10 @@ use Rattle.jm_pending.proofs.Found.{all_rows_more}
 not_itself : (p r : ℕ) → (nat_lt p p || (p == p && nat_lt r r)) ≡ false
 not_itself p r = grind (arith, nat_tests)
 
-not_both : (p r q s : ℕ) → (nat_lt q p || (p == q && nat_lt r s)) ≡ true → (nat_lt p q || (q == p && nat_lt s r)) ≡ false
+pub not_both : (p r q s : ℕ) → (nat_lt q p || (p == q && nat_lt r s)) ≡ true → (nat_lt p q || (q == p && nat_lt s r)) ≡ false
 not_both p r q s h = grind (arith, nat_tests)
 
-not_later : (p r q s u v : ℕ) → (nat_lt p q || (q == p && nat_lt s r)) ≡ false → (nat_lt q u || (u == q && nat_lt v s)) ≡ false → (nat_lt p u || (u == p && nat_lt v r)) ≡ false
+pub not_later : (p r q s u v : ℕ) → (nat_lt p q || (q == p && nat_lt s r)) ≡ false → (nat_lt q u || (u == q && nat_lt v s)) ≡ false → (nat_lt p u || (u == p && nat_lt v r)) ≡ false
 not_later p r q s u v h k = grind (arith, nat_tests)
 
 not_behind : (p r q s : ℕ) → q ≡ p → r < s → (nat_lt p q || (q == p && nat_lt s r)) ≡ false
@@ -87,7 +87,7 @@ filter_passes q (x ∷ xs) = go (q x) refl (filter_passes q xs)
     go true e rest = All-cons (λ x. q x ≡ true) x (filter q xs) e rest
     go false e rest = rest
 
-all_that_pass : (P : Row → Type 0) (q : Row → Bool) (xs : List Row) → All P (filter q xs) → All (λ y. q y ≡ true → P y) xs
+pub all_that_pass : (P : Row → Type 0) (q : Row → Bool) (xs : List Row) → All P (filter q xs) → All (λ y. q y ≡ true → P y) xs
 all_that_pass P q [] a = All-nil (λ y. q y ≡ true → P y)
 all_that_pass P q (x ∷ xs) a = go (q x) refl (all_that_pass P q xs) a
   where

@@ -97,16 +97,17 @@ sent_at_place p s c r = elim (r.place == p) as (λ b. (cond b (sent s c r) r).pl
 pub sent_at_priority : (p : ℕ) (s : SessionId) (c : ℕ) (r : Row) → (sent_at p s c r).priority ≡ r.priority
 sent_at_priority p s c r = elim (r.place == p) as (λ b. (cond b (sent s c r) r).priority ≡ r.priority) [ true ↦ refl | false ↦ refl ]
 
-pub lane_sent : (s : SessionId) (c : ℕ) (rs : List Row) (pr low high least at top : ℕ) (d : Row) → IsLane rs pr low high least → at < length rs → All (λ r. is_waiting r ≡ false) (take at rs) → high ≤ top → at + 1 ≤ top → top ≤ length rs → IsLane (set rs at (sent s c (get_or rs at d))) pr (at + 1) top least
-lane_sent s c rs pr low high least at top d h l before h1 h2 h3 =
+-- a row goes out, where so many of the first rows do not wait after it
+pub lane_out : (s : SessionId) (c : ℕ) (rs : List Row) (pr low high least at top next : ℕ) (d : Row) → IsLane rs pr low high least → at < length rs → next ≤ length rs → All (λ r. is_waiting r ≡ false) (take next (set rs at (sent s c (get_or rs at d)))) → high ≤ top → at + 1 ≤ top → top ≤ length rs → IsLane (set rs at (sent s c (get_or rs at d))) pr next top least
+lane_out s c rs pr low high least at top next d h l n before h1 h2 h3 =
     let y : Row = sent s c (get_or rs at d) in
     let is : set rs at y ≡ map (sent_at (get_or rs at d).place s c) rs = set_sent s c rs at d h.rising l in
     record {
       same = All-set (λ (r : Row). r.priority ≡ pr) rs at y (h.same at d l) h.same;
       rising = rw is (rising-map (sent_at (get_or rs at d).place s c) (sent_at_place (get_or rs at d).place s c) rs h.rising);
-      low_in = rw (length-set rs at y) (omega arith);
+      low_in = rw (length-set rs at y) n;
       high_in = rw (length-set rs at y) h3;
-      before = rw (take_more_set rs at y l) (All-push (λ r. is_waiting r ≡ false) (take at rs) y before refl);
+      before = before;
       behind = rw (drop-set-lt top rs at y (omega arith)) (later rs high top h1 h.behind);
       bound = All-set (IsBound least) rs at y (λ w n. absurd (cc)) h.bound;
     }
@@ -115,6 +116,12 @@ lane_sent s c rs pr low high least at top d h l before h1 h2 h3 =
     later rs high top le a =
         let e : high + (top - high) ≡ top = omega arith in
         rw (← e, ← drop-drop (top - high) high rs) (All-drop (λ r. is_waiting r ≡ true) (top - high) (drop high rs) a)
+
+-- the first that waits goes out
+pub lane_sent : (s : SessionId) (c : ℕ) (rs : List Row) (pr low high least at top : ℕ) (d : Row) → IsLane rs pr low high least → at < length rs → All (λ r. is_waiting r ≡ false) (take at rs) → high ≤ top → at + 1 ≤ top → top ≤ length rs → IsLane (set rs at (sent s c (get_or rs at d))) pr (at + 1) top least
+lane_sent s c rs pr low high least at top d h l before h1 h2 h3 =
+    let y : Row = sent s c (get_or rs at d) in
+    lane_out s c rs pr low high least at top (at + 1) d h l (omega (arith, l)) (rw (take_more_set rs at y l) (All-push (λ r. is_waiting r ≡ false) (take at rs) y before refl)) h1 h2 h3
 
 stays_by : (w : Bool) (e now : ℕ) → (w ≡ true → e ≢ 0 → now < e) → (not w || not (not (e == 0) && nat_le e now)) ≡ true
 stays_by false e now h = refl

@@ -5,3 +5,4 @@ pub mod Receivers
 pub mod Holders
 pub mod Counts
 pub mod Placed
+pub mod Chosen

@@ -5,6 +5,8 @@ ghost use Rattle.jm_dest.specs.Numbers.{long_end};
 ghost use Rattle.jm_machine.specs.Machine.{are_meant, one_missed};
 ghost use Rattle.jm_pending.specs.declared.row.Row.{Row};
 ghost use Rattle.jm_pending.specs.Rows as spec;
+ghost use Rattle.jm_pending.specs.Chosen.{next_where};
+ghost use Rattle.jm_selector.specs.Selectors.{read_selects, selector_read};
 ghost use Rattle.jm_pending.specs.Holders.{Covers, Follows, holders_of, last_message};
 
 use crate::lane::Lane;
@@ -15,6 +17,7 @@ use crate::table::Table;
 use jm_dest::{ConsumerId, Moment, SessionId};
 use jm_header::Message;
 use jm_machine::Consumers;
+use jm_selector::Selector;
 use std::alloc::{AllocError, Global};
 use std::marker::Model;
 
@@ -199,6 +202,17 @@ impl Held {
         lanes::next(&self.lanes, now)
     }
 
+    /// The row that a delivery at that moment would take of those whose messages the selector selects: of those that wait
+    /// and are not expired the one of highest priority, then of least place. A row of which the table has no message is
+    /// not selected. Looks at the rows that wait, from the first on, up to that row, and at none of lower priority.
+    #[tactic(auto, using(crate::proofs::Choice::next_choice))]
+    pub fn next_where(&self, table: &Table, now: Moment, selector: &Selector) -> Option<Row>
+        ensures next { result ≡ next_where (read_selects (selector_read selector.now)) table.now now self.now.rows }
+        ensures rising { spec.IsRising self.now.rows }
+    {
+        lanes::next_where(&self.lanes, table, now, selector)
+    }
+
     /// Drops the waiting rows that are expired at that moment, and delivers the next row, which goes
     /// out to the session through its consumer. Takes no memory.
     pub fn take(
@@ -241,6 +255,61 @@ impl Held {
     {
         lanes::drop_expired(&mut self.lanes, table, now);
         let row = lanes::remove_first(&mut self.lanes)?;
+        let message = table.release(row.place);
+        Some(Taken {
+            row: row.counted(),
+            message,
+        })
+    }
+
+    /// Drops the waiting rows that are expired at that moment, also those that are not selected, and delivers the next row
+    /// of those whose messages the selector selects, which goes out to the session through its consumer. Takes no memory.
+    pub fn take_where(
+        &mut self,
+        table: &mut Table,
+        now: Moment,
+        selector: &Selector,
+        session: SessionId,
+        consumer: ConsumerId,
+    ) -> Option<Row>
+        requires { Covers table.old self.old.rows }
+        ensures rows { MatchOption (next_where (read_selects (selector_read selector.now)) table.old now self.old.rows)
+            ((result ≡ None) × (self.new ≡ record self.old { rows = filter (spec.stays now) self.old.rows }))
+            (λ r. (result ≡ Some (spec.sent session consumer r)) ×
+            (self.new ≡ record self.old {
+              rows =
+                  map (spec.sent_at r.place session consumer) (filter (spec.stays now) self.old.rows);
+            })) }
+        ensures table { Follows table.old table.new self.old.rows self.new.rows }
+        ensures rising { spec.IsRising self.old.rows }
+    {
+        lanes::drop_expired(&mut self.lanes, table, now);
+        self.receivers = self.receivers.with_one(&session, consumer);
+        lanes::take_where(&mut self.lanes, table, now, selector, session, consumer)
+    }
+
+    /// Drops the waiting rows that are expired at that moment, also those that are not selected, and delivers the next row
+    /// of those whose messages the selector selects, which is settled at once. Its message is handed out where no other
+    /// row holds it, and else stays in the table. Takes no memory.
+    pub fn take_settled_where(
+        &mut self,
+        table: &mut Table,
+        now: Moment,
+        selector: &Selector,
+    ) -> Option<Taken>
+        requires { Covers table.old self.old.rows }
+        ensures rows { MatchOption (next_where (read_selects (selector_read selector.now)) table.old now self.old.rows)
+            ((result ≡ None) × (self.new ≡ record self.old { rows = filter (spec.stays now) self.old.rows }))
+            (λ r. (result ≡ Some (record { row = spec.counted r; message = last_message table.old r.place })) ×
+            (self.new ≡ record self.old {
+              rows =
+                  filter (spec.is_elsewhere r.place) (filter (spec.stays now) self.old.rows);
+            })) }
+        ensures table { Follows table.old table.new self.old.rows self.new.rows }
+        ensures rising { spec.IsRising self.old.rows }
+    {
+        lanes::drop_expired(&mut self.lanes, table, now);
+        let row = lanes::remove_where(&mut self.lanes, table, now, selector)?;
         let message = table.release(row.place);
         Some(Taken {
             row: row.counted(),

@@ -1,17 +1,21 @@
 //! The rows of one priority, by place.
 
-ghost use Rattle.std.specs.Prelude.{◌≡◌, ℕ, ◌+◌, ◌<◌, ◌≤◌, [], ◌∷◌, ◌++◌, length, All, find, filter, map, true, false, OnOk, MatchOption, option_map, slice_get};
+ghost use Rattle.std.specs.Prelude.{◌≡◌, ℕ, ◌+◌, ◌<◌, ◌≤◌, [], ◌∷◌, ◌++◌, length, All, find, filter, map, take, true, false, OnOk, MatchOption, option_map, slice_get};
 ghost use Rattle.jm_pending.specs.declared.row.Row.{Row};
 ghost use Rattle.jm_pending.specs.Rows.{IsRising, back, is_among, is_elsewhere, is_ready, is_waiting, keeps, sent_at, stays};
 ghost use Rattle.jm_pending.specs.Rows as spec;
+ghost use Rattle.jm_pending.specs.Chosen.{StandsIn, is_better};
+ghost use Rattle.jm_selector.specs.Selectors.{read_selects, selector_read};
 ghost use Rattle.jm_dest.specs.Numbers.{long_end};
 ghost use Rattle.jm_pending.specs.Lanes.{IsCopied, IsPlaceFrom, IsSoonestOf, is_at, is_below};
 ghost use Rattle.jm_pending.specs.Holders.{Covers, Follows};
 
 use crate::row::{Outs, Row};
+use crate::spot::Spot;
 use crate::table::Table;
 use crate::walks;
 use jm_dest::{ConsumerId, Moment, SessionId};
+use jm_selector::Selector;
 use std::alloc::{AllocError, Global};
 use std::collections::VecDeque;
 use std::marker::Model;
@@ -170,6 +174,32 @@ impl Lane {
         self.get(at)
     }
 
+    /// How many rows stand before the first that waits.
+    pub(crate) fn first_waiting(&self) -> usize
+        ensures within { result ≤ length self.now.rows }
+        ensures before { All (λ r. is_waiting r ≡ false) (take result self.now.rows) }
+    {
+        walks::first_waiting(&self.rows, self.low)
+    }
+
+    /// Where the first row stands that is ready, whose message the selector selects, and that goes before the best so
+    /// far, where that is there; or how many rows there are. None of the first `low` rows waits.
+    pub(crate) fn first_choice(
+        &self,
+        low: usize,
+        table: &Table,
+        now: Moment,
+        selector: &Selector,
+        best: &Option<Row>,
+    ) -> usize
+        requires in_range { low ≤ length self.now.rows }
+        requires before { All (λ r. is_waiting r ≡ false) (take low self.now.rows) }
+        ensures from { low ≤ result }
+        ensures soonest { IsSoonestOf (is_better best.now (read_selects (selector_read selector.now)) table.now now) self.now.rows (slice_get self.now.rows result) }
+    {
+        walks::first_choice(&self.rows, low, table, now, selector, best)
+    }
+
     /// Drops the waiting rows that are expired.
     pub(crate) fn drop_expired(&mut self, table: &mut Table, now: Moment)
         requires { Covers table.old self.old.rows }
@@ -230,6 +260,33 @@ impl Lane {
         let row = self.rows.remove(at);
         self.high = self.high.min(self.rows.len());
         row
+    }
+
+    /// Sends the row that stands there.
+    pub(crate) fn take_at(&mut self, spot: &Spot, session: SessionId, consumer: ConsumerId) -> Row
+        requires { StandsIn self.old.rows spot.now }
+        ensures priority { self.new.priority ≡ self.old.priority }
+        ensures result { result ≡ spec.sent session consumer spot.now.row }
+        ensures rows { self.new.rows ≡ map (sent_at spot.now.row.place session consumer) self.old.rows }
+        ensures room { self.old.spare ≡ self.new.spare }
+    {
+        let row = spot.row.sent(session, consumer);
+        self.rows[spot.index] = Row { ..row };
+        self.low = spot.low_after();
+        self.high = self.high.max(spot.index + 1);
+        row
+    }
+
+    /// Removes the row that stands there.
+    pub(crate) fn remove_at(&mut self, spot: &Spot)
+        requires { StandsIn self.old.rows spot.now }
+        ensures priority { self.new.priority ≡ self.old.priority }
+        ensures rows { self.new.rows ≡ filter (is_elsewhere spot.now.row.place) self.old.rows }
+        ensures room { self.old.spare ≤ self.new.spare }
+    {
+        let _ = self.rows.remove(spot.index);
+        self.low = spot.low;
+        self.high = self.high.min(self.rows.len());
     }
 
     /// Removes the rows that are among those.

@@ -1,19 +1,23 @@
 //! The lanes of one subscription, three for each priority, from the highest on. Which of the three a row stands in is
 //! free: rows that expire in turn stand together, so that a delivery drops those of them that are expired from the front.
 
-ghost use Rattle.std.specs.Prelude.{◌≡◌, ℕ, ◌+◌, ◌-◌, ◌^◌, ◌<◌, ◌≤◌, [], length, All, find, filter, map, take, true, false, None, Some, Option, OnOk, MatchOption, slice_get, slice_index_or, slice_set};
+ghost use Rattle.std.specs.Prelude.{◌≡◌, ℕ, ◌+◌, ◌-◌, ◌^◌, ◌<◌, ◌≤◌, ◌++◌, List, [], length, All, IfSome, find, filter, map, take, true, false, None, Some, Option, OnOk, MatchOption, slice_get, slice_index_or, slice_set};
 ghost use Rattle.jm_dest.specs.Numbers.{long_end};
 ghost use Rattle.jm_pending.specs.declared.row.Row.{Row};
 ghost use Rattle.jm_pending.specs.Rows.{IsRising, back, is_among, is_elsewhere, is_ready, is_waiting, keeps, sent_at, stays};
 ghost use Rattle.jm_pending.specs.Rows as spec;
+ghost use Rattle.jm_pending.specs.Chosen.{IsSpot, is_choice, row_of};
+ghost use Rattle.jm_selector.specs.Selectors.{read_selects, selector_read};
 ghost use Rattle.jm_pending.specs.Lanes.{EachBecomes, IsApart, IsLaneOf, IsPlaceFrom, IsPushed, IsSoonestOf, Lane, all_rows, is_at, is_below, rows_of};
 ghost use Rattle.jm_pending.specs.Lanes as by_lane;
 ghost use Rattle.jm_pending.specs.Holders.{Covers, Follows};
 
 use crate::lane::Lane;
 use crate::row::{Outs, Row};
+use crate::spot::{self, Spot};
 use crate::table::Table;
 use jm_dest::{ConsumerId, Moment, SessionId};
+use jm_selector::Selector;
 use std::alloc::AllocError;
 
 /// How many rows the lanes have.
@@ -179,6 +183,60 @@ pub(crate) fn next(lanes: &[Lane], now: Moment) -> Option<Row>
     best
 }
 
+/// Of the best row so far, where one is there, and the rows of the lane at that index whose messages the selector selects
+/// the one that goes first of those that are ready, and where it stands.
+fn better(
+    lanes: &[Lane],
+    at: usize,
+    table: &Table,
+    now: Moment,
+    selector: &Selector,
+    best: Option<Spot>,
+) -> Option<Spot>
+    requires at { at < length lanes.now }
+    requires best { IfSome best (IsSpot lanes.now) }
+    ensures spot { IfSome result (IsSpot lanes.now) }
+    ensures soonest { (rows : List Row) (d : Lane) → IsSoonestOf (is_choice (read_selects (selector_read selector.now)) table.now now) rows (row_of best) →
+        IsSoonestOf (is_choice (read_selects (selector_read selector.now)) table.now now) (rows ++ (slice_index_or lanes.now at d).rows) (row_of result) }
+{
+    let lane = &lanes[at];
+    let low = lane.first_waiting();
+    let index = lane.first_choice(low, table, now, selector, &spot::row_of(&best));
+    match lane.get(index) {
+        Some(row) => Some(Spot {
+            lane: at,
+            low,
+            index,
+            row,
+        }),
+        None => best,
+    }
+}
+
+/// The row that goes first of those that are ready and whose messages the selector selects, and where it stands.
+fn best_spot(lanes: &[Lane], table: &Table, now: Moment, selector: &Selector) -> Option<Spot>
+    ensures spot { IfSome result (IsSpot lanes.now) }
+    ensures soonest { IsSoonestOf (is_choice (read_selects (selector_read selector.now)) table.now now) (all_rows lanes.now) (row_of result) }
+{
+    let mut best = None;
+    for i in 0..lanes.len() {
+        best = better(lanes, i, table, now, selector, best);
+    }
+    best
+}
+
+/// The row that goes first of those that are ready and whose messages the selector selects.
+pub(crate) fn next_where(
+    lanes: &[Lane],
+    table: &Table,
+    now: Moment,
+    selector: &Selector,
+) -> Option<Row>
+    ensures { IsSoonestOf (is_choice (read_selects (selector_read selector.now)) table.now now) (all_rows lanes.now) result }
+{
+    spot::row_of(&best_spot(lanes, table, now, selector))
+}
+
 /// Drops the waiting rows that are expired.
 pub(crate) fn drop_expired(lanes: &mut [Lane], table: &mut Table, now: Moment)
     requires { Covers table.old (all_rows lanes.old) }
@@ -266,6 +324,44 @@ pub(crate) fn remove_first(lanes: &mut [Lane]) -> Option<Row>
     } else {
         None
     }
+}
+
+/// Sends the row that goes first of those that are ready and whose messages the selector selects.
+pub(crate) fn take_where(
+    lanes: &mut [Lane],
+    table: &Table,
+    now: Moment,
+    selector: &Selector,
+    session: SessionId,
+    consumer: ConsumerId,
+) -> Option<Row>
+    requires { IsApart (all_rows lanes.old) }
+    ensures { (first : Option Row) × IsSoonestOf (is_choice (read_selects (selector_read selector.now)) table.now now) (all_rows lanes.old) first × MatchOption first
+        ((result ≡ None) × EachBecomes (λ rows. rows) lanes.old lanes.new)
+        (λ r. (result ≡ Some (spec.sent session consumer r)) ×
+        EachBecomes (map (sent_at r.place session consumer)) lanes.old lanes.new) }
+{
+    let spot = best_spot(lanes, table, now, selector)?;
+    let lane = &mut lanes[spot.lane];
+    Some(lane.take_at(&spot, session, consumer))
+}
+
+/// Removes the row that goes first of those that are ready and whose messages the selector selects.
+pub(crate) fn remove_where(
+    lanes: &mut [Lane],
+    table: &Table,
+    now: Moment,
+    selector: &Selector,
+) -> Option<Row>
+    requires { IsApart (all_rows lanes.old) }
+    ensures { (first : Option Row) × IsSoonestOf (is_choice (read_selects (selector_read selector.now)) table.now now) (all_rows lanes.old) first × MatchOption first
+        ((result ≡ None) × EachBecomes (λ rows. rows) lanes.old lanes.new)
+        (λ r. (result ≡ Some r) × EachBecomes (filter (is_elsewhere r.place)) lanes.old lanes.new) }
+{
+    let spot = best_spot(lanes, table, now, selector)?;
+    let lane = &mut lanes[spot.lane];
+    lane.remove_at(&spot);
+    Some(spot.row)
 }
 
 /// Removes the rows that are among those.

@@ -8,6 +8,7 @@ mod lane;
 mod lanes;
 mod receivers;
 mod row;
+mod spot;
 mod table;
 mod walks;
 

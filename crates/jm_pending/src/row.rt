@@ -3,12 +3,16 @@
 ghost use Rattle.std.specs.Prelude.{◌≡◌, ◌<◌, ◌≤◌};
 ghost use Rattle.jm_machine.specs.Machine.{are_meant};
 ghost use Rattle.jm_pending.specs.Rows as spec;
+ghost use Rattle.jm_pending.specs.Chosen as chosen;
 ghost use Rattle.jm_pending.specs.Lanes as by_lane;
 ghost use Rattle.jm_pending.specs.Lanes.{IsBound};
+ghost use Rattle.jm_selector.specs.Selectors.{read_selects, selector_read};
 
+use crate::table::Table;
 use jm_dest::{ConsumerId, Moment, SessionId};
 use jm_header::Message;
 use jm_machine::{Consumers, RowState};
+use jm_selector::Selector;
 
 /// A row that a subscription holds for a message of the table (ours).
 #[derive(Clone, Copy, Debug, PartialEq, Eq)]
@@ -112,6 +116,23 @@ impl Row {
         self.is_waiting() && !self.is_expired(now)
     }
 
+    /// Whether the selector selects the row's message, where the table has it.
+    fn is_selected(&self, table: &Table, selector: &Selector) -> bool
+        ensures { result ≡ chosen.passes (read_selects (selector_read selector.now)) table.now self.now }
+    {
+        match table.get(self.place) {
+            Some(message) => selector.selects(message),
+            None => false,
+        }
+    }
+
+    /// Whether the row may be delivered at that moment, and the selector selects its message.
+    pub(crate) fn is_choice(&self, table: &Table, now: Moment, selector: &Selector) -> bool
+        ensures { result ≡ chosen.is_choice (read_selects (selector_read selector.now)) table.now now self.now }
+    {
+        self.is_ready(now) && self.is_selected(table, selector)
+    }
+
     /// Whether a delivery at that moment leaves the row.
     pub(crate) fn stays(&self, now: Moment) -> bool
         ensures { result ≡ spec.stays now self.now }
@@ -134,6 +155,16 @@ impl Row {
     {
         other.priority < self.priority
             || (self.priority == other.priority && self.place < other.place)
+    }
+
+    /// Whether the row goes before the other, where that is there.
+    pub(crate) fn goes_before(&self, other: &Option<Row>) -> bool
+        ensures { result ≡ chosen.goes_before other.now self.now }
+    {
+        match other {
+            Some(other) => self.is_sooner(other),
+            None => true,
+        }
     }
 
     /// A bound on when what has that bound expires, and the row, where it waits.

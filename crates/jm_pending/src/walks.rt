@@ -3,13 +3,16 @@
 ghost use Rattle.std.specs.Prelude.{◌≡◌, ℕ, ◌<◌, ◌≤◌, [], ◌∷◌, ◌++◌, length, All, filter, map, drop, take, not, true, false, slice_index_or};
 ghost use Rattle.std.specs.VecDeque.{deque_len, deque_capacity};
 ghost use Rattle.jm_pending.specs.declared.row.Row.{Row};
-ghost use Rattle.jm_pending.specs.Rows.{back, is_among, is_ready, is_waiting, keeps, stays};
+ghost use Rattle.jm_pending.specs.Rows.{IsRising, back, is_among, is_ready, is_waiting, keeps, stays};
+ghost use Rattle.jm_pending.specs.Chosen.{is_better};
+ghost use Rattle.jm_selector.specs.Selectors.{read_selects, selector_read};
 ghost use Rattle.jm_pending.specs.Lanes.{IsBound, IsSteady};
 ghost use Rattle.jm_pending.specs.Holders.{Covers, Follows};
 
 use crate::row::{Outs, Row};
 use crate::table::Table;
 use jm_dest::Moment;
+use jm_selector::Selector;
 use std::collections::VecDeque;
 
 /// Whether the rows still expire in turn with one more.
@@ -62,6 +65,38 @@ pub(crate) fn first_ready(rows: &VecDeque<Row>, low: usize, now: Moment) -> usiz
 {
     for i in low..rows.len() {
         if rows[i].is_ready(now) {
+            return i;
+        }
+    }
+    rows.len()
+}
+
+/// Where the first row stands that is ready, whose message the selector selects, and that goes before the best so far,
+/// where that is there; or how many rows there are. None of the first `low` rows waits. The rows, which are of one
+/// priority, stand by place, so that the walk ends at the first that does not go before the best.
+pub(crate) fn first_choice(
+    rows: &VecDeque<Row>,
+    low: usize,
+    table: &Table,
+    now: Moment,
+    selector: &Selector,
+    best: &Option<Row>,
+) -> usize
+    requires in_range { low ≤ length rows.now.items }
+    requires before { All (λ r. is_waiting r ≡ false) (take low rows.now.items) }
+    requires same { (priority : ℕ) × All (λ (r : Row). r.priority ≡ priority) rows.now.items }
+    requires rising { IsRising rows.now.items }
+    ensures from { low ≤ result }
+    ensures within { result ≤ length rows.now.items }
+    ensures before { All (λ r. is_better best.now (read_selects (selector_read selector.now)) table.now now r ≡ false) (take result rows.now.items) }
+    ensures found { (d : Row) → result < length rows.now.items →
+        is_better best.now (read_selects (selector_read selector.now)) table.now now (slice_index_or rows.now.items result d) ≡ true }
+{
+    for i in low..rows.len() {
+        if !rows[i].goes_before(best) {
+            return rows.len();
+        }
+        if rows[i].is_choice(table, now, selector) {
             return i;
         }
     }

@@ -46,9 +46,14 @@ lines_at numbers (placed ∷ replies) = line_at numbers placed ++ lines_at numbe
 abbrev pub lines_alone : ℕ → Key → List ClientCall → List (Result Answer Refusal) → List ℕ
 lines_alone limit key calls replies = lines_at (numbers_from 1 1 calls replies) (alone key (new_core 1 limit) (entries_of 1 calls replies))
 
--- the text spells the key of an unshared subscription
-abbrev pub IsKey : ℕ → List ℕ → Key → Type 0
-IsKey limit text key = (key_of_text text ≡ Some key) × (is_unshared key (new_core 1 limit) ≡ true)
+-- the key is that of an unshared subscription in the record of the run: in opening 1 with that limit of held rows, and by
+-- what its entries name
+abbrev pub is_unshared_in : ℕ → Key → List ClientCall → List (Result Answer Refusal) → Bool
+is_unshared_in limit key calls replies = is_unshared key (new_core 1 limit) (entries_of 1 calls replies)
+
+-- the text spells the key of an unshared subscription of that record
+abbrev pub IsKey : ℕ → List ℕ → Key → List ClientCall → List (Result Answer Refusal) → Type 0
+IsKey limit text key calls replies = (key_of_text text ≡ Some key) × (is_unshared_in limit key calls replies ≡ true)
 
 -- the replies are those of a run of the scenario, with its own limit
 abbrev pub IsRunOf : Scenario → List (Result Answer Refusal) → Type 0
@@ -58,7 +63,8 @@ IsRunOf scenario replies = IsRun (held_limit None scenario.held) scenario.calls 
 abbrev pub TellsLone : {R : Type 0} → (R → Option (List ℕ)) → List ℕ → Source R → Source R → List ℕ → ℕ → Type 0
 TellsLone remaining spelled old new text status =
     (scenario : Scenario) × (replies : List (Result Answer Refusal)) × (key : Key)
-    × GivesScenario remaining old new scenario × IsRunOf scenario replies × IsKey (held_limit None scenario.held) spelled key
+    × GivesScenario remaining old new scenario × IsRunOf scenario replies
+    × IsKey (held_limit None scenario.held) spelled key scenario.calls replies
     × (text ≡ lines_alone (held_limit None scenario.held) key scenario.calls replies) × (status ≡ status_of replies)
 
 -- why a text gives no key: it spells none, or memory is refused
@@ -67,19 +73,23 @@ RefusesText text (fault.Key cause.Syntax) = key_of_text text ≡ None
 RefusesText text fault.Memory = Unit {0}
 RefusesText text _ = ⊥
 
--- why a key gives no lines: it is none of an unshared subscription, or memory is refused
-abbrev pub RefusesKey : ℕ → Key → Fault → Type 0
-RefusesKey limit key (fault.Key cause.NotUnshared) = is_unshared key (new_core 1 limit) ≡ false
-RefusesKey limit key fault.Memory = Unit {0}
-RefusesKey limit key _ = ⊥
+-- why a key gives no lines: it is none of an unshared subscription of the record, or memory is refused
+abbrev pub RefusesKey : ℕ → Key → List ClientCall → List (Result Answer Refusal) → Fault → Type 0
+RefusesKey limit key calls replies (fault.Key cause.NotUnshared) = is_unshared_in limit key calls replies ≡ false
+RefusesKey limit key calls replies fault.Memory = Unit {0}
+RefusesKey limit key calls replies _ = ⊥
 
--- the text spells no key, or the key that it spells is none of an unshared subscription
-abbrev pub HasKeyFault : ℕ → List ℕ → KeyFault → Type 0
-HasKeyFault limit text cause.Syntax = key_of_text text ≡ None
-HasKeyFault limit text cause.NotUnshared = (key : Key) × (key_of_text text ≡ Some key) × (is_unshared key (new_core 1 limit) ≡ false)
+-- the text spells no key, or the key that it spells is none of an unshared subscription of the record
+abbrev pub HasKeyFault : ℕ → List ℕ → List ClientCall → List (Result Answer Refusal) → KeyFault → Type 0
+HasKeyFault limit text calls replies cause.Syntax = key_of_text text ≡ None
+HasKeyFault limit text calls replies cause.NotUnshared =
+    (key : Key) × (key_of_text text ≡ Some key) × (is_unshared_in limit key calls replies ≡ false)
 
--- why nothing is told of a subscription: why the source gives no scenario, or why memory is refused; and where it gives one, the fault of the key
+-- why nothing is told of a subscription: why the source gives no scenario, or why memory is refused; and where it gives
+-- one, the fault of the key over a run of it
 abbrev pub RefusesLone : {R : Type 0} → (R → Option (List ℕ)) → List ℕ → Source R → Source R → Fault → Type 0
 RefusesLone remaining spelled old new (fault.Key cause) =
-    (scenario : Scenario) × GivesScenario remaining old new scenario × HasKeyFault (held_limit None scenario.held) spelled cause
+    (scenario : Scenario) × (replies : List (Result Answer Refusal))
+    × GivesScenario remaining old new scenario × IsRunOf scenario replies
+    × HasKeyFault (held_limit None scenario.held) spelled scenario.calls replies cause
 RefusesLone remaining spelled old new other = RefusesScenario remaining old new other

@@ -12,7 +12,7 @@ use Rattle.jm_header.specs.declared.content.Content.{Content}
 use Rattle.jm_header.specs.declared.content.Sender.{Sender}
 use Rattle.jm_header.specs.declared.content.Settings.{Settings}
 use Rattle.jm_machine.specs.declared.call.ClientCall.{ClientCall}
-use Rattle.jm_machine.specs.declared.call.ClientCall.TheVariants.{Ask, Send}
+use Rattle.jm_machine.specs.declared.call.ClientCall.TheVariants.{Ask, Send, CommitSession}
 use Rattle.jm_machine.specs.Client.{one_more}
 use Rattle.jm_lexer.specs.declared.fault.SyntaxFault.{SyntaxFault}
 use Rattle.jm_tree.specs.Parse.{parsed}
@@ -66,12 +66,14 @@ abbrev pub call_line : Option Tree → Sent → ℕ → ClientCall → List ℕ
 call_line selector sent number (Ask who request) = []
 call_line selector sent number (Send session draft destination now) =
     send_line selector number (stamp_next sent session draft destination now)
+call_line selector sent number (CommitSession session) = []
 
 -- the counts after a call
 abbrev pub sent_after : Sent → ClientCall → Sent
 sent_after sent (Ask who request) = sent
 sent_after sent (Send session draft destination now) =
     counted session (stamp_next sent session draft destination now) sent
+sent_after sent (CommitSession session) = sent
 
 -- the lines of calls in order, the first of that number
 abbrev pub lines_from : Option Tree → Sent → ℕ → List ClientCall → List ℕ

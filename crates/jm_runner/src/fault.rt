@@ -27,7 +27,8 @@ pub enum Fault {
 pub enum KeyFault {
     /// The text spells no key.
     Syntax,
-    /// The key is none of an unshared topic subscription.
+    /// The key is none of an unshared topic subscription, or a creating call of the run, accepted or not, names its
+    /// consumer's number for a queue's consumer.
     NotUnshared,
 }
 

@@ -141,7 +141,7 @@ fn call_line(
         × (sent_of sends.new ≡ spec.sent_after (sent_of sends.old) call)) }
 {
     match call {
-        ClientCall::Ask { .. } => Ok(String::new(alloc)),
+        ClientCall::Ask { .. } | ClientCall::CommitSession(_) => Ok(String::new(alloc)),
         ClientCall::Send {
             session,
             draft,
@@ -187,8 +187,8 @@ fn told<R: Read>(alloc: Global, selector: &str, source: &mut Source<R>) -> Resul
 
 /// Reads a selector and then a scenario, in at most 16,777,217 reads, and prints the value of the selector
 /// over each send: the number of its call and TRUE, FALSE or UNKNOWN. The sends are stamped in order; one
-/// that is refused leaves its number free, and whether a session is open does not matter (ours). Of a
-/// selector that is refused the fault is told before anything is read.
+/// that is refused leaves its number free, and neither whether a session is open nor whether it commits matters
+/// (ours). Of a selector that is refused the fault is told before anything is read.
 pub fn pick<R: Read, W: Write>(
     alloc: Global,
     selector: &str,

@@ -1,6 +1,5 @@
 ghost use Rattle.std.specs.Prelude.{◌≡◌, ◌≤◌, ◌+◌, Some, None, true, string_bytes, IfOk, IfErr, IfSome, MatchResult};
 ghost use Rattle.jm_core.specs.Provider.{state_of};
-ghost use Rattle.jm_machine.specs.Isolation.{is_unshared};
 ghost use Rattle.jm_machine.specs.Machine.{new_core};
 ghost use Rattle.jm_scenario.specs.Key.{key_of_text};
 ghost use Rattle.jm_words.specs.Words.{IsLimit};
@@ -140,8 +139,8 @@ fn lines_from(
 ) -> Result<String, Fault>
     requires { state_of opening.now ≡ new_core 1 (state_of opening.now).limit }
     ensures ok { IfOk result (λ lines. (string_bytes lines ≡ spec.lines_alone (state_of opening.now).limit key.now calls.now replies.now)
-        × (is_unshared key.now (new_core 1 (state_of opening.now).limit) ≡ true)) }
-    ensures err { IfErr result (spec.RefusesKey (state_of opening.now).limit key.now) }
+        × (spec.is_unshared_in (state_of opening.now).limit key.now calls.now replies.now ≡ true)) }
+    ensures err { IfErr result (spec.RefusesKey (state_of opening.now).limit key.now calls.now replies.now) }
 {
     let numbers = numbers(opening.opening(), alloc, calls, replies)?;
     let entries = entries(alloc, opening.opening(), calls, replies)?;
@@ -162,8 +161,8 @@ fn lines_alone(
 ) -> Result<String, Fault>
     requires { IsLimit limit }
     ensures ok { IfOk result (λ lines. (string_bytes lines ≡ spec.lines_alone limit key.now calls.now replies.now)
-        × (is_unshared key.now (new_core 1 limit) ≡ true)) }
-    ensures err { IfErr result (spec.RefusesKey limit key.now) }
+        × (spec.is_unshared_in limit key.now calls.now replies.now ≡ true)) }
+    ensures err { IfErr result (spec.RefusesKey limit key.now calls.now replies.now) }
 {
     let opening = new_core(alloc, limit);
     lines_from(alloc, &opening, key, calls, replies)
@@ -187,10 +186,11 @@ fn told<R: Read>(alloc: Global, source: &mut Source<R>, key: &str) -> Result<Pri
 
 /// Reads a scenario, in at most 16,777,217 reads, and makes its calls on a new provider, then reads the key
 /// of a subscription, and prints what this subscription answers alone, fed with the calls of its own
-/// session, with the accepted calls of that session's connection, and with the messages sent that it
+/// session, with the accepted calls of that session's connection, and with the committed messages that it
 /// accepts: a line for each reply, with the number of its call. A subscription that is not durable holds at most as
 /// many rows as the scenario says, in the run and alone; where it says none, 100,000. The exit status is that of the
-/// run. The fault of a scenario is told before any of the key.
+/// run. The fault of a scenario is told before any of the key, which is judged over the whole run: none is unshared whose
+/// consumer's number a creating call, accepted or not, names for a queue's consumer.
 pub fn lone<R: Read, W: Write>(
     alloc: Global,
     source: &mut Source<R>,

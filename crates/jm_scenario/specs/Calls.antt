@@ -3,7 +3,6 @@ use Rattle.std.specs.Prelude.{ℕ, List, [], ◌∷◌, Option, Some, None, opti
 use Rattle.serde_json.specs.Data.{Data, Items, no_items, item}
 use Rattle.serde_json.specs.Find.{get, as_str, as_array}
 use Rattle.serde_json.specs.Read.{read}
-use Rattle.jm_dest.specs.declared.destination.Destination.TheVariants.{Topic}
 use Rattle.jm_machine.specs.declared.call.Who.TheVariants.{Connection as OfConnection, Session as OfSession}
 use Rattle.jm_machine.specs.declared.call.Request.{Request}
 use Rattle.jm_machine.specs.declared.call.Request.TheVariants as request
@@ -12,18 +11,28 @@ use Rattle.jm_machine.specs.declared.call.ClientCall.TheVariants as call
 use Rattle.jm_scenario.specs.Drafts.{draft}
 use Rattle.jm_scenario.specs.Fields.{operation_named, is_known}
 use Rattle.jm_scenario.specs.Reading.{where_true}
-use Rattle.jm_scenario.specs.Values.{number, limit, session, mode, name, moment, required, optional}
+use Rattle.jm_scenario.specs.Values.{number, limit, session, mode, name, moment, required, optional, destination, no_local}
 use Rattle.jm_scenario.specs.declared.field.Owner.{Owner}
-use Rattle.jm_scenario.specs.declared.field.Owner.TheVariants.{Scenario as Outer, Open, Start, Stop, CloseConnection, Session, CloseSession, Acknowledge, Recover, Consumer, CloseConsumer, Missed, Send, Receive}
+use Rattle.jm_scenario.specs.declared.field.Owner.TheVariants.{Scenario as Outer, Open, Start, Stop, CloseConnection, Session, CloseSession, Acknowledge, Recover, Commit, Rollback, Consumer, CloseConsumer, Missed, Send, Receive}
 use Rattle.jm_scenario.specs.declared.scenario.Scenario.{Scenario}
 
 -- a call by the connection of the record
 abbrev pub connection_call : Request → Data → Option ClientCall
 connection_call request value = option_map (λ c. call.Ask (OfConnection c) request) (required number (codes "c") value)
 
+-- the opening of the connection of the record, for the client of the field where it stands
+abbrev pub open_call : Data → Option ClientCall
+open_call value =
+    option_and_then (λ c. option_map (λ client. call.Ask (OfConnection c) (request.Open client))
+    (optional name (codes "client") value)) (required number (codes "c") value)
+
 -- a call by the session of the record
 abbrev pub session_request : Request → Data → Option ClientCall
 session_request request value = option_map (λ s. call.Ask (OfSession s) request) (required session (codes "s") value)
+
+-- a commit of the session of the record
+abbrev pub commit_call : Data → Option ClientCall
+commit_call value = option_map call.CommitSession (required session (codes "s") value)
 
 -- a call by the session of the record, about its consumer
 abbrev pub consumer_request : (ℕ → Request) → Data → Option ClientCall
@@ -36,11 +45,13 @@ session_call value =
     option_and_then (λ s. option_map (λ m. call.Ask (OfSession s) (request.CreateSession m)) (required mode (codes "mode") value))
     (required session (codes "s") value)
 
--- a new consumer of that topic, with the text of the selector where the field stands
+-- a new consumer of that queue or topic, with the text of the selector where the field stands, and with the mark of
+-- the field `noLocal`
 abbrev pub consumer_call : Data → Option ClientCall
 consumer_call value =
-    option_and_then (λ s. option_and_then (λ k. option_and_then (λ t. option_map (λ selector. call.Ask (OfSession s) (request.CreateConsumer k t selector))
-    (optional as_str (codes "selector") value)) (required name (codes "topic") value)) (required number (codes "k") value)) (required session (codes "s") value)
+    option_and_then (λ s. option_and_then (λ k. option_and_then (λ d. option_and_then (λ selector. option_map (λ mark.
+    call.Ask (OfSession s) (request.CreateConsumer k d selector mark)) (no_local value)) (optional as_str (codes "selector") value))
+    (destination value)) (required number (codes "k") value)) (required session (codes "s") value)
 
 -- a receive of that consumer at that moment
 abbrev pub receive_call : Data → Option ClientCall
@@ -48,16 +59,16 @@ receive_call value =
     option_and_then (λ s. option_and_then (λ k. option_map (λ now. call.Ask (OfSession s) (request.Receive k now))
     (required moment (codes "now") value)) (required number (codes "k") value)) (required session (codes "s") value)
 
--- a send to that topic at that moment
+-- a send to that queue or topic at that moment
 abbrev pub send_call : Data → Option ClientCall
 send_call value =
-    option_and_then (λ s. option_and_then (λ t. option_and_then (λ now. option_map (λ d. call.Send s d (Topic t) now)
-    (draft value)) (required moment (codes "now") value)) (required name (codes "topic") value)) (required session (codes "s") value)
+    option_and_then (λ s. option_and_then (λ to. option_and_then (λ now. option_map (λ d. call.Send s d to now)
+    (draft value)) (required moment (codes "now") value)) (destination value)) (required session (codes "s") value)
 
 -- the call of that operation, whatever other fields stand
 abbrev pub call_as : Owner → Data → Option ClientCall
 call_as Outer value = None
-call_as Open value = connection_call request.Open value
+call_as Open value = open_call value
 call_as Start value = connection_call request.Start value
 call_as Stop value = connection_call request.Stop value
 call_as CloseConnection value = connection_call request.CloseConnection value
@@ -65,6 +76,8 @@ call_as Session value = session_call value
 call_as CloseSession value = session_request request.CloseSession value
 call_as Acknowledge value = session_request request.Acknowledge value
 call_as Recover value = session_request request.Recover value
+call_as Commit value = commit_call value
+call_as Rollback value = session_request request.Rollback value
 call_as Consumer value = consumer_call value
 call_as CloseConsumer value = consumer_request request.CloseConsumer value
 call_as Missed value = consumer_request request.Missed value

@@ -9,7 +9,7 @@ use Rattle.jm_scenario.specs.declared.field.Field.TheVariants as field
 use Rattle.jm_scenario.specs.declared.field.FieldName.{FieldName}
 use Rattle.jm_scenario.specs.declared.field.FieldName.TheVariants.{Known, Unknown}
 use Rattle.jm_scenario.specs.declared.field.Owner.{Owner}
-use Rattle.jm_scenario.specs.declared.field.Owner.TheVariants.{Scenario, Open, Start, Stop, CloseConnection, Session, CloseSession, Acknowledge, Recover, Consumer, CloseConsumer, Missed, Send, Receive}
+use Rattle.jm_scenario.specs.declared.field.Owner.TheVariants.{Scenario, Open, Start, Stop, CloseConnection, Session, CloseSession, Acknowledge, Recover, Commit, Rollback, Consumer, CloseConsumer, Missed, Send, Receive}
 
 -- the name of a field
 abbrev pub field_name : Field → List ℕ
@@ -17,12 +17,14 @@ field_name field.Calls = codes "calls"
 field_name field.Held = codes "held"
 field_name field.Operation = codes "op"
 field_name field.Connection = codes "c"
+field_name field.Client = codes "client"
 field_name field.Session = codes "s"
 field_name field.Mode = codes "mode"
 field_name field.Consumer = codes "k"
 field_name field.Queue = codes "queue"
 field_name field.Topic = codes "topic"
 field_name field.Selector = codes "selector"
+field_name field.NoLocal = codes "noLocal"
 field_name field.Now = codes "now"
 field_name field.Priority = codes "priority"
 field_name field.Persistent = codes "persistent"
@@ -49,11 +51,13 @@ operation_named text =
     (if bytes_eq text (codes "close-session") then Some CloseSession else
     (if bytes_eq text (codes "acknowledge") then Some Acknowledge else
     (if bytes_eq text (codes "recover") then Some Recover else
+    (if bytes_eq text (codes "commit") then Some Commit else
+    (if bytes_eq text (codes "rollback") then Some Rollback else
     (if bytes_eq text (codes "consumer") then Some Consumer else
     (if bytes_eq text (codes "close-consumer") then Some CloseConsumer else
     (if bytes_eq text (codes "missed") then Some Missed else
     (if bytes_eq text (codes "send") then Some Send else
-    (if bytes_eq text (codes "receive") then Some Receive else None))))))))))))
+    (if bytes_eq text (codes "receive") then Some Receive else None))))))))))))))
 
 -- the name of a field of a draft
 abbrev pub is_draft_field : List ℕ → Bool
@@ -64,7 +68,7 @@ is_draft_field name =
 -- a scenario or a call has a field of that name
 abbrev pub has : Owner → List ℕ → Bool
 has Scenario name = bytes_eq name (codes "calls") || bytes_eq name (codes "held")
-has Open name = bytes_eq name (codes "op") || bytes_eq name (codes "c")
+has Open name = bytes_eq name (codes "op") || bytes_eq name (codes "c") || bytes_eq name (codes "client")
 has Start name = bytes_eq name (codes "op") || bytes_eq name (codes "c")
 has Stop name = bytes_eq name (codes "op") || bytes_eq name (codes "c")
 has CloseConnection name = bytes_eq name (codes "op") || bytes_eq name (codes "c")
@@ -72,12 +76,14 @@ has Session name = bytes_eq name (codes "op") || bytes_eq name (codes "s") || by
 has CloseSession name = bytes_eq name (codes "op") || bytes_eq name (codes "s")
 has Acknowledge name = bytes_eq name (codes "op") || bytes_eq name (codes "s")
 has Recover name = bytes_eq name (codes "op") || bytes_eq name (codes "s")
-has Consumer name = bytes_eq name (codes "op") || bytes_eq name (codes "s") || bytes_eq name (codes "k") || bytes_eq name (codes "topic")
-    || bytes_eq name (codes "selector")
+has Commit name = bytes_eq name (codes "op") || bytes_eq name (codes "s")
+has Rollback name = bytes_eq name (codes "op") || bytes_eq name (codes "s")
+has Consumer name = bytes_eq name (codes "op") || bytes_eq name (codes "s") || bytes_eq name (codes "k") || bytes_eq name (codes "queue")
+    || bytes_eq name (codes "topic") || bytes_eq name (codes "selector") || bytes_eq name (codes "noLocal")
 has CloseConsumer name = bytes_eq name (codes "op") || bytes_eq name (codes "s") || bytes_eq name (codes "k")
 has Missed name = bytes_eq name (codes "op") || bytes_eq name (codes "s") || bytes_eq name (codes "k")
-has Send name = bytes_eq name (codes "op") || bytes_eq name (codes "s") || bytes_eq name (codes "topic") || bytes_eq name (codes "now")
-    || is_draft_field name
+has Send name = bytes_eq name (codes "op") || bytes_eq name (codes "s") || bytes_eq name (codes "queue") || bytes_eq name (codes "topic")
+    || bytes_eq name (codes "now") || is_draft_field name
 has Receive name = bytes_eq name (codes "op") || bytes_eq name (codes "s") || bytes_eq name (codes "k") || bytes_eq name (codes "now")
 
 -- each member has a name that its owner has

@@ -1,11 +1,13 @@
 -- What the value of a field spells (ours).
-use Rattle.std.specs.Prelude.{ℕ, ◌^◌, ◌&&◌, nat_le, nat_lt, pos, negsuc, ℤ, List, Option, Some, None, option_map, option_and_then, if◌then◌else◌, codes}
+use Rattle.std.specs.Prelude.{ℕ, ◌^◌, ◌&&◌, nat_le, nat_lt, pos, negsuc, ℤ, Bool, false, List, Option, Some, None, option_map, option_and_then, if◌then◌else◌, codes}
 use Rattle.std.specs.Str.{bytes_eq}
 use Rattle.serde_json.specs.Data.{Data, Items, no_items, item}
-use Rattle.serde_json.specs.Find.{get, as_number, as_u64, as_i64, as_str, as_array}
+use Rattle.serde_json.specs.Find.{get, as_bool, as_number, as_u64, as_i64, as_str, as_array}
 use Rattle.jm_base.specs.declared.mode.Mode.{Mode}
-use Rattle.jm_base.specs.declared.mode.Mode.TheVariants.{Auto, Client, Dups}
+use Rattle.jm_base.specs.declared.mode.Mode.TheVariants.{Auto, Client, Dups, Transacted}
 use Rattle.jm_dest.specs.Names.{is_name}
+use Rattle.jm_dest.specs.declared.destination.Destination.{Destination}
+use Rattle.jm_dest.specs.declared.destination.Destination.TheVariants.{Queue, Topic}
 use Rattle.jm_dest.specs.declared.session.SessionId.{SessionId}
 use Rattle.jm_scenario.specs.Reading.{where_true}
 
@@ -35,14 +37,15 @@ session_of_items _ = None
 abbrev pub session : Data → Option SessionId
 session value = option_and_then session_of_items (as_array value)
 
--- an acknowledgement mode, by its name
+-- a session's mode, by its name
 abbrev pub mode_named : List ℕ → Option Mode
 mode_named name =
     if bytes_eq name (codes "auto") then Some Auto else
     (if bytes_eq name (codes "client") then Some Client else
-    (if bytes_eq name (codes "dups") then Some Dups else None))
+    (if bytes_eq name (codes "dups") then Some Dups else
+    (if bytes_eq name (codes "transacted") then Some Transacted else None)))
 
--- an acknowledgement mode
+-- a session's mode
 abbrev pub mode : Data → Option Mode
 mode value = option_and_then mode_named (as_str value)
 
@@ -71,3 +74,23 @@ absent_or spelled (Some value) = option_map Some (spelled value)
 -- the field of that name, which may be absent
 abbrev pub optional : {T : Type 0} → (Data → Option T) → List ℕ → Data → Option (Option T)
 optional spelled field record_value = absent_or spelled (get field record_value)
+
+-- the destination of a queue's name or of a topic's, where one of them stands and not both
+abbrev pub destination_of : Option Data → Option Data → Option Destination
+destination_of None None = None
+destination_of (Some queue) None = option_map Queue (name queue)
+destination_of None (Some topic) = option_map Topic (name topic)
+destination_of (Some queue) (Some topic) = None
+
+-- the destination of the field `queue` or `topic`
+abbrev pub destination : Data → Option Destination
+destination value = destination_of (get (codes "queue") value) (get (codes "topic") value)
+
+-- a truth value, or false where it is absent
+abbrev pub mark_of : Option Data → Option Bool
+mark_of None = Some false
+mark_of (Some value) = as_bool value
+
+-- the mark of the field `noLocal`
+abbrev pub no_local : Data → Option Bool
+no_local value = mark_of (get (codes "noLocal") value)

@@ -6,8 +6,9 @@ ghost use Rattle.jm_scenario.specs.Reading.{Reads, ReadsExactly};
 use crate::draft::draft;
 use crate::field::{Field, Owner, not_known, unknown};
 use crate::misfit::Misfit;
-use crate::value::{connection, consumer, mode, now, selector, session, topic};
-use jm_dest::Destination;
+use crate::value::{
+    client, connection, consumer, destination, mode, no_local, now, selector, session,
+};
 use jm_machine::{ClientCall, Request, Who};
 use serde_json::Value;
 use std::alloc::Global;
@@ -31,12 +32,29 @@ fn by_connection(object: &Value, request: Request) -> Result<ClientCall, Misfit>
     Ok(ClientCall::Ask { who, request })
 }
 
+/// The opening of the object's connection. `Memory` where a request for memory was refused.
+fn open(alloc: Global, object: &Value) -> Result<ClientCall, Misfit>
+    ensures { Reads result (spec.open_call (view object.now)) }
+{
+    let who = Who::Connection(connection(object)?);
+    let client = client(alloc, object)?;
+    let request = Request::Open { client };
+    Ok(ClientCall::Ask { who, request })
+}
+
 /// A call by the session of the object.
 fn by_session(object: &Value, request: Request) -> Result<ClientCall, Misfit>
     ensures { ReadsExactly result (spec.session_request request (view object.now)) }
 {
     let who = Who::Session(session(object)?);
     Ok(ClientCall::Ask { who, request })
+}
+
+/// A commit of the object's session.
+fn commit(object: &Value) -> Result<ClientCall, Misfit>
+    ensures { ReadsExactly result (spec.commit_call (view object.now)) }
+{
+    Ok(ClientCall::CommitSession(session(object)?))
 }
 
 fn create_session(object: &Value) -> Result<ClientCall, Misfit>
@@ -53,12 +71,14 @@ fn create_consumer(alloc: Global, object: &Value) -> Result<ClientCall, Misfit>
 {
     let who = Who::Session(session(object)?);
     let consumer = consumer(object)?;
-    let topic = topic(alloc, object)?;
+    let destination = destination(alloc, object)?;
     let selector = selector(alloc, object)?;
+    let no_local = no_local(object)?;
     let request = Request::CreateConsumer {
         consumer,
-        topic,
+        destination,
         selector,
+        no_local,
     };
     Ok(ClientCall::Ask { who, request })
 }
@@ -96,7 +116,7 @@ fn send(alloc: Global, object: &Value) -> Result<ClientCall, Misfit>
     ensures { Reads result (spec.send_call (view object.now)) }
 {
     let session = session(object)?;
-    let destination = Destination::Topic(topic(alloc, object)?);
+    let destination = destination(alloc, object)?;
     let now = now(object)?;
     let draft = draft(alloc, object)?;
     Ok(ClientCall::Send {
@@ -113,7 +133,7 @@ fn call_as(alloc: Global, object: &Value, operation: Owner) -> Result<ClientCall
 {
     match operation {
         Owner::Scenario => Err(Misfit::Shape(Field::Operation)),
-        Owner::Open => by_connection(object, Request::Open),
+        Owner::Open => open(alloc, object),
         Owner::Start => by_connection(object, Request::Start),
         Owner::Stop => by_connection(object, Request::Stop),
         Owner::CloseConnection => by_connection(object, Request::CloseConnection),
@@ -121,6 +141,8 @@ fn call_as(alloc: Global, object: &Value, operation: Owner) -> Result<ClientCall
         Owner::CloseSession => by_session(object, Request::CloseSession),
         Owner::Acknowledge => by_session(object, Request::Acknowledge),
         Owner::Recover => by_session(object, Request::Recover),
+        Owner::Commit => commit(object),
+        Owner::Rollback => by_session(object, Request::Rollback),
         Owner::Consumer => create_consumer(alloc, object),
         Owner::CloseConsumer => close_consumer(object),
         Owner::Missed => missed(object),

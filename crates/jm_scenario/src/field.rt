@@ -19,18 +19,23 @@ pub enum Field {
     Operation,
     /// The number of the connection that is opened, started, stopped or closed.
     Connection,
+    /// The client identifier of a connection that is opened.
+    Client,
     /// The session of the call: the number of its connection, and its own.
     Session,
-    /// The acknowledgement mode of a new session.
+    /// The mode of a new session: how it acknowledges, or that it is transacted.
     Mode,
     /// The number of the consumer within its session.
     Consumer,
-    /// The name of a queue. No call has it; a fault names it where a call has no topic.
+    /// The name of the queue that a consumer receives from, or that a message is sent to. A fault names it, too, where a
+    /// call has both a queue and a topic, or neither.
     Queue,
     /// The name of the topic that a consumer listens to, or that a message is sent to.
     Topic,
     /// The text of the selector of a new consumer.
     Selector,
+    /// Whether a new consumer gets nothing that its own connection publishes.
+    NoLocal,
     /// The moment of a send or a receive.
     Now,
     /// JMSPriority, from 0 to 9.
@@ -71,6 +76,8 @@ pub(crate) enum Owner {
     CloseSession,
     Acknowledge,
     Recover,
+    Commit,
+    Rollback,
     Consumer,
     CloseConsumer,
     Missed,
@@ -88,12 +95,14 @@ impl Field {
             Field::Held => "held",
             Field::Operation => "op",
             Field::Connection => "c",
+            Field::Client => "client",
             Field::Session => "s",
             Field::Mode => "mode",
             Field::Consumer => "k",
             Field::Queue => "queue",
             Field::Topic => "topic",
             Field::Selector => "selector",
+            Field::NoLocal => "noLocal",
             Field::Now => "now",
             Field::Priority => "priority",
             Field::Persistent => "persistent",
@@ -144,6 +153,8 @@ impl Owner {
             "close-session" => Some(Owner::CloseSession),
             "acknowledge" => Some(Owner::Acknowledge),
             "recover" => Some(Owner::Recover),
+            "commit" => Some(Owner::Commit),
+            "rollback" => Some(Owner::Rollback),
             "consumer" => Some(Owner::Consumer),
             "close-consumer" => Some(Owner::CloseConsumer),
             "missed" => Some(Owner::Missed),
@@ -159,16 +170,24 @@ impl Owner {
     {
         match self {
             Owner::Scenario => matches!(name, "calls" | "held"),
-            Owner::Open | Owner::Start | Owner::Stop | Owner::CloseConnection => {
-                matches!(name, "op" | "c")
-            }
+            Owner::Open => matches!(name, "op" | "c" | "client"),
+            Owner::Start | Owner::Stop | Owner::CloseConnection => matches!(name, "op" | "c"),
             Owner::Session => matches!(name, "op" | "s" | "mode"),
-            Owner::CloseSession | Owner::Acknowledge | Owner::Recover => {
-                matches!(name, "op" | "s")
+            Owner::CloseSession
+            | Owner::Acknowledge
+            | Owner::Recover
+            | Owner::Commit
+            | Owner::Rollback => matches!(name, "op" | "s"),
+            Owner::Consumer => {
+                matches!(
+                    name,
+                    "op" | "s" | "k" | "queue" | "topic" | "selector" | "noLocal"
+                )
             }
-            Owner::Consumer => matches!(name, "op" | "s" | "k" | "topic" | "selector"),
             Owner::CloseConsumer | Owner::Missed => matches!(name, "op" | "s" | "k"),
-            Owner::Send => matches!(name, "op" | "s" | "topic" | "now") || is_draft_field(name),
+            Owner::Send => {
+                matches!(name, "op" | "s" | "queue" | "topic" | "now") || is_draft_field(name)
+            }
             Owner::Receive => matches!(name, "op" | "s" | "k" | "now"),
         }
     }

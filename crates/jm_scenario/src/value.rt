@@ -8,7 +8,7 @@ ghost use Rattle.jm_scenario.specs.Values as spec;
 use crate::field::Field;
 use crate::misfit::Misfit;
 use jm_base::{Mode, Refusal, Str};
-use jm_dest::{ConnectionId, ConsumerId, Moment, Name, SessionId};
+use jm_dest::{ClientId, ConnectionId, ConsumerId, Destination, Moment, Name, SessionId};
 use serde_json::Value;
 use std::alloc::Global;
 
@@ -124,7 +124,7 @@ pub(crate) fn consumer(object: &Value) -> Result<ConsumerId, Misfit>
     consumer_of(required(object, Field::Consumer)?)
 }
 
-/// The acknowledgement mode of the field `mode`.
+/// The session's mode of the field `mode`.
 pub(crate) fn mode(object: &Value) -> Result<Mode, Misfit>
     ensures { ReadsExactly result (spec.required spec.mode (codes "mode") (view object.now)) }
 {
@@ -133,6 +133,7 @@ pub(crate) fn mode(object: &Value) -> Result<Mode, Misfit>
         "auto" => Ok(Mode::Auto),
         "client" => Ok(Mode::Client),
         "dups" => Ok(Mode::Dups),
+        "transacted" => Ok(Mode::Transacted),
         _ => Err(Misfit::Shape(Field::Mode)),
     }
 }
@@ -145,17 +146,6 @@ fn name_of(alloc: Global, value: &Value, field: Field) -> Result<Name, Misfit>
         Ok(name) => Ok(name),
         Err(Refusal::Memory) => Err(Misfit::Memory),
         Err(_) => Err(Misfit::Shape(field)),
-    }
-}
-
-/// The name of the field `topic`. An object without it has no destination, which is told at `queue`.
-/// `Memory` where a request for memory was refused.
-pub(crate) fn topic(alloc: Global, object: &Value) -> Result<Name, Misfit>
-    ensures { Reads result (spec.required spec.name (codes "topic") (view object.now)) }
-{
-    match object.get(Field::Topic.name()) {
-        Some(value) => name_of(alloc, value, Field::Topic),
-        None => Err(Misfit::Shape(Field::Queue)),
     }
 }
 
@@ -184,6 +174,55 @@ pub(crate) fn optional(object: &Value, field: Field) -> Option<&Value>
     ensures { option_map (λ value. view value.now) result ≡ get (field_name field) (view object.now) }
 {
     object.get(field.name())
+}
+
+/// The destination of the field `queue` or `topic`. An object with both has none, as one without them; that is told at
+/// `queue`. `Memory` where a request for memory was refused.
+pub(crate) fn destination(alloc: Global, object: &Value) -> Result<Destination, Misfit>
+    ensures { Reads result (spec.destination (view object.now)) }
+{
+    match (
+        optional(object, Field::Queue),
+        optional(object, Field::Topic),
+    ) {
+        (Some(queue), None) => Ok(Destination::Queue(name_of(alloc, queue, Field::Queue)?)),
+        (None, Some(topic)) => Ok(Destination::Topic(name_of(alloc, topic, Field::Topic)?)),
+        (None, None) | (Some(_), Some(_)) => Err(Misfit::Shape(Field::Queue)),
+    }
+}
+
+/// The client identifier of that value. `Memory` where a request for memory was refused.
+fn client_of(alloc: Global, value: &Value) -> Result<ClientId, Misfit>
+    ensures { Reads result (spec.name (view value.now)) }
+{
+    match ClientId::new(alloc, text(value, Field::Client)?) {
+        Ok(client) => Ok(client),
+        Err(Refusal::Memory) => Err(Misfit::Memory),
+        Err(_) => Err(Misfit::Shape(Field::Client)),
+    }
+}
+
+/// The client identifier of the field `client`, where it stands. `Memory` where a request for memory was refused.
+pub(crate) fn client(alloc: Global, object: &Value) -> Result<Option<ClientId>, Misfit>
+    ensures { Reads result (spec.optional spec.name (codes "client") (view object.now)) }
+{
+    match optional(object, Field::Client) {
+        Some(value) => Ok(Some(client_of(alloc, value)?)),
+        None => Ok(None),
+    }
+}
+
+/// The truth value of the field `noLocal`, and false where it does not stand.
+pub(crate) fn no_local(object: &Value) -> Result<bool, Misfit>
+    ensures { ReadsExactly result (spec.no_local (view object.now)) }
+{
+    let Some(value) = optional(object, Field::NoLocal) else {
+        return Ok(false);
+    };
+    match value.as_bool() {
+        Some(truth) => Ok(truth),
+        None => Err(misfit(value, Field::NoLocal)),
+    }
 }
 
 /// The text of a field that may be absent.

@@ -1,7 +1,7 @@
 -- What is found by number, and what an insertion adds.
-use Rattle.std.proofs.Common.{◌≡◌, ◌<◌, ℕ, length, Bool, true, false, cond, List, [], ◌∷◌, ◌++◌, Option, None, Some, refl, sym, ap, ◌∙◌, subst, arith, Result, Ok, Err, OnOk, OnErr}
-use Rattle.std.specs.Prelude.{◌==◌, ◌&&◌, find, position, nat_lt, is_some, not}
-use Rattle.std.specs.List.{position_or_len}
+use Rattle.std.proofs.Common.{◌≡◌, ◌<◌, ℕ, length, Bool, true, false, cond, List, [], ◌∷◌, ◌++◌, Option, None, Some, refl, sym, ap, ◌∙◌, subst, arith, Result, Ok, Err, IsOk, OnOk, OnErr}
+use Rattle.std.specs.Prelude.{◌==◌, ◌&&◌, find, position, nat_lt, is_some, not, map, option_to_list}
+use Rattle.std.specs.List.{AllZip, position_or_len}
 use Rattle.std.proofs.lemmas.Bool.Decides.{nat_tests}
 use Rattle.std.specs.Map.{lookup, values_of}
 use Rattle.std.proofs.lemmas.Bool.{eqb-true, eq-eqb}
@@ -11,9 +11,7 @@ use Rattle.jm_dest.specs.declared.session.SessionId.{SessionId}
 use Rattle.jm_dest.specs.Names.{session_eq}
 use Rattle.jm_machine.specs.declared.state.ConnectionState.{ConnectionState}
 use Rattle.jm_machine.specs.declared.state.SessionState.{SessionState}
-use Rattle.jm_machine.specs.declared.call.Who.TheVariants.{Connection}
-use Rattle.jm_machine.specs.declared.call.Request.TheVariants.{Open}
-use Rattle.jm_machine.specs.Life.{Life, connection_of, life_after, session_of}
+use Rattle.jm_machine.specs.Life.{Life, connection_of, session_of}
 use Rattle.jm_session.specs.declared.number.ConsumerNumber.{ConsumerNumber}
 use Rattle.jm_session.specs.Numbers.{IsNumbered}
 
@@ -90,28 +88,32 @@ module _ {K V S : Type 0} (eq : K → K → Bool) (symmetric : (a b : K) → eq 
       let all : new.entries ≡ old.entries ++ (k, v) ∷ [] = is ∙ insert_entry-new eq old k v (found eq symmetric number old.entries k h ∙ nothing (find (λ x. eq (number x) k) (values old)) absent) in
       (ap values_of all ∙ values-added old.entries k v, subst (IsNumbered number) (sym all) (numbered-added number old.entries k v e h))
 
--- a connection of a new number stands last
-connection_last : {S : Type 0} (old : IndexMap ℕ ConnectionState S) (k : ℕ) (v : ConnectionState) → IsNumbered (λ x. x.id) old.entries → is_some (connection_of (values old) k) ≡ false →
-    insert_entry (λ a b. a == b) old.entries k v ≡ old.entries ++ (k, v) ∷ []
-connection_last old k v h absent = insert_entry-new (λ a b. a == b) old k v (sym (connection_found old.entries k h) ∙ nothing (connection_of (values old) k) absent)
+-- what an insertion for which there is room does
+pub surely : {T E P : Type 0} (r : Result T E) → OnOk r P → IsOk r → P
+surely (Ok x) h ok = h
+surely (Err x) h ok = cc
 
--- the connections after it
-pub connection_added : {S : Type 0} (old : IndexMap ℕ ConnectionState S) (k : ℕ) (v : ConnectionState) → IsNumbered (λ x. x.id) old.entries → is_some (connection_of (values old) k) ≡ false →
-    values_of (insert_entry (λ a b. a == b) old.entries k v) ≡ values old ++ v ∷ []
-connection_added old k v h absent = ap values_of (connection_last old k v h absent) ∙ values-added old.entries k v
+-- the connections after one of a new number, for which room was made, was inserted
+pub opened : {S : Type 0} (old reserved new : IndexMap ℕ ConnectionState S) (x : ConnectionState) → IsNumbered (λ x. x.id) old.entries → is_some (connection_of (values old) x.id) ≡ false →
+    reserved.entries ≡ old.entries → new.entries ≡ insert_entry (λ a b. a == b) reserved.entries x.id x → (values new ≡ values old ++ x ∷ []) × IsNumbered (λ x. x.id) new.entries
+opened old reserved new x h absent same is =
+    added (λ a b. a == b) num_sym (λ x. x.id) old new x.id x refl h absent (is ∙ ap (λ es. insert_entry (λ a b. a == b) es x.id x) same)
 
--- and each stands under its number
-pub connection_added_numbered : {S : Type 0} (old : IndexMap ℕ ConnectionState S) (k : ℕ) (v : ConnectionState) → k ≡ v.id → IsNumbered (λ x. x.id) old.entries → is_some (connection_of (values old) k) ≡ false →
-    IsNumbered (λ x. x.id) (insert_entry (λ a b. a == b) old.entries k v)
-connection_added_numbered old k v same h absent = subst (IsNumbered (λ x. x.id)) (sym (connection_last old k v h absent)) (numbered-added (λ x. x.id) old.entries k v same h)
+-- a clone has the same entries
+pub same_entries : {K V : Type 0} (old new : List (K × V)) → AllZip (λ p q. (q.0 ≡ p.0) × (q.1 ≡ p.1)) old new → new ≡ old
+same_entries [] [] h = refl
+same_entries [] (f ∷ fs) h = absurd h
+same_entries (e ∷ es) [] h = absurd h
+same_entries (e ∷ es) (f ∷ fs) h = λ i. (h.0.0 i, h.0.1 i) ∷ same_entries es fs h.1 i
 
--- the life after a connection was opened
-pub life_opened : {S : Type 0} (old new : IndexMap ℕ ConnectionState S) (sessions : List SessionState) (k : ℕ) → IsNumbered (λ x. x.id) old.entries → is_some (connection_of (values old) k) ≡ false →
-    new.entries ≡ insert_entry (λ a b. a == b) old.entries k (record { id = k; is_started = false; is_open = true }) →
-    record { connections = values new; sessions = sessions } ≡ life_after (record { connections = values old; sessions = sessions }) (Connection k) Open
-unfolding life_after
-life_opened old new sessions k h absent is =
-    ap (λ xs. record { connections = xs; sessions = sessions }) (ap values_of is ∙ connection_added old k (record { id = k; is_started = false; is_open = true }) h absent)
+-- one value alone, under its number
+pub one_numbered : {K V : Type 0} (number : V → K) (one : Option V) → IsNumbered number (map (λ x. (number x, x)) (option_to_list one))
+one_numbered number None = tt
+one_numbered number (Some x) = (refl, tt)
+
+pub one_value : {K V : Type 0} (number : V → K) (one : Option V) → values_of (map (λ x. (number x, x)) (option_to_list one)) ≡ option_to_list one
+one_value number None = refl
+one_value number (Some x) = refl
 
 -- a life of these connections and sessions
 abbrev pub life_of : List ConnectionState → List SessionState → Life

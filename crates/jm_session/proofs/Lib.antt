@@ -1,3 +1,4 @@
+mod Indexed
 mod Changed
 mod Counts
 mod Found

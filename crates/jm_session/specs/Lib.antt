@@ -1,3 +1,4 @@
+pub mod Clients
 pub mod Known
 pub mod Numbers
 pub mod Sends

@@ -1,8 +1,9 @@
 //! The connections and sessions of the provider, the consumers that were made in them, and how many
-//! sends of each session were stamped. Every look-up is by number, and costs the same however many
-//! there are.
+//! sends of each session were stamped. Every look-up is by number or by client, and costs the same
+//! however many there are; `Sessions::open` says when one by client does not.
 #![tactic(auto)]
 
+mod clients;
 mod closing;
 mod number;
 mod one;

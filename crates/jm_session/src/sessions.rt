@@ -1,21 +1,23 @@
 //! What was opened and made, by number.
 
-ghost use Rattle.std.specs.Prelude.{◌≡◌, ◌+◌, ◌<◌, ◌≤◌, ◌++◌, [], ◌∷◌, map, true, not, is_ok, is_some, option_to_list, IfOk, IfErr, OnOk, OnErr, Some, None, if◌then◌else◌};
+ghost use Rattle.std.specs.Prelude.{◌≡◌, ◌+◌, ◌<◌, ◌≤◌, ◌++◌, [], ◌∷◌, map, true, false, is_ok, is_some, option_to_list, IfOk, IfErr, OnOk, OnErr, None, if◌then◌else◌};
 ghost use Rattle.std.specs.Option.{option_copied};
 ghost use Rattle.jm_base.specs.declared.refusal.Refusal.TheVariants.{IllegalState};
 ghost use Rattle.jm_machine.specs.declared.call.Who.TheVariants.{Connection, Session};
 ghost use Rattle.jm_machine.specs.declared.call.Request.TheVariants.{Open, Start, Stop, CloseConnection, CreateSession, CloseSession};
 ghost use Rattle.jm_machine.specs.Life as life;
 ghost use Rattle.jm_machine.specs.Machine as machine;
-ghost use Rattle.jm_session.specs.Known.{cause, life_set, may_receive};
+ghost use Rattle.jm_session.specs.Known.{cause, life_set, may_receive, open_cause};
 
+use crate::clients::Clients;
 use crate::closing::{close_consumer, close_consumers, close_session, close_sessions};
 use crate::number::ConsumerNumber;
 use crate::one::{one_connection, one_consumer, one_session};
 use indexmap::IndexMap;
 use jm_base::{Mode, Refusal};
-use jm_dest::{ConnectionId, ConsumerId, Key, SessionId};
+use jm_dest::{ClientId, ConnectionId, ConsumerId, Key, SessionId};
 use jm_machine::{ConnectionState, Consumer, Consumers, SessionState};
+use jm_selector::Selector;
 use std::alloc::{AllocError, Global};
 use std::marker::Model;
 
@@ -24,14 +26,17 @@ use std::marker::Model;
 /// the consumers as its list, and `spare`, for how many more calls there is room.
 #[derive(Drop)]
 pub struct Sessions {
+    alloc: Global,
     connections: IndexMap<ConnectionId, ConnectionState>,
     sessions: IndexMap<SessionId, SessionState>,
     consumers: IndexMap<ConsumerNumber, Consumer>,
+    clients: Clients,
 }
 
 impl Model for Sessions {
-    ghost use Rattle.std.specs.Prelude.{min};
+    ghost use Rattle.std.specs.Prelude.{◌≡◌, min, true};
     ghost use Rattle.indexmap.specs.IndexMap.{spare, values};
+    ghost use Rattle.jm_session.specs.Clients.{AreClientsApart, IsIndexOf, room};
     ghost use Rattle.jm_session.specs.Known.{Known};
 
     ghost Value = { Known };
@@ -41,13 +46,15 @@ impl Model for Sessions {
     ghost view = { λ s. record {
       life = record { connections = values s.connections; sessions = values s.sessions };
       consumers = values s.consumers;
-      spare = min (spare s.connections) (min (spare s.sessions) (spare s.consumers));
+      spare = min (min (spare s.connections) (room s.clients)) (min (spare s.sessions) (spare s.consumers));
     } };
 
     ghost invariant = { λ s.
         IsNumbered (λ x. x.id) s.connections.entries
         × IsNumbered (λ x. x.id) s.sessions.entries
-        × IsNumbered number_of s.consumers.entries };
+        × IsNumbered number_of s.consumers.entries
+        × AreClientsApart (values s.connections)
+        × (s.clients.has_all ≡ true → IsIndexOf (values s.connections) s.clients) };
 }
 
 impl Sessions {
@@ -57,9 +64,11 @@ impl Sessions {
         ensures consumers { result.consumers ≡ [] }
     {
         Sessions {
+            alloc,
             connections: IndexMap::new(alloc),
             sessions: IndexMap::new(alloc),
             consumers: IndexMap::new(alloc),
+            clients: Clients::new(alloc),
         }
     }
 
@@ -77,10 +86,13 @@ impl Sessions {
         let connections = one_connection(alloc, connection)?;
         let sessions = one_session(alloc, session)?;
         let consumers = one_consumer(alloc, consumer)?;
+        let clients = Clients::of(alloc, connections.values().as_slice())?;
         Ok(Sessions {
+            alloc,
             connections,
             sessions,
             consumers,
+            clients,
         })
     }
 
@@ -90,9 +102,11 @@ impl Sessions {
         ensures { IfOk result (λ copy. copy ≡ record self.now { spare = copy.spare }) }
     {
         Ok(Sessions {
+            alloc: self.alloc,
             connections: self.connections.clone()?,
             sessions: self.sessions.clone()?,
             consumers: self.consumers.clone()?,
+            clients: Clients::of(self.alloc, self.connections())?,
         })
     }
 
@@ -119,10 +133,30 @@ impl Sessions {
 
     /// The connection of that number, where it was opened.
     #[tactic(auto, using(crate::proofs::Found::connection_found))]
-    pub fn connection_of(&self, id: ConnectionId) -> Option<ConnectionState>
-        ensures { result ≡ life.connection_of self.now.life.connections id }
+    pub fn connection_of(&self, id: ConnectionId) -> Option<&ConnectionState>
+        ensures { option_copied result ≡ life.connection_of self.now.life.connections id }
     {
-        self.connections.get(&id).copied()
+        self.connections.get(&id)
+    }
+
+    /// The client of the connection of that number, where it was opened and has one.
+    pub fn client_of(&self, id: ConnectionId) -> Option<&ClientId>
+        ensures { option_copied result ≡ life.client_of self.now.life id }
+    {
+        match self.connection_of(id) {
+            Some(connection) => connection.client.as_ref(),
+            None => None,
+        }
+    }
+
+    /// Whether an open connection has the client identifier, where there is one (Jakarta Messaging 3.1, section 6.1.2).
+    pub fn is_client_taken(&self, client: &Option<ClientId>) -> bool
+        ensures { result ≡ life.is_client_taken self.now.life client.now }
+    {
+        match client {
+            Some(client) => self.clients.include(client, self.connections()),
+            None => false,
+        }
     }
 
     /// Whether the connection of that number was opened.
@@ -249,8 +283,8 @@ impl Sessions {
         }
     }
 
-    /// Makes room, so that the next `n` calls take no memory. `AllocError` where a request for memory
-    /// was refused.
+    /// Makes room, so that the next `n` calls are not refused for memory, and a client is found by one look-up again
+    /// where it was not (`open`). `AllocError` where a request for memory was refused.
     pub fn reserve(&mut self, n: usize) -> Result<(), AllocError>
         ensures room { OnOk result (n ≤ self.new.spare) }
         ensures spare { self.old.spare ≤ self.new.spare }
@@ -259,31 +293,40 @@ impl Sessions {
     {
         self.connections.reserve(n)?;
         self.sessions.reserve(n)?;
-        self.consumers.reserve(n)
+        self.consumers.reserve(n)?;
+        let connections = self.connections.values().as_slice();
+        self.clients.reserve(self.alloc, connections, n)
     }
 
-    /// Opens the connection, stopped. `IllegalState` where the number was used; else `Memory` where a
-    /// request for memory was refused, which does not come where there is room.
-    #[tactic(auto, using(crate::proofs::Found::life_opened))]
-    pub fn open(&mut self, id: ConnectionId) -> Result<(), Refusal>
-        ensures ok { OnOk result (life.connection_of self.old.life.connections id ≡ None) }
-        ensures refused { IfErr result (λ refusal. refusal ≡ cause (not (is_some (life.connection_of self.old.life.connections id)))) }
-        ensures room { 0 < self.old.spare → life.connection_of self.old.life.connections id ≡ None → is_ok result ≡ true }
-        ensures life { self.new.life ≡ (if is_ok result then life.life_after self.old.life (Connection id) Open else self.old.life) }
+    /// Opens the connection, stopped, for the client, if any. `IllegalState` where the number was used; else
+    /// `InvalidClientId` where an open connection has the client (Jakarta Messaging 3.1, section 6.1.2); else `Memory`
+    /// where a request for memory was refused, which does not come where there is room. A refusal leaves all as it was.
+    /// The index takes a copy of the client: where memory for that is refused, the connection opens nevertheless, and
+    /// clients are found by a walk over the connections until `reserve` succeeds.
+    pub fn open(&mut self, id: ConnectionId, client: Option<ClientId>) -> Result<(), Refusal>
+        ensures unused { OnOk result (life.connection_of self.old.life.connections id ≡ None) }
+        ensures free { OnOk result (life.is_client_taken self.old.life client ≡ false) }
+        ensures refused { IfErr result (λ refusal. refusal ≡ open_cause (is_some (life.connection_of self.old.life.connections id)) (life.is_client_taken self.old.life client)) }
+        ensures room { 0 < self.old.spare → life.connection_of self.old.life.connections id ≡ None → life.is_client_taken self.old.life client ≡ false → is_ok result ≡ true }
+        ensures life { self.new.life ≡ (if is_ok result then life.life_after self.old.life (Connection id) (Open client) else self.old.life) }
         ensures consumers { self.new.consumers ≡ self.old.consumers }
         ensures spare { self.old.spare ≤ self.new.spare + 1 }
     {
         if self.is_used(id) {
             return Err(Refusal::IllegalState);
         }
+        if self.is_client_taken(&client) {
+            return Err(Refusal::InvalidClientId);
+        }
+        self.connections.reserve(1)?;
         let connection = ConnectionState {
             id,
+            client,
             is_started: false,
             is_open: true,
         };
-        let Ok(_) = self.connections.insert(id, connection) else {
-            return Err(Refusal::Memory);
-        };
+        self.clients.note(&connection);
+        let _ = self.connections.insert(id, connection);
         Ok(())
     }
 
@@ -344,6 +387,7 @@ impl Sessions {
             return Err(Refusal::IllegalState);
         };
         let connection = &mut self.connections[at];
+        self.clients.free(connection);
         connection.is_started = false;
         connection.is_open = false;
         close_sessions(&mut self.sessions, id);
@@ -396,16 +440,22 @@ impl Sessions {
         Ok(())
     }
 
-    /// Makes the session's consumer of that number, which receives from the key. `IllegalState` where it
-    /// may not be made; else `Memory` where a request for memory was refused, which does not come where
-    /// there is room.
-    pub fn consumer(&mut self, session: &SessionId, id: ConsumerId, key: Key) -> Result<(), Refusal>
+    /// Makes the session's consumer of that number, which receives from the key what the selector selects.
+    /// `IllegalState` where it may not be made; else `Memory` where a request for memory was refused, which
+    /// does not come where there is room.
+    pub fn consumer(
+        &mut self,
+        session: &SessionId,
+        id: ConsumerId,
+        key: Key,
+        selector: Selector,
+    ) -> Result<(), Refusal>
         ensures ok { OnOk result (machine.may_begin self.old.life self.old.consumers session.now id ≡ true) }
         ensures refused { IfErr result (λ refusal. refusal ≡ cause (machine.may_begin self.old.life self.old.consumers session.now id)) }
         ensures room { 0 < self.old.spare → machine.may_begin self.old.life self.old.consumers session.now id ≡ true → is_ok result ≡ true }
         ensures life { self.new.life ≡ self.old.life }
         ensures consumers { self.new.consumers ≡
-            (if is_ok result then self.old.consumers ++ machine.new_consumer session.now id key ∷ [] else self.old.consumers) }
+            (if is_ok result then self.old.consumers ++ machine.new_consumer session.now id key selector ∷ [] else self.old.consumers) }
         ensures spare { self.old.spare ≤ self.new.spare + 1 }
     {
         if !self.may_begin(session, id) {
@@ -419,6 +469,7 @@ impl Sessions {
             session: *session,
             id,
             key,
+            selector,
             is_active: true,
         };
         match self.consumers.insert(number, consumer) {

@@ -84,7 +84,7 @@ is_next_same t now rs r h p =
     λ i. ready i && others i
 
 -- what is next stays
-next_stays : (now : ℕ) (rs : List Row) (r : Row) → is_next now rs r ≡ true → stays now r ≡ true
+pub next_stays : (now : ℕ) (rs : List Row) (r : Row) → is_next now rs r ≡ true → stays now r ≡ true
 next_stays now rs r h = go (is_waiting r) (is_expired now r) (list_all (λ x. not (is_ready now x) || nat_le x.priority r.priority) rs) h
   where
     go : (w e b : Bool) → ((w && not e) && b) ≡ true → (not w || not e) ≡ true
@@ -147,24 +147,23 @@ first_placed t q test f g same (r ∷ rs) h =
 next_each : (t : Messages) (now : ℕ) (rs xs : List Row) → All (IsRowOf t) rs → All (IsRowOf t) xs → All (λ r. is_next now rs r ≡ machine.is_next now (live now (bare (all_placed t rs))) (row_at t r)) xs
 next_each t now rs xs h k = All-weaker (IsRowOf t) (λ r. is_next now rs r ≡ machine.is_next now (live now (bare (all_placed t rs))) (row_at t r)) (λ r p. is_next_same t now rs r h p) xs k
 
--- what a delivery leaves, of whatever rows it puts in place of the next one
-delivered_same : (t : Messages) (now : ℕ) (rs : List Row) (f : Row → List Row) (g : MachineRow → List MachineRow) → ((r : Row) → all_placed t (f r) ≡ map (λ x. record { place = r.place; row = x }) (g (row_at t r))) → All (IsRowOf t) rs → all_placed t (put_first (is_next now rs) f (filter (stays now) rs)) ≡ deliver_placed now g (all_placed t rs)
-delivered_same t now rs f g same own =
+-- what a delivery leaves, of whatever rows it puts in place of the one that it takes
+delivered_by : (t : Messages) (now : ℕ) (q : Row → Bool) (test : MachineRow → Bool) (rs : List Row) (f : Row → List Row) (g : MachineRow → List MachineRow) → ((r : Row) → all_placed t (f r) ≡ map (λ x. record { place = r.place; row = x }) (g (row_at t r))) → All (IsRowOf t) rs → All (λ r. q r ≡ test (row_at t r)) rs → all_placed t (put_first q f (filter (stays now) rs)) ≡ change_placed test g (live_placed now (all_placed t rs))
+delivered_by t now q test rs f g same own each =
     let ls = filter (stays now) rs in
-    let test = machine.is_next now (live now (bare (all_placed t rs))) in
-    first_placed t (is_next now rs) test f g same ls (next_each t now rs ls own (All-filter (stays now) (IsRowOf t) rs own)) ∙ ap (change_placed test g) (live_same t now rs own)
+    first_placed t q test f g same ls (All-filter (stays now) (λ r. q r ≡ test (row_at t r)) rs each) ∙ ap (change_placed test g) (live_same t now rs own)
 
--- the next row is among those that stay
-found_left : (now : ℕ) (rs : List Row) → find (is_next now rs) (filter (stays now) rs) ≡ next now rs
-found_left now rs = find_kept (is_next now rs) (stays now) (next_stays now rs) rs
+-- where that is settled
+pub settled_by : (t : Messages) (now : ℕ) (q : Row → Bool) (test : MachineRow → Bool) (rs : List Row) → ((r : Row) → q r ≡ true → stays now r ≡ true) → All (IsRowOf t) rs → All (λ r. q r ≡ test (row_at t r)) rs → IsRising rs → all_placed t (filter (is_left (find q rs)) (filter (stays now) rs)) ≡ change_placed test gone (live_placed now (all_placed t rs))
+settled_by t now q test rs stay own each rising =
+    let ls = filter (stays now) rs in
+    let left : filter (is_left (find q rs)) ls ≡ put_first q no_row ls = ap (λ o. filter (is_left o) ls) (sym (find_kept q (stays now) stay rs)) ∙ left_first q ls (rising-filter (stays now) rs rising) in
+    ap (all_placed t) left ∙ delivered_by t now q test rs no_row gone (λ r. refl) own each
 
--- where it is settled
 pub settled_same : (t : Messages) (now : ℕ) (h : Held) → All (IsRowOf t) h.rows → IsRising h.rows → all_placed t (settled now h).rows ≡ deliver_placed now gone (all_placed t h.rows)
 settled_same t now h own rising =
     let rs = h.rows in
-    let ls = filter (stays now) rs in
-    let left : filter (is_left (next now rs)) ls ≡ put_first (is_next now rs) no_row ls = ap (λ o. filter (is_left o) ls) (sym (found_left now rs)) ∙ left_first (is_next now rs) ls (rising-filter (stays now) rs rising) in
-    ap (all_placed t) left ∙ delivered_same t now rs no_row gone (λ r. refl) own
+    settled_by t now (is_next now rs) (machine.is_next now (live now (bare (all_placed t rs)))) rs (next_stays now rs) own (next_each t now rs rs own own) rising
 
 -- where it goes out
 sent_first : (q : Row → Bool) (s : SessionId) (c : ℕ) (rs : List Row) → IsRising rs → map (sent_if (find q rs) s c) rs ≡ put_first q (sent_row s c) rs
@@ -182,12 +181,16 @@ sent_first q s c (r ∷ rs) h = go (q r) (find q rs) (sent_first q s c rs h.1) (
         let here = sent_elsewhere s c r y.place ne in
         λ i. here i ∷ rest i
 
+pub sent_by : (t : Messages) (s : SessionId) (c now : ℕ) (q : Row → Bool) (test : MachineRow → Bool) (rs : List Row) → ((r : Row) → q r ≡ true → stays now r ≡ true) → All (IsRowOf t) rs → All (λ r. q r ≡ test (row_at t r)) rs → IsRising rs → all_placed t (map (sent_if (find q rs) s c) (filter (stays now) rs)) ≡ change_placed test (out_row s c) (live_placed now (all_placed t rs))
+sent_by t s c now q test rs stay own each rising =
+    let ls = filter (stays now) rs in
+    let left : map (sent_if (find q rs) s c) ls ≡ put_first q (sent_row s c) ls = ap (λ o. map (sent_if o s c) ls) (sym (find_kept q (stays now) stay rs)) ∙ sent_first q s c ls (rising-filter (stays now) rs rising) in
+    ap (all_placed t) left ∙ delivered_by t now q test rs (sent_row s c) (out_row s c) (λ r. refl) own each
+
 pub sent_same : (t : Messages) (s : SessionId) (c now : ℕ) (h : Held) → All (IsRowOf t) h.rows → IsRising h.rows → all_placed t (sent_off s c now h).rows ≡ deliver_placed now (out_row s c) (all_placed t h.rows)
 sent_same t s c now h own rising =
     let rs = h.rows in
-    let ls = filter (stays now) rs in
-    let left : map (sent_if (next now rs) s c) ls ≡ put_first (is_next now rs) (sent_row s c) ls = ap (λ o. map (sent_if o s c) ls) (sym (found_left now rs)) ∙ sent_first (is_next now rs) s c ls (rising-filter (stays now) rs rising) in
-    ap (all_placed t) left ∙ delivered_same t now rs (sent_row s c) (out_row s c) (λ r. refl) own
+    sent_by t s c now (is_next now rs) (machine.is_next now (live now (bare (all_placed t rs)))) rs (next_stays now rs) own (next_each t now rs rs own own) rising
 
 find_placed : (t : Messages) (q : Row → Bool) (test : MachineRow → Bool) (rs : List Row) → All (λ r. q r ≡ test (row_at t r)) rs → find (λ (x : PlacedRow). test x.row) (all_placed t rs) ≡ option_map (placed t) (find q rs)
 find_placed t q test [] h = refl
@@ -198,13 +201,16 @@ find_placed t q test (r ∷ rs) h =
     go true e rest = rw (← e) refl
     go false e rest = rw (← e) rest
 
--- the next row, as callers see it
-pub next_same : (t : Messages) (now : ℕ) (rs : List Row) → All (IsRowOf t) rs → find (λ (x : PlacedRow). machine.is_next now (live now (bare (all_placed t rs))) x.row) (live_placed now (all_placed t rs)) ≡ option_map (placed t) (next now rs)
-next_same t now rs plain =
+-- the row that is taken, as callers see it
+pub found_by : (t : Messages) (now : ℕ) (q : Row → Bool) (test : MachineRow → Bool) (rs : List Row) → ((r : Row) → q r ≡ true → stays now r ≡ true) → All (IsRowOf t) rs → All (λ r. q r ≡ test (row_at t r)) rs → find (λ (x : PlacedRow). test x.row) (live_placed now (all_placed t rs)) ≡ option_map (placed t) (find q rs)
+found_by t now q test rs stay own each =
     let ls = filter (stays now) rs in
-    ap (find (λ (x : PlacedRow). machine.is_next now (live now (bare (all_placed t rs))) x.row)) (sym (live_same t now rs plain))
-    ∙ find_placed t (is_next now rs) (machine.is_next now (live now (bare (all_placed t rs)))) ls (next_each t now rs ls plain (All-filter (stays now) (IsRowOf t) rs plain))
-    ∙ ap (option_map (placed t)) (find_kept (is_next now rs) (stays now) (next_stays now rs) rs)
+    ap (find (λ (x : PlacedRow). test x.row)) (sym (live_same t now rs own))
+    ∙ find_placed t q test ls (All-filter (stays now) (λ r. q r ≡ test (row_at t r)) rs each)
+    ∙ ap (option_map (placed t)) (find_kept q (stays now) stay rs)
+
+pub next_same : (t : Messages) (now : ℕ) (rs : List Row) → All (IsRowOf t) rs → find (λ (x : PlacedRow). machine.is_next now (live now (bare (all_placed t rs))) x.row) (live_placed now (all_placed t rs)) ≡ option_map (placed t) (next now rs)
+next_same t now rs own = found_by t now (is_next now rs) (machine.is_next now (live now (bare (all_placed t rs)))) rs (next_stays now rs) own (next_each t now rs rs own own)
 
 -- the same without the place
 bare_live : (now : ℕ) (ps : List PlacedRow) → bare (live_placed now ps) ≡ live now (bare ps)
@@ -232,23 +238,17 @@ abbrev pub held_with : Held → List Row → Held
 held_with h rows = record h { rows = rows }
 
 -- what a list of rows says of a delivery, in one equation
-pub taken_settled : (t : Messages) (now : ℕ) (h h' : Held) (res : Option Taken) → MatchOption (next now h.rows) ((res ≡ None) × (h' ≡ record h { rows = filter (stays now) h.rows })) (λ r. (res ≡ Some (record { row = counted r; message = last_message t r.place })) × (h' ≡ record h { rows = filter (is_elsewhere r.place) (filter (stays now) h.rows) }))
-    → (res ≡ taken t (next now h.rows)) × (h' ≡ settled now h)
-taken_settled t now h h' res m = go (next now h.rows) m
-  where
-    go : (o : Option Row) → MatchOption o ((res ≡ None) × (h' ≡ record h { rows = filter (stays now) h.rows })) (λ r. (res ≡ Some (record { row = counted r; message = last_message t r.place })) × (h' ≡ record h { rows = filter (is_elsewhere r.place) (filter (stays now) h.rows) })) → (res ≡ taken t o) × (h' ≡ record h { rows = filter (is_left o) (filter (stays now) h.rows) })
-    go None m = (m.0, m.1 ∙ ap (held_with h) (sym (left_all (filter (stays now) h.rows))))
-    go (Some r) m = (m.0, m.1)
+pub taken_settled : (t : Messages) (now : ℕ) (o : Option Row) (h h' : Held) (res : Option Taken) → MatchOption o ((res ≡ None) × (h' ≡ record h { rows = filter (stays now) h.rows })) (λ r. (res ≡ Some (record { row = counted r; message = last_message t r.place })) × (h' ≡ record h { rows = filter (is_elsewhere r.place) (filter (stays now) h.rows) }))
+    → (res ≡ taken t o) × (h' ≡ record h { rows = filter (is_left o) (filter (stays now) h.rows) })
+taken_settled t now None h h' res m = (m.0, m.1 ∙ ap (held_with h) (sym (left_all (filter (stays now) h.rows))))
+taken_settled t now (Some r) h h' res m = (m.0, m.1)
 
 left_same : (s : SessionId) (c : ℕ) (rs : List Row) → map (sent_if None s c) rs ≡ rs
 left_same s c [] = refl
 left_same s c (r ∷ rs) = ap (λ xs. r ∷ xs) (left_same s c rs)
 
 -- the same of a row that goes out
-pub taken_sent : (s : SessionId) (c now : ℕ) (h h' : Held) (res : Option Row) → MatchOption (next now h.rows) ((res ≡ None) × (h' ≡ record h { rows = filter (stays now) h.rows })) (λ r. (res ≡ Some (sent s c r)) × (h' ≡ record h { rows = map (sent_at r.place s c) (filter (stays now) h.rows) }))
-    → (res ≡ option_map (sent s c) (next now h.rows)) × (h' ≡ sent_off s c now h)
-taken_sent s c now h h' res m = go (next now h.rows) m
-  where
-    go : (o : Option Row) → MatchOption o ((res ≡ None) × (h' ≡ record h { rows = filter (stays now) h.rows })) (λ r. (res ≡ Some (sent s c r)) × (h' ≡ record h { rows = map (sent_at r.place s c) (filter (stays now) h.rows) })) → (res ≡ option_map (sent s c) o) × (h' ≡ record h { rows = map (sent_if o s c) (filter (stays now) h.rows) })
-    go None m = (m.0, m.1 ∙ ap (held_with h) (sym (left_same s c (filter (stays now) h.rows))))
-    go (Some r) m = (m.0, m.1)
+pub taken_sent : (s : SessionId) (c now : ℕ) (o : Option Row) (h h' : Held) (res : Option Row) → MatchOption o ((res ≡ None) × (h' ≡ record h { rows = filter (stays now) h.rows })) (λ r. (res ≡ Some (sent s c r)) × (h' ≡ record h { rows = map (sent_at r.place s c) (filter (stays now) h.rows) }))
+    → (res ≡ option_map (sent s c) o) × (h' ≡ record h { rows = map (sent_if o s c) (filter (stays now) h.rows) })
+taken_sent s c now None h h' res m = (m.0, m.1 ∙ ap (held_with h) (sym (left_same s c (filter (stays now) h.rows))))
+taken_sent s c now (Some r) h h' res m = (m.0, m.1)

@@ -1,6 +1,7 @@
 mod Holders
 mod Offers
 mod Delivery
+mod Choosing
 mod Shown
 mod Publishing
 mod Receiving

@@ -1,9 +1,8 @@
 -- A delivery from one of many lists, and what is handed out.
-use Rattle.std.proofs.Common.{◌≡◌, ℕ, ◌<◌, ◌==◌, List, [], ◌∷◌, length, get_or, Bool, true, false, cond, Option, Some, None, refl, ap, sym, subst, ◌∙◌, arith, option_map, nat_eq}
-use Rattle.std.specs.List.{All}
+use Rattle.std.proofs.Common.{◌≡◌, ℕ, ◌<◌, ◌==◌, List, [], ◌∷◌, length, get_or, Bool, true, false, cond, Option, Some, None, refl, ap, sym, ◌∙◌, arith, option_map, nat_eq}
 use Rattle.std.specs.Option.{IfSome}
 use Rattle.std.specs.Map.{lookup}
-use Rattle.std.proofs.lemmas.List.{length-map, get_or_default}
+use Rattle.std.proofs.lemmas.List.{length-map}
 use Rattle.std.proofs.lemmas.List.Sums.{sum_by-cons}
 use Rattle.jm_dest.specs.declared.session.SessionId.{SessionId}
 use Rattle.jm_header.specs.declared.content.Content.{Content}
@@ -14,15 +13,17 @@ use Rattle.jm_pending.specs.declared.row.Row.{Row}
 use Rattle.jm_pending.specs.declared.table.Stored.{Stored}
 use Rattle.jm_pending.specs.declared.held.Taken.{Taken}
 use Rattle.jm_pending.specs.Rows.{Held, IsRising, next, is_next, counted, sent}
+use Rattle.jm_pending.specs.Chosen.{next_where}
 use Rattle.jm_pending.specs.Holders.{Messages, Follows, Covers, holders_of, holders_in, message_of, message_in, last_message, rows_at}
 use Rattle.jm_pending.specs.Placed.{placed, all_placed, content_of, message_or_none}
 use Rattle.jm_pending.specs.Counts.{all_at, IsCounted}
-use Rattle.jm_pending.proofs.Holding.{row_first, holder_there}
+use Rattle.jm_pending.proofs.Holding.{row_first}
 use Rattle.jm_pending.proofs.Places.{find_has}
-use Rattle.jm_stations.specs.Backlogs.{Backlog, changed_at, placed_at, holders_at, kept_message, copy_wanted, handed_out, handed_over, handed_copy}
+use Rattle.jm_stations.specs.Backlogs.{Backlog, changed_at, placed_at, holders_at, kept_message, copy_wanted, copy_wanted_where, handed_out, handed_over, handed_copy}
 use Rattle.jm_stations.specs.Kept.{all_rows, shown, all_shown, taken, IsKept}
 use Rattle.jm_stations.proofs.Holders.{counted_one, covers_one}
 use Rattle.jm_stations.proofs.Delivery.{next_same, next_row_same}
+use Rattle.jm_stations.proofs.Choosing.{all_held, next_where_same, row_where_same, where_held}
 use Rattle.jm_stations.proofs.Shown.{all_covered, all_backlogs_kept, all_shown_kept, changed_shown, changed_backlogs, changed_is_set, Keeps, Shows}
 
 -- what is held after a change of one list
@@ -37,7 +38,7 @@ pub changed_seen : (t t' : Messages) (place k : ℕ) (f : Held → Held) (g : Ba
 changed_seen t t' place k f g step same d lists l w rising follows =
     let after = changed_at k f lists in
     let counted : IsCounted t' (all_rows after) = (changed_kept t t' place k f step d lists l w follows).counted in
-    all_shown_kept t t' after follows.messages (all_covered t' after counted) ∙ changed_shown t place k f g same d lists l rising w.each
+    all_shown_kept t t' after follows.messages (all_covered t' after counted) ∙ changed_shown t place k f g same d lists l (covers_one t lists k d l w.counted) rising w.each
 
 -- rows at a place are as many as callers see
 placed_count : (t : Messages) (p : ℕ) (rows : List Row) → placed_at p (all_placed t rows) ≡ rows_at p rows
@@ -55,10 +56,8 @@ has_message None h = absurd (omega (arith, h))
 has_message (Some s) h = refl
 
 -- the next row has a holder
-pub next_held : (t : Messages) (now : ℕ) (rows : List Row) (r : Row) → Covers t rows → next now rows ≡ Some r → 0 < holders_of t r.place
-next_held t now rows r c e =
-    let all : All (λ (x : Row). 0 < holders_of t x.place) rows = λ k d l. holder_there t rows k (get_or rows k d) c l (get_or_default rows k d (get_or rows k d) l) in
-    subst (λ o. IfSome o (λ (x : Row). 0 < holders_of t x.place)) e (find_has (λ (x : Row). 0 < holders_of t x.place) (is_next now rows) rows all)
+pub next_held : (t : Messages) (now : ℕ) (rows : List Row) → Covers t rows → IfSome (next now rows) (λ (x : Row). 0 < holders_of t x.place)
+next_held t now rows c = find_has (λ (x : Row). 0 < holders_of t x.place) (is_next now rows) rows (all_held t rows c)
 
 -- a row that is taken
 abbrev pub taken_of : Messages → Row → Taken
@@ -76,32 +75,47 @@ handed_row t r copy n there is e =
     go false o m f = rw f refl
 
 -- what is answered, from what is taken
+told_taken : (t : Messages) (place : ℕ) (lists : List Held) (o : Option Row) (copy : Option Content) → IsKept t lists place → IfSome o (λ (x : Row). 0 < holders_of t x.place) → copy ≡ kept_message true (all_shown t lists) (option_map (placed t) o) → handed_over (taken t o) copy ≡ delivery (option_map (λ (x : PlacedRow). x.row) (option_map (placed t) o))
+told_taken t place lists None copy w there c = refl
+told_taken t place lists (Some r) copy w there c =
+    let number : holders_at r.place (all_shown t lists) ≡ holders_of t r.place = shown_count t r.place lists ∙ sym (w.counted.each r.place) in
+    handed_row t r copy (holders_at r.place (all_shown t lists)) there number c
+
 pub told_all : (t : Messages) (place now k : ℕ) (d : Held) (lists : List Held) (out : Option Taken) (copy : Option Content) → k < length lists → IsKept t lists place → out ≡ taken t (next now (get_or lists k d).rows) → copy ≡ copy_wanted true now (all_shown t lists) (all_placed t (get_or lists k d).rows)
     → handed_over out copy ≡ delivery (machine.next now (machine.live now (machine.bare (all_placed t (get_or lists k d).rows))))
 told_all t place now k d lists out copy l w e copied =
     let rows = (get_or lists k d).rows in
     let all = (w.each k d l).own.each in
-    ap (λ o. handed_over o copy) e ∙ go (next now rows) refl (copied ∙ ap (kept_message true (all_shown t lists)) (next_same t now rows all)) ∙ ap delivery (sym (next_row_same t now rows all))
-  where
-    go : (o : Option Row) → next now (get_or lists k d).rows ≡ o → copy ≡ kept_message true (all_shown t lists) (option_map (placed t) o) → handed_over (taken t o) copy ≡ delivery (option_map (λ (x : PlacedRow). x.row) (option_map (placed t) o))
-    go None q c = refl
-    go (Some r) q c =
-        let covers = covers_one t lists k d l w.counted in
-        let there = next_held t now (get_or lists k d).rows r covers q in
-        let number : holders_at r.place (all_shown t lists) ≡ holders_of t r.place = shown_count t r.place lists ∙ sym (w.counted.each r.place) in
-        handed_row t r copy (holders_at r.place (all_shown t lists)) there number c
+    let covers = covers_one t lists k d l w.counted in
+    ap (λ o. handed_over o copy) e ∙ told_taken t place lists (next now rows) copy w (next_held t now rows covers) (copied ∙ ap (kept_message true (all_shown t lists)) (next_same t now rows all)) ∙ ap delivery (sym (next_row_same t now rows all))
+
+pub told_where : (p : Content → Bool) (t : Messages) (place now k : ℕ) (d : Held) (lists : List Held) (out : Option Taken) (copy : Option Content) → k < length lists → IsKept t lists place → out ≡ taken t (next_where p t now (get_or lists k d).rows) → copy ≡ copy_wanted_where p true now (all_shown t lists) (all_placed t (get_or lists k d).rows)
+    → handed_over out copy ≡ delivery (machine.next now (machine.live now (machine.chosen p (machine.bare (all_placed t (get_or lists k d).rows)))))
+told_where p t place now k d lists out copy l w e copied =
+    let rows = (get_or lists k d).rows in
+    let all = (w.each k d l).own.each in
+    let covers = covers_one t lists k d l w.counted in
+    ap (λ o. handed_over o copy) e ∙ told_taken t place lists (next_where p t now rows) copy w (where_held p t now rows covers) (copied ∙ ap (kept_message true (all_shown t lists)) (next_where_same p t now rows covers all)) ∙ ap delivery (sym (row_where_same p t now rows covers all))
 
 -- the same of a row that goes out, of which the copy is handed out
+told_out : (t : Messages) (s : SessionId) (c : ℕ) (lists : List Held) (o : Option Row) (copy : Option Content) → copy ≡ kept_message false (all_shown t lists) (option_map (placed t) o) → handed_copy (option_map (sent s c) o) copy ≡ delivery (option_map (λ (x : PlacedRow). x.row) (option_map (placed t) o))
+told_out t s c lists None copy q = refl
+told_out t s c lists (Some r) copy q = rw q refl
+
 pub told_sent : (t : Messages) (place : ℕ) (s : SessionId) (c now k : ℕ) (d : Held) (lists : List Held) (out : Option Row) (copy : Option Content) → k < length lists → IsKept t lists place → out ≡ option_map (sent s c) (next now (get_or lists k d).rows) → copy ≡ copy_wanted false now (all_shown t lists) (all_placed t (get_or lists k d).rows)
     → handed_copy out copy ≡ delivery (machine.next now (machine.live now (machine.bare (all_placed t (get_or lists k d).rows))))
 told_sent t place s c now k d lists out copy l w e copied =
     let rows = (get_or lists k d).rows in
     let all = (w.each k d l).own.each in
-    ap (λ o. handed_copy o copy) e ∙ go (next now rows) (copied ∙ ap (kept_message false (all_shown t lists)) (next_same t now rows all)) ∙ ap delivery (sym (next_row_same t now rows all))
-  where
-    go : (o : Option Row) → copy ≡ kept_message false (all_shown t lists) (option_map (placed t) o) → handed_copy (option_map (sent s c) o) copy ≡ delivery (option_map (λ (x : PlacedRow). x.row) (option_map (placed t) o))
-    go None q = refl
-    go (Some r) q = rw q refl
+    ap (λ o. handed_copy o copy) e ∙ told_out t s c lists (next now rows) copy (copied ∙ ap (kept_message false (all_shown t lists)) (next_same t now rows all)) ∙ ap delivery (sym (next_row_same t now rows all))
+
+pub told_sent_where : (p : Content → Bool) (t : Messages) (place : ℕ) (s : SessionId) (c now k : ℕ) (d : Held) (lists : List Held) (out : Option Row) (copy : Option Content) → k < length lists → IsKept t lists place → out ≡ option_map (sent s c) (next_where p t now (get_or lists k d).rows) → copy ≡ copy_wanted_where p false now (all_shown t lists) (all_placed t (get_or lists k d).rows)
+    → handed_copy out copy ≡ delivery (machine.next now (machine.live now (machine.chosen p (machine.bare (all_placed t (get_or lists k d).rows)))))
+told_sent_where p t place s c now k d lists out copy l w e copied =
+    let rows = (get_or lists k d).rows in
+    let all = (w.each k d l).own.each in
+    let covers = covers_one t lists k d l w.counted in
+    ap (λ o. handed_copy o copy) e ∙ told_out t s c lists (next_where p t now rows) copy (copied ∙ ap (kept_message false (all_shown t lists)) (next_where_same p t now rows covers all)) ∙ ap delivery (sym (row_where_same p t now rows covers all))
 
 -- a list without rows
 abbrev pub no_rows : Held

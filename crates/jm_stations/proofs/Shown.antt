@@ -10,14 +10,16 @@ use Rattle.jm_machine.specs.declared.state.RowState.{RowState}
 use Rattle.jm_machine.specs.declared.state.PlacedRow.{PlacedRow}
 use Rattle.jm_pending.specs.declared.row.Row.{Row}
 use Rattle.jm_pending.specs.Rows.{Held, IsRising, is_at_limit, row_of, stays, next, sent}
+use Rattle.jm_pending.specs.Chosen.{next_where}
 use Rattle.jm_pending.specs.Holders.{Messages, KeepsMessages, Covers, message_of}
 use Rattle.jm_pending.specs.Placed.{placed, all_placed, message_or_none, IsRowOf}
 use Rattle.jm_pending.specs.Counts.{IsCounted}
 use Rattle.jm_pending.proofs.Counting.{placed_same, rows_same}
-use Rattle.jm_stations.specs.Backlogs.{Backlog, is_named, joined, changed_at, received, delivered}
-use Rattle.jm_stations.specs.Kept.{all_rows, shown, all_shown, with_row, settled, is_left, sent_if, sent_off, AreBelow, IsBacklog, IsOffered}
+use Rattle.jm_stations.specs.Backlogs.{Backlog, is_named, joined, changed_at, received, received_where, delivered, delivered_where}
+use Rattle.jm_stations.specs.Kept.{all_rows, shown, all_shown, with_row, settled, settled_where, is_left, sent_if, sent_off, sent_off_where, AreBelow, IsBacklog, IsOffered}
 use Rattle.jm_stations.proofs.Holders.{covers_one}
 use Rattle.jm_stations.proofs.Delivery.{settled_same, sent_same}
+use Rattle.jm_stations.proofs.Choosing.{settled_where_same, sent_where_same}
 
 -- a list of rows with these rows, as callers see it
 abbrev pub backlog_of : Held → List PlacedRow → Backlog
@@ -69,16 +71,16 @@ mapped_backlog t place f like h b = record {
 }
 
 -- a delivery from one list that settles at once
-pub settled_shown : (t : Messages) (place now : ℕ) (h : Held) → IsBacklog t place h → IsRising h.rows → shown t (settled now h) ≡ received now (shown t h)
-settled_shown t place now h b rising = ap (backlog_of h) (settled_same t now h b.own.each rising)
+pub settled_shown : (t : Messages) (place now : ℕ) (h : Held) → Covers t h.rows → IsBacklog t place h → IsRising h.rows → shown t (settled now h) ≡ received now (shown t h)
+settled_shown t place now h covers b rising = ap (backlog_of h) (settled_same t now h b.own.each rising)
 
 pub settled_backlog : (t : Messages) (place now : ℕ) (h : Held) → IsBacklog t place h → IsBacklog t place (settled now h)
 settled_backlog t place now h b =
     filtered_backlog t place (is_left (next now h.rows)) (record h { rows = filter (stays now) h.rows }) (filtered_backlog t place (stays now) h b)
 
 -- one after which the row is out
-pub sent_shown : (t : Messages) (place : ℕ) (s : SessionId) (c now : ℕ) (h : Held) → IsBacklog t place h → IsRising h.rows → shown t (sent_off s c now h) ≡ delivered s c now (shown t h)
-sent_shown t place s c now h b rising = ap (backlog_of h) (sent_same t s c now h b.own.each rising)
+pub sent_shown : (t : Messages) (place : ℕ) (s : SessionId) (c now : ℕ) (h : Held) → Covers t h.rows → IsBacklog t place h → IsRising h.rows → shown t (sent_off s c now h) ≡ delivered s c now (shown t h)
+sent_shown t place s c now h covers b rising = ap (backlog_of h) (sent_same t s c now h b.own.each rising)
 
 sent_like : (o : Option Row) (s : SessionId) (c : ℕ) (r : Row) → IsLike r (sent_if o s c r)
 sent_like None s c r = record { place = refl; priority = refl; expiration = refl }
@@ -92,19 +94,34 @@ pub sent_backlog : (t : Messages) (place : ℕ) (s : SessionId) (c now : ℕ) (h
 sent_backlog t place s c now h b =
     mapped_backlog t place (sent_if (next now h.rows) s c) (sent_like (next now h.rows) s c) (record h { rows = filter (stays now) h.rows }) (filtered_backlog t place (stays now) h b)
 
+-- the same of a delivery from those of its rows whose messages pass
+pub settled_where_shown : (p : Content → Bool) (t : Messages) (place now : ℕ) (h : Held) → Covers t h.rows → IsBacklog t place h → IsRising h.rows → shown t (settled_where p t now h) ≡ received_where p now (shown t h)
+settled_where_shown p t place now h covers b rising = ap (backlog_of h) (settled_where_same p t now h covers b.own.each rising)
+
+pub settled_where_backlog : (p : Content → Bool) (t : Messages) (place now : ℕ) (h : Held) → IsBacklog t place h → IsBacklog t place (settled_where p t now h)
+settled_where_backlog p t place now h b =
+    filtered_backlog t place (is_left (next_where p t now h.rows)) (record h { rows = filter (stays now) h.rows }) (filtered_backlog t place (stays now) h b)
+
+pub sent_where_shown : (p : Content → Bool) (t : Messages) (place : ℕ) (s : SessionId) (c now : ℕ) (h : Held) → Covers t h.rows → IsBacklog t place h → IsRising h.rows → shown t (sent_off_where p t s c now h) ≡ delivered_where p s c now (shown t h)
+sent_where_shown p t place s c now h covers b rising = ap (backlog_of h) (sent_where_same p t s c now h covers b.own.each rising)
+
+pub sent_where_backlog : (p : Content → Bool) (t : Messages) (place : ℕ) (s : SessionId) (c now : ℕ) (h : Held) → IsBacklog t place h → IsBacklog t place (sent_off_where p t s c now h)
+sent_where_backlog p t place s c now h b =
+    mapped_backlog t place (sent_if (next_where p t now h.rows) s c) (sent_like (next_where p t now h.rows) s c) (record h { rows = filter (stays now) h.rows }) (filtered_backlog t place (stays now) h b)
+
 -- what a list keeps through a change
 abbrev pub Keeps : Messages → ℕ → (Held → Held) → Type 0
 Keeps t place f = (h : Held) → IsBacklog t place h → IsBacklog t place (f h)
 
 -- and what callers see of it
 abbrev pub Shows : Messages → ℕ → (Held → Held) → (Backlog → Backlog) → Type 0
-Shows t place f g = (h : Held) → IsBacklog t place h → IsRising h.rows → shown t (f h) ≡ g (shown t h)
+Shows t place f g = (h : Held) → Covers t h.rows → IsBacklog t place h → IsRising h.rows → shown t (f h) ≡ g (shown t h)
 
 -- one of many
-pub changed_shown : (t : Messages) (place k : ℕ) (f : Held → Held) (g : Backlog → Backlog) → Shows t place f g → (d : Held) (lists : List Held) → k < length lists → IsRising (get_or lists k d).rows → All (IsBacklog t place) lists → all_shown t (changed_at k f lists) ≡ changed_at k g (all_shown t lists)
-changed_shown t place k f g same d [] l r b = refl
-changed_shown t place zero f g same d (h ∷ lists) l r b = ap (λ x. x ∷ all_shown t lists) (same h (All-head (IsBacklog t place) h lists b) r)
-changed_shown t place (suc k) f g same d (h ∷ lists) l r b = ap (λ xs. shown t h ∷ xs) (changed_shown t place k f g same d lists (omega arith) r (All-tail (IsBacklog t place) h lists b))
+pub changed_shown : (t : Messages) (place k : ℕ) (f : Held → Held) (g : Backlog → Backlog) → Shows t place f g → (d : Held) (lists : List Held) → k < length lists → Covers t (get_or lists k d).rows → IsRising (get_or lists k d).rows → All (IsBacklog t place) lists → all_shown t (changed_at k f lists) ≡ changed_at k g (all_shown t lists)
+changed_shown t place k f g same d [] l c r b = refl
+changed_shown t place zero f g same d (h ∷ lists) l c r b = ap (λ x. x ∷ all_shown t lists) (same h c (All-head (IsBacklog t place) h lists b) r)
+changed_shown t place (suc k) f g same d (h ∷ lists) l c r b = ap (λ xs. shown t h ∷ xs) (changed_shown t place k f g same d lists (omega arith) c r (All-tail (IsBacklog t place) h lists b))
 
 pub changed_backlogs : (t : Messages) (place k : ℕ) (f : Held → Held) → Keeps t place f → (lists : List Held) → All (IsBacklog t place) lists → All (IsBacklog t place) (changed_at k f lists)
 changed_backlogs t place k f step [] b = All-nil (IsBacklog t place)

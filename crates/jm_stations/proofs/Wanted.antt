@@ -1,27 +1,37 @@
 -- The copy that a delivery wants.
 use Rattle.std.proofs.Common.{◌≡◌, ℕ, ◌<◌, List, length, get_or, Option, Some, None, Bool, refl, ap, sym, ◌∙◌, option_map, nat_eq}
 use Rattle.std.specs.Map.{lookup}
+use Rattle.std.specs.Option.{IfSome}
+use Rattle.jm_header.specs.declared.content.Content.{Content}
 use Rattle.jm_pending.specs.declared.row.Row.{Row}
 use Rattle.jm_pending.specs.Rows.{Held, next}
+use Rattle.jm_pending.specs.Chosen.{next_where}
 use Rattle.jm_pending.specs.Holders.{Messages, holders_of, message_of}
 use Rattle.jm_pending.specs.Placed.{placed, all_placed, content_of}
-use Rattle.jm_stations.specs.Backlogs.{holders_at, kept_message, copy_wanted}
+use Rattle.jm_stations.specs.Backlogs.{holders_at, kept_message, copy_wanted, copy_wanted_where}
 use Rattle.jm_stations.specs.Kept.{all_shown, copied, IsKept}
 use Rattle.jm_stations.proofs.Holders.{covers_one}
+use Rattle.jm_stations.proofs.Choosing.{next_where_same, where_held}
 use Rattle.jm_stations.proofs.Delivery.{next_same}
 use Rattle.jm_stations.proofs.Receiving.{shown_count, next_held, has_message}
 
--- the table says which copy is wanted
+-- the table says which copy is wanted of a row that has a holder
+kept_row : (settles : Bool) (t : Messages) (place : ℕ) (lists : List Held) (o : Option Row) → IsKept t lists place → IfSome o (λ (x : Row). 0 < holders_of t x.place) → copied settles t o ≡ kept_message settles (all_shown t lists) (option_map (placed t) o)
+kept_row settles t place lists None w there = refl
+kept_row settles t place lists (Some r) w there =
+    let number : holders_at r.place (all_shown t lists) ≡ holders_of t r.place = shown_count t r.place lists ∙ sym (w.counted.each r.place) in
+    let message : message_of t r.place ≡ Some (content_of t r) = has_message (lookup (nat_eq r.place) t.entries) there in
+    rw (number, message) refl
+
+-- of the next row
 pub copied_is : (settles : Bool) (t : Messages) (place now k : ℕ) (d : Held) (lists : List Held) → k < length lists → IsKept t lists place → copied settles t (next now (get_or lists k d).rows) ≡ copy_wanted settles now (all_shown t lists) (all_placed t (get_or lists k d).rows)
 copied_is settles t place now k d lists l w =
     let rows = (get_or lists k d).rows in
-    let all = (w.each k d l).own.each in
-    go (next now rows) refl ∙ ap (kept_message settles (all_shown t lists)) (sym (next_same t now rows all))
-  where
-    go : (o : Option Row) → next now (get_or lists k d).rows ≡ o → copied settles t o ≡ kept_message settles (all_shown t lists) (option_map (placed t) o)
-    go None q = refl
-    go (Some r) q =
-        let there = next_held t now (get_or lists k d).rows r (covers_one t lists k d l w.counted) q in
-        let number : holders_at r.place (all_shown t lists) ≡ holders_of t r.place = shown_count t r.place lists ∙ sym (w.counted.each r.place) in
-        let message : message_of t r.place ≡ Some (content_of t r) = has_message (lookup (nat_eq r.place) t.entries) there in
-        rw (number, message) refl
+    kept_row settles t place lists (next now rows) w (next_held t now rows (covers_one t lists k d l w.counted)) ∙ ap (kept_message settles (all_shown t lists)) (sym (next_same t now rows (w.each k d l).own.each))
+
+-- and of the next one of those whose messages pass
+pub copied_where_is : (p : Content → Bool) (settles : Bool) (t : Messages) (place now k : ℕ) (d : Held) (lists : List Held) → k < length lists → IsKept t lists place → copied settles t (next_where p t now (get_or lists k d).rows) ≡ copy_wanted_where p settles now (all_shown t lists) (all_placed t (get_or lists k d).rows)
+copied_where_is p settles t place now k d lists l w =
+    let rows = (get_or lists k d).rows in
+    let covers = covers_one t lists k d l w.counted in
+    kept_row settles t place lists (next_where p t now rows) w (where_held p t now rows covers) ∙ ap (kept_message settles (all_shown t lists)) (sym (next_where_same p t now rows covers (w.each k d l).own.each))

@@ -10,7 +10,8 @@ use Rattle.jm_machine.specs.declared.state.PlacedRow.{PlacedRow}
 use Rattle.jm_machine.specs.declared.answer.Answer.{Answer}
 use Rattle.jm_machine.specs.declared.answer.Answer.TheVariants.{Delivered, Nothing}
 use Rattle.jm_machine.specs.Machine.{delivery, one_missed, settled_rows, returned_rows}
-use Rattle.jm_machine.specs.Rows.{protected, fresh, sent_out, live, is_next, next, bare, deliver_placed, live_placed}
+use Rattle.jm_machine.specs.Rows.{protected, fresh, sent_out, live, is_next, next, bare, chosen, deliver_placed, deliver_chosen, live_placed}
+use Rattle.jm_machine.specs.Wants.{next_chosen}
 use Rattle.jm_pending.specs.declared.held.Taken.{Taken}
 use Rattle.jm_pending.specs.declared.row.Row.{Row as RowHere}
 use Rattle.jm_pending.specs.Rows.{is_at_limit}
@@ -77,6 +78,10 @@ gone r = []
 abbrev pub received : ℕ → Backlog → Backlog
 received now b = record b { rows = deliver_placed now gone b.rows }
 
+-- waiting rows that are expired go, and of those whose messages pass the next one is delivered and settled
+abbrev pub received_where : (Content → Bool) → ℕ → Backlog → Backlog
+received_where p now b = record b { rows = deliver_chosen p now gone b.rows }
+
 -- what a delivery to the session through its consumer leaves of a row: it is out, and counted once more
 abbrev pub out_row : SessionId → ℕ → Row → List Row
 out_row s c r = sent_out s c r ∷ []
@@ -84,6 +89,11 @@ out_row s c r = sent_out s c r ∷ []
 -- waiting rows that are expired go, and the next one is delivered, and goes out to the session through its consumer
 abbrev pub delivered : SessionId → ℕ → ℕ → Backlog → Backlog
 delivered s c now b = record b { rows = deliver_placed now (out_row s c) b.rows }
+
+-- waiting rows that are expired go, and of those whose messages pass the next one is delivered, and goes out to the
+-- session through its consumer
+abbrev pub delivered_where : (Content → Bool) → SessionId → ℕ → ℕ → Backlog → Backlog
+delivered_where p s c now b = record b { rows = deliver_chosen p now (out_row s c) b.rows }
 
 -- the rows that are out through consumers that pass go
 abbrev pub settled : (SessionId → ℕ → Bool) → Backlog → Backlog
@@ -102,6 +112,10 @@ kept_under p (k ∷ keys) (b ∷ list) = if p k then b ∷ kept_under p keys lis
 -- what a delivery from these rows answers
 abbrev pub answered : ℕ → List PlacedRow → Answer
 answered now rows = delivery (next now (live now (bare rows)))
+
+-- what a delivery from those of the rows answers whose messages pass
+abbrev pub answered_where : (Content → Bool) → ℕ → List PlacedRow → Answer
+answered_where p now rows = delivery (next now (live now (chosen p (bare rows))))
 
 -- the row that a delivery takes
 abbrev pub next_placed : ℕ → List PlacedRow → Option PlacedRow
@@ -123,6 +137,10 @@ kept_message settles list (Some x) = if settles && (holders_at x.place list == 1
 -- the copy that a delivery wants, which settles at once or not: of the next row's message, where that is held after it
 abbrev pub copy_wanted : Bool → ℕ → List Backlog → List PlacedRow → Option Content
 copy_wanted settles now list rows = kept_message settles list (next_placed now rows)
+
+-- the same of a delivery from those of the rows whose messages pass
+abbrev pub copy_wanted_where : (Content → Bool) → Bool → ℕ → List Backlog → List PlacedRow → Option Content
+copy_wanted_where p settles now list rows = kept_message settles list (next_chosen p now rows)
 
 -- under each key the same is held, and there is room for as many more rows or for further ones
 pub record HasMoreRoom (old new : List Backlog) : Type 0 where

@@ -10,6 +10,7 @@ use Rattle.jm_pending.specs.declared.row.Row.{Row}
 use Rattle.jm_pending.specs.declared.held.Taken.{Taken}
 use Rattle.jm_pending.specs.Rows.{Held, is_at_limit, is_elsewhere, is_out, next, stays, back, counted, sent_at}
 use Rattle.jm_pending.specs.Holders.{Messages, KeepsMessages, holders_of, message_of, last_message}
+use Rattle.jm_pending.specs.Chosen.{next_where}
 use Rattle.jm_pending.specs.Counts.{IsCounted, all_at}
 use Rattle.jm_pending.specs.Placed.{all_placed, AreRowsOf}
 use Rattle.jm_stations.specs.Backlogs.{Backlog, is_named}
@@ -71,6 +72,10 @@ is_left (Some x) r = is_elsewhere x.place r
 abbrev pub settled : ℕ → Held → Held
 settled now h = record h { rows = filter (is_left (next now h.rows)) (filter (stays now) h.rows) }
 
+-- the same without the next one of those whose messages pass
+abbrev pub settled_where : (Content → Bool) → Messages → ℕ → Held → Held
+settled_where p t now h = record h { rows = filter (is_left (next_where p t now h.rows)) (filter (stays now) h.rows) }
+
 -- a row, sent where it is the one that goes out
 abbrev pub sent_if : Option Row → SessionId → ℕ → Row → Row
 sent_if None s c r = r
@@ -79,6 +84,10 @@ sent_if (Some x) s c r = sent_at x.place s c r
 -- rows without the waiting ones that are expired, of which the next one goes out
 abbrev pub sent_off : SessionId → ℕ → ℕ → Held → Held
 sent_off s c now h = record h { rows = map (sent_if (next now h.rows) s c) (filter (stays now) h.rows) }
+
+-- the same of which the next one of those goes out whose messages pass
+abbrev pub sent_off_where : (Content → Bool) → Messages → SessionId → ℕ → ℕ → Held → Held
+sent_off_where p t s c now h = record h { rows = map (sent_if (next_where p t now h.rows) s c) (filter (stays now) h.rows) }
 
 -- rows without those that are out through consumers that pass
 abbrev pub settled_out : (SessionId → ℕ → Bool) → Held → Held

@@ -3,6 +3,7 @@
 ghost use Rattle.std.specs.Prelude.{◌≡◌, ◌≤◌, ◌<◌, ◌+◌, ◌-◌, ◌++◌, [], ◌∷◌, true, false, nat_eq, All, length, map, slice_index_or, is_some, IfOk, OnOk, OnErr};
 ghost use Rattle.std.specs.List.{IsDistinct, remove};
 ghost use Rattle.jm_machine.specs.Machine.{are_meant, places_end};
+ghost use Rattle.jm_selector.specs.Selectors.{read_selects, selector_read};
 ghost use Rattle.jm_stations.specs.Backlogs as spec;
 ghost use Rattle.jm_stations.specs.Backlogs.{Backlog};
 ghost use Rattle.jm_stations.specs.Kept as kept;
@@ -12,6 +13,7 @@ use jm_dest::{ConsumerId, Moment, SessionId};
 use jm_header::Message;
 use jm_machine::{Answer, Consumers, Delivery, PlacedRow, Row as MachineRow, RowState};
 use jm_pending::{Held, Row, Table, Taken};
+use jm_selector::Selector;
 use std::alloc::{AllocError, Global};
 use std::marker::Model;
 
@@ -327,6 +329,76 @@ impl Backlogs {
             &mut self.table,
             index,
             now,
+            session,
+            consumer,
+        );
+        sent_out(row, copy)
+    }
+
+    /// The copy that a delivery from those of the list's rows wants whose messages the selector selects, at that moment,
+    /// which settles at once or not: of the next row's message, where that is held after it. `AllocError` where a request
+    /// for memory was refused, which comes only where a copy is wanted.
+    pub fn copy_where(
+        &self,
+        index: usize,
+        now: Moment,
+        settles: bool,
+        selector: &Selector,
+    ) -> Result<Option<Message>, AllocError>
+        requires within { index < length self.now.list }
+        ensures copy { (d : Backlog) → IfOk result (λ copy. copy ≡ spec.copy_wanted_where (read_selects (selector_read selector.now)) settles now self.now.list (slice_index_or self.now.list index d).rows) }
+        ensures err { (d : Backlog) → OnErr result (is_some (spec.copy_wanted_where (read_selects (selector_read selector.now)) settles now self.now.list (slice_index_or self.now.list index d).rows) ≡ true) }
+    {
+        let row = self.lists[index].next_where(&self.table, now, selector);
+        copy_of(&self.table, row, settles)
+    }
+
+    /// Drops the waiting rows of the list that are expired at that moment, also those that are not selected, and delivers
+    /// the next one of those whose messages the selector selects, which is settled. Its message is moved out where no
+    /// other row holds it, and else the copy stands for it. Takes no memory.
+    pub fn receive_where(
+        &mut self,
+        index: usize,
+        now: Moment,
+        selector: &Selector,
+        copy: Option<Message>,
+    ) -> Answer
+        requires within { index < length self.old.list }
+        requires copy { (d : Backlog) → copy ≡ spec.copy_wanted_where (read_selects (selector_read selector.now)) true now self.old.list (slice_index_or self.old.list index d).rows }
+        ensures answer { (d : Backlog) → result ≡ spec.answered_where (read_selects (selector_read selector.now)) now (slice_index_or self.old.list index d).rows }
+        ensures list { self.new.list ≡ spec.changed_at index (spec.received_where (read_selects (selector_read selector.now)) now) self.old.list }
+        ensures next_place { self.new.next_place ≡ self.old.next_place }
+        ensures room { self.old.message_room ≤ self.new.message_room }
+    {
+        let taken = lists::take_where(&mut self.lists, &mut self.table, index, now, selector);
+        handed_out(taken, copy)
+    }
+
+    /// Drops the waiting rows of the list that are expired at that moment, also those that are not selected, and delivers
+    /// the next one of those whose messages the selector selects, which goes out to the session through its consumer. The
+    /// copy stands for its message. Takes no memory.
+    pub fn deliver_where(
+        &mut self,
+        index: usize,
+        now: Moment,
+        selector: &Selector,
+        copy: Option<Message>,
+        session: SessionId,
+        consumer: ConsumerId,
+    ) -> Answer
+        requires within { index < length self.old.list }
+        requires copy { (d : Backlog) → copy ≡ spec.copy_wanted_where (read_selects (selector_read selector.now)) false now self.old.list (slice_index_or self.old.list index d).rows }
+        ensures answer { (d : Backlog) → result ≡ spec.answered_where (read_selects (selector_read selector.now)) now (slice_index_or self.old.list index d).rows }
+        ensures list { self.new.list ≡ spec.changed_at index (spec.delivered_where (read_selects (selector_read selector.now)) session consumer now) self.old.list }
+        ensures next_place { self.new.next_place ≡ self.old.next_place }
+        ensures room { self.old.message_room ≤ self.new.message_room }
+    {
+        let row = lists::send_where(
+            &mut self.lists,
+            &mut self.table,
+            index,
+            now,
+            selector,
             session,
             consumer,
         );

@@ -7,12 +7,15 @@ ghost use Rattle.jm_machine.specs.Machine.{are_meant};
 ghost use Rattle.jm_pending.specs.Counts.{IsCounted};
 ghost use Rattle.jm_pending.specs.Rows.{Held, IsRising, next, sent};
 ghost use Rattle.jm_pending.specs.Holders.{Covers, Follows, KeepsMessages, holders_of};
+ghost use Rattle.jm_pending.specs.Chosen.{next_where};
+ghost use Rattle.jm_selector.specs.Selectors.{read_selects, selector_read};
 ghost use Rattle.jm_stations.specs.Backlogs.{changed_at};
 ghost use Rattle.jm_stations.specs.Kept as kept;
 
 use jm_dest::{ConsumerId, Moment, SessionId};
 use jm_machine::Consumers;
 use jm_pending::{Held, Row, Table, Taken};
+use jm_selector::Selector;
 use std::alloc::AllocError;
 
 /// Adds a row to each of the lists with those indexes.
@@ -70,6 +73,48 @@ pub(crate) fn send(
 {
     let held = &mut lists[index];
     held.take(table, now, session, consumer)
+}
+
+/// Drops the expired waiting rows of the list with that index, takes the next one of those whose messages the selector
+/// selects, and settles it.
+pub(crate) fn take_where(
+    lists: &mut Vec<Held>,
+    table: &mut Table,
+    index: usize,
+    now: Moment,
+    selector: &Selector,
+) -> Option<Taken>
+    requires within { index < length lists.old.items }
+    requires covers { (d : Held) → Covers table.old (slice_index_or lists.old.items index d).rows }
+    ensures result { (d : Held) → result ≡ kept.taken table.old (next_where (read_selects (selector_read selector.now)) table.old now (slice_index_or lists.old.items index d).rows) }
+    ensures lists { lists.new.items ≡ changed_at index (kept.settled_where (read_selects (selector_read selector.now)) table.old now) lists.old.items }
+    ensures table { (d : Held) → Follows table.old table.new (slice_index_or lists.old.items index d).rows (kept.settled_where (read_selects (selector_read selector.now)) table.old now (slice_index_or lists.old.items index d)).rows }
+    ensures rising { (d : Held) → IsRising (slice_index_or lists.old.items index d).rows }
+{
+    let held = &mut lists[index];
+    held.take_settled_where(table, now, selector)
+}
+
+/// Drops the expired waiting rows of the list with that index, and sends the next one of those whose messages the
+/// selector selects to the session through its consumer.
+pub(crate) fn send_where(
+    lists: &mut Vec<Held>,
+    table: &mut Table,
+    index: usize,
+    now: Moment,
+    selector: &Selector,
+    session: SessionId,
+    consumer: ConsumerId,
+) -> Option<Row>
+    requires within { index < length lists.old.items }
+    requires covers { (d : Held) → Covers table.old (slice_index_or lists.old.items index d).rows }
+    ensures result { (d : Held) → result ≡ option_map (sent session consumer) (next_where (read_selects (selector_read selector.now)) table.old now (slice_index_or lists.old.items index d).rows) }
+    ensures lists { lists.new.items ≡ changed_at index (kept.sent_off_where (read_selects (selector_read selector.now)) table.old session consumer now) lists.old.items }
+    ensures table { (d : Held) → Follows table.old table.new (slice_index_or lists.old.items index d).rows (kept.sent_off_where (read_selects (selector_read selector.now)) table.old session consumer now (slice_index_or lists.old.items index d)).rows }
+    ensures rising { (d : Held) → IsRising (slice_index_or lists.old.items index d).rows }
+{
+    let held = &mut lists[index];
+    held.take_where(table, now, selector, session, consumer)
 }
 
 /// The rows of all lists that are out through one of those consumers go.

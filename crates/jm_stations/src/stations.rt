@@ -5,6 +5,7 @@ ghost use Rattle.std.specs.List.{IsDistinct, remove};
 ghost use Rattle.jm_dest.specs.declared.key.Key.{Key};
 ghost use Rattle.jm_dest.specs.Keys.{key_eq};
 ghost use Rattle.jm_machine.specs.Machine.{are_meant, is_own_of, places_end};
+ghost use Rattle.jm_selector.specs.Selectors.{read_selects, selector_read};
 ghost use Rattle.jm_stations.specs.Backlogs as spec;
 ghost use Rattle.jm_stations.specs.Backlogs.{Backlog};
 ghost use Rattle.jm_stations.specs.Kept as kept;
@@ -16,6 +17,7 @@ use indexmap::IndexSet;
 use jm_dest::{ConsumerId, Key, Moment, SessionId};
 use jm_header::Message;
 use jm_machine::{Answer, Consumers, PlacedRow, Row};
+use jm_selector::Selector;
 use std::alloc::{AllocError, Global};
 use std::marker::Model;
 
@@ -333,6 +335,71 @@ impl Stations {
         ensures room { self.old.message_room ≤ self.new.message_room }
     {
         self.backlogs.deliver(index, now, copy, session, consumer)
+    }
+
+    /// The copy that a delivery from the rows under the key with that index wants at that moment, which settles at once
+    /// or not: of the message of the next row of those whose messages the selector selects, where that is held after it.
+    /// `AllocError` where a request for memory was refused, which comes only where a copy is wanted.
+    pub fn copy_where(
+        &self,
+        index: usize,
+        now: Moment,
+        settles: bool,
+        selector: &Selector,
+    ) -> Result<Option<Message>, AllocError>
+        requires within { index < length self.now.list }
+        ensures copy { (d : Backlog) → IfOk result (λ copy. copy ≡ spec.copy_wanted_where (read_selects (selector_read selector.now)) settles now self.now.list (slice_index_or self.now.list index d).rows) }
+        ensures err { (d : Backlog) → OnErr result (is_some (spec.copy_wanted_where (read_selects (selector_read selector.now)) settles now self.now.list (slice_index_or self.now.list index d).rows) ≡ true) }
+    {
+        self.backlogs.copy_where(index, now, settles, selector)
+    }
+
+    /// Drops the waiting rows under the key with that index that are expired at that moment, also those that are not
+    /// selected, and delivers the next one of those whose messages the selector selects, which is settled. Its message
+    /// is moved out where no other row holds it, and else the copy stands for it. Takes no memory.
+    #[tactic(auto, using(crate::proofs::Indexes::as_many_changed))]
+    pub fn receive_where(
+        &mut self,
+        index: usize,
+        now: Moment,
+        selector: &Selector,
+        copy: Option<Message>,
+    ) -> Answer
+        requires within { index < length self.old.list }
+        requires copy { (d : Backlog) → copy ≡ spec.copy_wanted_where (read_selects (selector_read selector.now)) true now self.old.list (slice_index_or self.old.list index d).rows }
+        ensures answer { (d : Backlog) → result ≡ spec.answered_where (read_selects (selector_read selector.now)) now (slice_index_or self.old.list index d).rows }
+        ensures keys { self.new.keys ≡ self.old.keys }
+        ensures list { self.new.list ≡ spec.changed_at index (spec.received_where (read_selects (selector_read selector.now)) now) self.old.list }
+        ensures next_place { self.new.next_place ≡ self.old.next_place }
+        ensures room { self.old.message_room ≤ self.new.message_room }
+    {
+        self.backlogs.receive_where(index, now, selector, copy)
+    }
+
+    /// Drops the waiting rows under the key with that index that are expired at that moment, also those that are not
+    /// selected, and delivers the next one of those whose messages the selector selects, which goes out to the session
+    /// through its consumer, and is counted once more. The copy stands for its message, which stays held. Takes no
+    /// memory.
+    #[tactic(auto, using(crate::proofs::Indexes::as_many_changed))]
+    pub fn deliver_where(
+        &mut self,
+        index: usize,
+        now: Moment,
+        selector: &Selector,
+        copy: Option<Message>,
+        session: SessionId,
+        consumer: ConsumerId,
+    ) -> Answer
+        requires within { index < length self.old.list }
+        requires copy { (d : Backlog) → copy ≡ spec.copy_wanted_where (read_selects (selector_read selector.now)) false now self.old.list (slice_index_or self.old.list index d).rows }
+        ensures answer { (d : Backlog) → result ≡ spec.answered_where (read_selects (selector_read selector.now)) now (slice_index_or self.old.list index d).rows }
+        ensures keys { self.new.keys ≡ self.old.keys }
+        ensures list { self.new.list ≡ spec.changed_at index (spec.delivered_where (read_selects (selector_read selector.now)) session consumer now) self.old.list }
+        ensures next_place { self.new.next_place ≡ self.old.next_place }
+        ensures room { self.old.message_room ≤ self.new.message_room }
+    {
+        self.backlogs
+            .deliver_where(index, now, selector, copy, session, consumer)
     }
 
     /// The rows that are out through one of those consumers go, and each message that no other row holds with them.

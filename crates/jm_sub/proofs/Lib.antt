@@ -1,1 +1,6 @@
-mod Selectors
+mod Left
+mod Entries
+mod Keys
+mod Table
+mod Listed
+mod Accepting

@@ -1,1 +1,3 @@
 pub mod Subscriptions
+pub mod Entries
+pub mod Topics

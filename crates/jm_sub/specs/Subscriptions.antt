@@ -1,16 +1,14 @@
 -- Subscriptions in order of creation, at most one a key.
-use Rattle.std.specs.Prelude.{ℕ, Bool, not, List, [], ◌∷◌, ◌++◌, filter, map}
+use Rattle.std.specs.Prelude.{ℕ, Bool, ◌&&◌, not, Option, List, [], ◌∷◌, ◌++◌, filter, map}
+use Rattle.std.specs.Set.{distinct_count}
+use Rattle.jm_dest.specs.Names.{text_eq}
 use Rattle.jm_dest.specs.declared.key.Key.{Key}
 use Rattle.jm_dest.specs.Keys.{key_eq}
-use Rattle.jm_base.specs.declared.refusal.Cause.{Cause}
-use Rattle.jm_base.specs.declared.refusal.Cause.TheVariants as causes
-use Rattle.jm_base.specs.declared.refusal.Refusal.{Refusal}
-use Rattle.jm_base.specs.declared.refusal.Refusal.TheVariants.{InvalidSelector, Memory}
-use Rattle.jm_lexer.specs.declared.fault.SyntaxFault.{SyntaxFault}
 use Rattle.jm_header.specs.declared.content.Content.{Content}
 use Rattle.jm_machine.specs.declared.state.Definition.{Definition}
 use Rattle.jm_machine.specs.declared.consumers.Consumers.{Consumers}
-use Rattle.jm_machine.specs.Machine.{Publisher, accepts, is_own_of}
+use Rattle.jm_machine.specs.Machine.{Publisher, accepts, is_local, is_own_of}
+use Rattle.jm_selector.specs.Selectors.{read_selects, selector_read}
 
 -- a subscription: its key, and what it asks for
 pub record Subscription : Type 0 where
@@ -22,13 +20,21 @@ pub record Subscriptions : Type 0 where
   pub list : List Subscription
   pub spare : ℕ
 
+-- who publishes the message: the connection of the session that sent it, which has that client identifier, if any
+abbrev pub publisher : Content → Option (List ℕ) → Publisher
+publisher m client = record { connection = m.sender.session.connection; client = client }
+
+-- a subscription of the key takes the publisher's messages, local or not, and its selector selects the message
+abbrev pub wants : Key → Definition → Publisher → Content → Bool
+wants key d sender m = not (d.no_local && is_local key sender) && read_selects (selector_read d.selector) m
+
 -- the subscription accepts the publisher's message
 abbrev pub takes : Publisher → Content → Subscription → Bool
-takes publisher m s = accepts s.key s.definition publisher m
+takes sender m s = accepts s.key s.definition sender m
 
 -- the keys of those that accept the publisher's message, in order of creation
 abbrev pub accepting : Publisher → Content → List Subscription → List Key
-accepting publisher m subscriptions = map (λ s. s.key) (filter (takes publisher m) subscriptions)
+accepting sender m subscriptions = map (λ s. s.key) (filter (takes sender m) subscriptions)
 
 -- all but the subscription of the key
 abbrev pub without : Key → List Subscription → List Subscription
@@ -42,11 +48,6 @@ put s subscriptions = without s.key subscriptions ++ s ∷ []
 abbrev pub without_own : Consumers → List Subscription → List Subscription
 without_own which subscriptions = filter (λ s. not (is_own_of which s.key)) subscriptions
 
--- the refusal for a fault of that cause
-abbrev pub refused_for : ℕ → Cause → Refusal
-refused_for at causes.Memory = Memory
-refused_for at cause = InvalidSelector at cause
-
--- the refusal for a fault of a selector text, or for a want of memory while it is read
-abbrev pub refused : SyntaxFault → Refusal
-refused fault = refused_for fault.at fault.cause
+-- how many topics the subscriptions have, where those of one topic count once
+abbrev pub number_of_topics : List Subscription → ℕ
+number_of_topics subscriptions = distinct_count text_eq (map (λ s. s.definition.topic) subscriptions)

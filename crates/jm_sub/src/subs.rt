@@ -1,100 +1,175 @@
 //! The subscriptions in order of creation.
 
-ghost use Rattle.std.specs.Prelude.{◌≡◌, ◌≢◌, ◌+◌, ◌<◌, ◌≤◌, ◌==◌, [], length, slice_get, option_map, position, vec_len, vec_capacity, IfOk, IfErr, OnOk, Some};
+ghost use Rattle.std.specs.Prelude.{◌≡◌, ◌≢◌, ◌+◌, ◌<◌, ◌≤◌, ◌==◌, ◌++◌, [], ◌∷◌, length, not, filter, slice_get, option_map, position, IfOk, IfErr, OnOk, Some};
 ghost use Rattle.std.specs.Option.{option_copied};
+ghost use Rattle.indexmap.specs.IndexMap.{spare};
 ghost use Rattle.jm_base.specs.declared.refusal.Refusal.TheVariants.{Memory};
+ghost use Rattle.jm_dest.specs.declared.key.Key.{Key};
 ghost use Rattle.jm_dest.specs.Keys.{key_eq};
-ghost use Rattle.jm_machine.specs.Machine.{Publisher, defined};
-ghost use Rattle.jm_machine.specs.Selectors.{selector_refusal};
+ghost use Rattle.jm_machine.specs.Machine as machine;
+ghost use Rattle.jm_selector.specs.Selectors.{selector_refusal};
+ghost use Rattle.jm_sub.specs.Entries.{IsNew, subscriptions_of, wanting};
 ghost use Rattle.jm_sub.specs.Subscriptions as spec;
-ghost use Rattle.jm_sub.specs.Subscriptions.{put, takes, without, without_own};
+ghost use Rattle.jm_sub.specs.Subscriptions.{number_of_topics, publisher, put, takes, without, without_own};
+ghost use Rattle.jm_sub.specs.Topics.{ends};
 
-use crate::subscription::Sub;
+use crate::definition::{accepts, defined, wants};
+use crate::ending::Ending;
+use crate::topics::Topics;
+use indexmap::IndexMap;
 use jm_base::{Refusal, Str};
-use jm_dest::{Key, Name};
+use jm_dest::{ClientId, Destination, Key, Name};
 use jm_header::Message;
 use jm_machine::{Consumers, Definition};
 use std::alloc::{AllocError, Global};
+use std::collections::LinkedList;
 use std::marker::Model;
 
-/// The subscriptions in order of creation, each with the tree of its selector, which is parsed once.
-/// Contracts see the list of keys and definitions, and `spare`, for how many more there is room.
+/// The subscriptions in order of creation, each found by its key, and those of each topic by the table of topics. Contracts see the list of keys and
+/// definitions, and `spare`, for how many more there is room.
 #[derive(Drop)]
 pub struct Subs {
     alloc: Global,
-    items: Vec<Sub>,
+    items: IndexMap<Key, Definition>,
+    topics: Topics,
 }
 
 impl Model for Subs {
-    ghost use Rattle.std.specs.Prelude.{◌-◌, vec_len, vec_capacity};
+    ghost use Rattle.std.specs.Prelude.{min};
+    ghost use Rattle.indexmap.specs.IndexMap.{spare};
+    ghost use Rattle.jm_sub.specs.Entries.{subscriptions_of};
     ghost use Rattle.jm_sub.specs.Subscriptions.{Subscriptions};
+    ghost use Rattle.jm_sub.specs.Topics.{IsTableOf, room};
 
     ghost Value = { Subscriptions };
 
-    ghost view = { λ s. record { list = s.items.items; spare = vec_capacity s.items - vec_len s.items } };
+    ghost view = { λ s. record {
+      list = subscriptions_of s.items.entries;
+      spare = min (spare s.items) (room s.topics);
+    } };
+
+    ghost invariant = { λ s. IsTableOf (subscriptions_of s.items.entries) s.topics };
 }
 
-/// A change that was decided: the creation of a subscription. Contracts see that subscription.
+/// A change that was decided: the creation of a subscription, with all that the table of topics takes for
+/// it. Contracts see that subscription.
 #[derive(Drop)]
 pub struct Decision {
-    created: Sub,
+    key: Key,
+    created: Definition,
+    topic: Name,
+    keys: LinkedList<Key>,
 }
 
 impl Model for Decision {
+    ghost use Rattle.std.specs.Prelude.{◌≡◌, [], ◌∷◌};
     ghost use Rattle.jm_sub.specs.Subscriptions.{Subscription};
 
     ghost Value = { Subscription };
 
-    ghost view = { λ d. d.created };
+    ghost view = { λ d. record { key = d.key; definition = d.created } };
+
+    ghost invariant = { λ d. (d.topic ≡ d.created.topic) × (d.keys ≡ d.key ∷ []) };
 }
 
-/// The subscriptions without that of the other's key.
-fn remove_key_of(items: &mut Vec<Sub>, other: &Sub)
-    ensures items { items.new.items ≡ without other.now.key items.old.items }
-    ensures bound { vec_len items.new ≤ vec_len items.old }
-    ensures capacity { vec_capacity items.new ≡ vec_capacity items.old }
+/// Whether there is a subscription of the key that wants the message of that publisher.
+fn wants_at(
+    items: &IndexMap<Key, Definition>,
+    key: &Key,
+    message: &Message,
+    client: Option<&ClientId>,
+) -> bool
+    ensures { result ≡ wanting items.now.entries (publisher message.now (option_copied client.entry)) message.now key.now }
 {
-    items.retain(|sub| !sub.shares_key(other));
+    match items.get(key) {
+        None => false,
+        Some(definition) => wants(key, definition, message, client),
+    }
 }
 
-/// The subscriptions without the own ones of those consumers.
-fn remove_own(items: &mut Vec<Sub>, which: &Consumers)
-    ensures items { items.new.items ≡ without_own which.now items.old.items }
-    ensures bound { vec_len items.new ≤ vec_len items.old }
-    ensures capacity { vec_capacity items.new ≡ vec_capacity items.old }
+/// Those of the keys whose subscriptions want the message of that publisher.
+fn selected(
+    alloc: Global,
+    items: &IndexMap<Key, Definition>,
+    keys: &LinkedList<Key>,
+    message: &Message,
+    client: Option<&ClientId>,
+) -> Result<Vec<Key>, AllocError>
+    ensures { IfOk result (λ selected. selected.items ≡ filter (wanting items.now.entries (publisher message.now (option_copied client.entry)) message.now) keys.now) }
 {
-    items.retain(|sub| !sub.is_own_of(which));
-}
-
-/// The keys of those that accept the message.
-fn keys_of(alloc: Global, items: &[Sub], message: &Message) -> Result<Vec<Key>, AllocError>
-    ensures { IfOk result (λ keys. (publisher : Publisher) → keys.items ≡ spec.accepting publisher message.now items.now) }
-{
-    let mut keys = Vec::new(alloc);
-    for sub in items {
-        if sub.accepts(message) {
-            keys.push(sub.copy_key()?)?;
+    let mut selected = Vec::new(alloc);
+    for key in keys {
+        if wants_at(items, key, message, client) {
+            selected.push(key.copy()?)?;
         }
     }
+    Ok(selected)
+}
+
+/// Puts the subscription last, of which no other has the key. There is room for it.
+fn put_last(items: &mut IndexMap<Key, Definition>, key: Key, created: Definition)
+    requires room { 0 < spare items.old }
+    requires new { IsNew key (subscriptions_of items.old.entries) }
+    ensures items { items.new.entries ≡ items.old.entries ++ (key, created) ∷ [] }
+    ensures spare { spare items.old ≤ spare items.new + 1 }
+{
+    drop(items.insert(key, created));
+}
+
+/// The key, as a list of its own.
+fn link(alloc: Global, key: &Key) -> Result<LinkedList<Key>, AllocError>
+    ensures { IfOk result (λ keys. keys ≡ key.now ∷ []) }
+{
+    let mut keys = LinkedList::new(alloc);
+    keys.push_back(key.copy()?)?;
     Ok(keys)
 }
 
-fn copies(alloc: Global, items: &[Sub]) -> Result<Vec<Sub>, AllocError>
-    ensures { IfOk result (λ copies. copies.items ≡ items.now) }
+/// The creation of an equal subscription under the key.
+fn decision_of(alloc: Global, key: &Key, definition: &Definition) -> Result<Decision, AllocError>
+    ensures { IfOk result (λ d. d ≡ record { key = key.now; definition = definition.now }) }
 {
-    let mut copies = Vec::with_capacity(alloc, items.len())?;
-    for sub in items {
-        copies.push(sub.copy(alloc)?)?;
+    let key = key.copy()?;
+    let created = definition.copy()?;
+    Decision::new(alloc, key, created)
+}
+
+/// Equal subscriptions, with a table of their own.
+fn copied(alloc: Global, items: &IndexMap<Key, Definition>) -> Result<Subs, AllocError>
+    ensures { IfOk result (λ copy. copy.list ≡ subscriptions_of items.now.entries) }
+{
+    let mut copy = Subs::new(alloc);
+    for at in 0..items.len() {
+        let Some((key, definition)) = items.get_index(at) else {
+            break;
+        };
+        copy.reserve()?;
+        let decision = decision_of(alloc, key, definition)?;
+        copy.add(decision);
     }
-    Ok(copies)
+    Ok(copy)
 }
 
 impl Decision {
+    /// The creation of that subscription under the key.
+    fn new(alloc: Global, key: Key, created: Definition) -> Result<Decision, AllocError>
+        ensures { IfOk result (λ d. d ≡ record { key = key; definition = created }) }
+    {
+        let keys = link(alloc, &key)?;
+        let topic = created.topic.copy()?;
+        Ok(Decision {
+            key,
+            created,
+            topic,
+            keys,
+        })
+    }
+
     /// What the new subscription asks for. A selector whose text holds no token is none.
     pub fn definition(&self) -> &Definition
         ensures { result.now ≡ self.now.definition }
     {
-        self.created.definition()
+        &self.created
     }
 }
 
@@ -105,19 +180,17 @@ impl Subs {
     {
         Subs {
             alloc,
-            items: Vec::new(alloc),
+            items: IndexMap::new(alloc),
+            topics: Topics::new(alloc),
         }
     }
 
-    /// Equal subscriptions. No selector is parsed again. `AllocError` where a request for memory was
+    /// Equal subscriptions. No selector is read again. `AllocError` where a request for memory was
     /// refused.
     pub fn copy(&self) -> Result<Subs, AllocError>
         ensures { IfOk result (λ copy. copy.list ≡ self.now.list) }
     {
-        Ok(Subs {
-            alloc: self.alloc,
-            items: copies(self.alloc, &self.items)?,
-        })
+        copied(self.alloc, &self.items)
     }
 
     /// How many subscriptions there are.
@@ -134,11 +207,18 @@ impl Subs {
         self.items.is_empty()
     }
 
-    /// Where the subscription of the key stands, from 0 in order of creation.
+    /// How many topics have subscriptions: the length of the table of topics.
+    pub fn topics(&self) -> usize
+        ensures { result ≡ number_of_topics self.now.list }
+    {
+        self.topics.len()
+    }
+
+    /// Where the subscription of the key stands, from 0 in order of creation. It is found by its hash.
     pub fn position(&self, key: &Key) -> Option<usize>
         ensures { result ≡ position (λ s. key_eq s.key key.now) self.now.list }
     {
-        self.items.iter().position(|sub| sub.has_key(key))
+        self.items.get_index_of(key)
     }
 
     /// What the subscription at that place asks for.
@@ -146,31 +226,56 @@ impl Subs {
         requires { at < length self.now.list }
         ensures { option_map (λ s. s.definition) (slice_get self.now.list at) ≡ Some result.now }
     {
-        let sub = &self.items[at];
-        sub.definition()
+        &self.items[at]
     }
 
-    /// Whether the subscription at that place accepts the message: the message's topic is the
-    /// subscription's (Jakarta Messaging 3.1, section 4.2), and the selector is absent or TRUE over
+    /// Whether the subscription at that place accepts the message, which is published on the connection of its
+    /// sender's session; `client` is that connection's client identifier, if it has one. It accepts the message
+    /// where the message's topic is the subscription's (Jakarta Messaging 3.1, section 4.2), the publisher is not
+    /// local where the subscription asks for none that is (section 8.3.1), and the selector is absent or TRUE over
     /// the message (section 3.8.1). Takes no memory.
-    pub fn accepts_at(&self, at: usize, message: &Message) -> bool
+    pub fn accepts_at(&self, at: usize, message: &Message, client: Option<&ClientId>) -> bool
         requires { at < length self.now.list }
-        ensures { (publisher : Publisher) → option_map (takes publisher message.now) (slice_get self.now.list at) ≡ Some result }
+        ensures { option_map (takes (publisher message.now (option_copied client.entry)) message.now) (slice_get self.now.list at) ≡ Some result }
     {
-        let held = &self.items[at];
-        held.accepts(message)
+        let Some((key, definition)) = self.items.get_index(at) else {
+            return false;
+        };
+        accepts(key, definition, message, client)
     }
 
-    /// The keys of the subscriptions that accept the message, in order of creation. `Memory` where a
-    /// request for memory was refused.
-    pub fn accepting(&self, message: &Message) -> Result<Vec<Key>, Refusal>
-        ensures ok { IfOk result (λ keys. (publisher : Publisher) → keys.items ≡ spec.accepting publisher message.now self.now.list) }
+    /// The keys of the subscriptions that accept the message, in order of creation; `client` is the client
+    /// identifier of the connection that publishes it, if it has one. It looks at those of the message's topic
+    /// alone. `Memory` where a request for memory was refused.
+    pub fn accepting(
+        &self,
+        message: &Message,
+        client: Option<&ClientId>,
+    ) -> Result<Vec<Key>, Refusal>
+        ensures ok { IfOk result (λ keys. keys.items ≡ spec.accepting (publisher message.now (option_copied client.entry)) message.now self.now.list) }
         ensures err { IfErr result (λ refusal. refusal ≡ Memory) }
     {
-        Ok(keys_of(self.alloc, &self.items, message)?)
+        let Destination::Topic(topic) = message.destination() else {
+            return Ok(Vec::new(self.alloc));
+        };
+        // The length is what says that each key stands once.
+        let _number = self.items.len();
+        match self.topics.keys(topic) {
+            None => Ok(Vec::new(self.alloc)),
+            Some(keys) => Ok(selected(self.alloc, &self.items, keys, message, client)?),
+        }
     }
 
-    /// Decides the creation of an empty subscription of that key to the topic. It parses the selector,
+    /// Makes room for one more subscription, of whatever topic.
+    fn reserve(&mut self) -> Result<(), AllocError>
+        ensures list { self.new.list ≡ self.old.list }
+        ensures ok { OnOk result (0 < self.new.spare) }
+    {
+        self.items.reserve(1)?;
+        self.topics.reserve()
+    }
+
+    /// Decides the creation of an empty subscription of that key to the topic. It reads the selector,
     /// and takes the room that the change needs; the subscriptions stay as they are. `InvalidSelector`
     /// where the text is refused, with its first fault; `Memory` where a request for memory was
     /// refused, which may come in place of it.
@@ -179,16 +284,18 @@ impl Subs {
         key: Key,
         topic: &Name,
         selector: &Option<Str>,
+        no_local: bool,
     ) -> Result<Decision, Refusal>
-        ensures decided { IfOk result (λ d. d ≡ record { key = key; definition = defined topic.now selector.now }) }
+        ensures decided { IfOk result (λ d. d ≡ record { key = key; definition = machine.defined topic.now selector.now no_local }) }
         ensures valid { IfOk result (λ _. selector_refusal selector.now ≡ None) }
         ensures room { OnOk result (0 < self.new.spare) }
         ensures refused { IfErr result (λ refusal. refusal ≢ Memory → selector_refusal selector.now ≡ Some refusal) }
         ensures unchanged { self.new.list ≡ self.old.list }
     {
-        let created = Sub::new(self.alloc, key, topic, selector)?;
-        self.items.reserve(1)?;
-        Ok(Decision { created })
+        let created = defined(self.alloc, topic, selector, no_local)?;
+        let decision = Decision::new(self.alloc, key, created)?;
+        self.reserve()?;
+        Ok(decision)
     }
 
     /// Makes the change that was decided: the new subscription stands last, in place of any other of
@@ -198,9 +305,8 @@ impl Subs {
         ensures list { self.new.list ≡ put decision self.old.list }
         ensures spare { self.old.spare ≤ self.new.spare + 1 }
     {
-        let Decision { created } = decision;
-        remove_key_of(&mut self.items, &created);
-        self.items.push_reserved(created);
+        self.remove_key(&decision.key);
+        self.add(decision);
     }
 
     /// Ends the own subscriptions of those consumers; the others stay, in their order. Takes no memory.
@@ -208,6 +314,45 @@ impl Subs {
         ensures list { self.new.list ≡ without_own which.now self.old.list }
         ensures spare { self.old.spare ≤ self.new.spare }
     {
-        remove_own(&mut self.items, which);
+        self.remove(&Ending::Own(which));
+    }
+
+    /// Adds the subscription that was decided, of which no other has the key. Takes no memory.
+    fn add(&mut self, decision: Decision)
+        requires room { 0 < self.old.spare }
+        requires new { IsNew decision.key self.old.list }
+        ensures list { self.new.list ≡ self.old.list ++ decision ∷ [] }
+        ensures spare { self.old.spare ≤ self.new.spare + 1 }
+    {
+        let Decision {
+            key,
+            created,
+            topic,
+            keys,
+        } = decision;
+        put_last(&mut self.items, key, created);
+        // The length is what says that the keys of a topic, which are as many at most, can be counted.
+        let _number = self.items.len();
+        self.topics.join(topic, keys);
+    }
+
+    /// Ends the subscription of the key, if there is one. Takes no memory.
+    fn remove_key(&mut self, key: &Key)
+        ensures list { self.new.list ≡ without key.now self.old.list }
+        ensures spare { self.old.spare ≤ self.new.spare }
+    {
+        if self.items.contains_key(key) {
+            self.remove(&Ending::Of(key));
+        }
+    }
+
+    /// Ends the subscriptions that are meant, in a walk over all; the others stay, in their order. Takes no
+    /// memory.
+    fn remove(&mut self, ending: &Ending)
+        ensures list { self.new.list ≡ filter (λ s. not (ends ending.now s.key)) self.old.list }
+        ensures spare { self.old.spare ≤ self.new.spare }
+    {
+        self.items.retain(|key, _| !ending.ends(key));
+        self.topics.remove(ending);
     }
 }

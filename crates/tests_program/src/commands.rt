@@ -19,7 +19,7 @@ enum Command {
 const OWN: &str = "{\"own\":[1,1,1]}";
 
 /// Each command, where nothing is wrong with its words.
-const COMMANDS: [Command; 3] = [Command::Run, Command::Select("x = 1"), Command::Lone(OWN)];
+static COMMANDS: [Command; 3] = [Command::Run, Command::Select("x = 1"), Command::Lone(OWN)];
 
 fn done<R: Read, W: Write>(
     alloc: Global,
@@ -78,8 +78,33 @@ fn lines_of_commands(rt: HostRuntime) {
     holds(&rt, "lone", prints(rt.alloc(), COMMANDS[2], LINES_ALONE));
 }
 
+/// A scenario in which a consumer of a queue has the number 1, and one of a topic the number 2, which was first asked for
+/// one of a queue.
+const QUEUES: &str = r#"{"calls": [
+  {"op": "open", "c": 1, "client": "k"},
+  {"op": "session", "s": [1, 1], "mode": "auto"},
+  {"op": "consumer", "s": [1, 1], "k": 1, "queue": "q"},
+  {"op": "consumer", "s": [1, 1], "k": 2, "queue": "q", "selector": "x = "},
+  {"op": "consumer", "s": [1, 1], "k": 2, "topic": "q"},
+  {"op": "send", "s": [1, 1], "queue": "q", "now": 1000, "props": [["x", "long", 1]], "text": "a"},
+  {"op": "start", "c": 1},
+  {"op": "receive", "s": [1, 1], "k": 2, "now": 1000},
+  {"op": "receive", "s": [1, 1], "k": 1, "now": 1000}
+]}"#;
+
+const QUEUE_LINES: &str = "1 ok
+2 ok
+3 ok
+4 refused InvalidSelector Expected 4
+5 ok
+6 sent 1
+7 ok
+8 none
+9 message ID:1-1.1.1 count=1 redelivered=no priority=4 body=text \"a\"
+";
+
 /// Commands, scenarios, and what is told of the first fault.
-const FAULTS: [(Command, &str, &str); 9] = [
+static FAULTS: [(Command, &str, &str); 11] = [
     (Command::Run, "{", "scenario: syntax"),
     (
         Command::Run,
@@ -103,6 +128,16 @@ const FAULTS: [(Command, &str, &str); 9] = [
     (
         Command::Lone("{\"durable\":[\"k\",\"n\"]}"),
         SCENARIO,
+        "key: not an unshared subscription",
+    ),
+    (
+        Command::Lone(OWN),
+        QUEUES,
+        "key: not an unshared subscription",
+    ),
+    (
+        Command::Lone("{\"own\":[1,1,2]}"),
+        QUEUES,
         "key: not an unshared subscription",
     ),
 ];
@@ -252,7 +287,7 @@ const LIMITED: &str = r#"{"held": 1, "calls": [
 ]}"#;
 
 /// Words with `|` between them, the scenario, and the lines that are printed.
-const PERFORMED: [(&str, &str, &str); 9] = [
+static PERFORMED: [(&str, &str, &str); 11] = [
     ("jmsrun", SCENARIO, LINES),
     ("jmsrun|run|f", SCENARIO, LINES),
     ("jmsrun|select|x = 1|f", SCENARIO, "5 TRUE\n"),
@@ -278,6 +313,8 @@ const PERFORMED: [(&str, &str, &str); 9] = [
         "3 ok\n6 missed 1\n",
     ),
     ("jmsrun|select|x = 1|f", LIMITED, "4 UNKNOWN\n5 UNKNOWN\n"),
+    ("jmsrun", QUEUES, QUEUE_LINES),
+    ("jmsrun|select|x = 1|f", QUEUES, "6 TRUE\n"),
 ];
 
 /// What is printed for the words that stand between the marks; of words that are refused, and of a fault, so much.

@@ -12,9 +12,10 @@ const SELECTOR: Refusal = Refusal::InvalidSelector {
 };
 
 /// Numbers of calls, refusals of them, and the lines.
-const REFUSALS: [(usize, Refusal, &str); 4] = [
+static REFUSALS: [(usize, Refusal, &str); 5] = [
     (4, Refusal::IllegalState, "4 refused IllegalState\n"),
     (50, SELECTOR, "50 refused InvalidSelector Expected 4\n"),
+    (3, Refusal::InvalidClientId, "3 refused InvalidClientId\n"),
     (6, Refusal::Memory, "6 refused Memory\n"),
     (7, Refusal::Store, "7 refused Store\n"),
 ];

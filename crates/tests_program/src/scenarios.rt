@@ -2,7 +2,7 @@
 
 use crate::told::{holds, is_text};
 use jm_base::{Mode, Refusal, Str};
-use jm_dest::{ConnectionId, ConsumerId, Destination, Moment, Name, SessionId};
+use jm_dest::{ClientId, ConnectionId, ConsumerId, Destination, Moment, SessionId};
 use jm_header::Draft;
 use jm_machine::{ClientCall, Request, Who};
 use jm_scenario::{Field, read_scenario};
@@ -10,20 +10,27 @@ use std::alloc::{AllocError, Global};
 
 const CALLS: &str = r#"{"calls": [
   {"op": "open", "c": 1},
+  {"op": "open", "c": 1, "client": "k"},
   {"op": "start", "c": 4294967295},
   {"op": "stop", "c": 2},
   {"op": "close-connection", "c": 2},
   {"op": "session", "s": [1, 2], "mode": "auto"},
   {"op": "session", "s": [1, 2], "mode": "client"},
   {"op": "session", "s": [1, 2], "mode": "dups"},
+  {"op": "session", "s": [1, 2], "mode": "transacted"},
   {"op": "close-session", "s": [1, 2]},
   {"op": "acknowledge", "s": [1, 2]},
   {"op": "recover", "s": [1, 2]},
+  {"op": "commit", "s": [1, 2]},
+  {"op": "rollback", "s": [1, 2]},
   {"op": "close-consumer", "s": [1, 2], "k": 3},
   {"op": "missed", "s": [1, 2], "k": 3},
   {"op": "consumer", "s": [1, 2], "k": 3, "topic": "t", "selector": "x > 0"},
+  {"op": "consumer", "s": [1, 2], "k": 3, "topic": "t", "noLocal": true},
+  {"op": "consumer", "s": [1, 2], "k": 3, "queue": "q", "selector": "x > 0", "noLocal": false},
   {"op": "receive", "s": [1, 2], "k": 3, "now": 9223372036854775807},
-  {"op": "send", "s": [1, 2], "topic": "t", "now": 9223372036854775807, "priority": 9, "text": "a"}
+  {"op": "send", "s": [1, 2], "topic": "t", "now": 9223372036854775807, "priority": 9, "text": "a"},
+  {"op": "send", "s": [1, 2], "queue": "q", "now": 9223372036854775807, "priority": 9, "text": "a"}
 ]}"#;
 
 fn by_connection(connection: u32, request: Request) -> Result<ClientCall, Refusal> {
@@ -50,14 +57,45 @@ fn by_session(request: Request) -> Result<ClientCall, Refusal> {
     }
 }
 
-fn create_consumer(alloc: Global) -> Result<Request, Refusal> {
+fn create_session(mode: Mode) -> Result<ClientCall, Refusal> {
+    by_session(Request::CreateSession { mode })
+}
+
+fn commit() -> Result<ClientCall, Refusal> {
+    match session() {
+        Ok(id) => Ok(ClientCall::CommitSession(id)),
+        Err(refusal) => Err(refusal),
+    }
+}
+
+fn open(alloc: Global) -> Result<Request, Refusal> {
+    let client = ClientId::new(alloc, "k")?;
+    Ok(Request::Open {
+        client: Some(client),
+    })
+}
+
+/// The request for a consumer that selects by `x > 0`.
+fn create_selecting(destination: Destination, alloc: Global) -> Result<Request, Refusal> {
     let consumer = ConsumerId::new(3)?;
-    let topic = Name::new(alloc, "t")?;
     let selector = Str::new(String::from_str(alloc, "x > 0")?);
     Ok(Request::CreateConsumer {
         consumer,
-        topic,
+        destination,
         selector: Some(selector),
+        no_local: false,
+    })
+}
+
+/// The request for a consumer that asks for nothing local.
+fn create_no_local(alloc: Global) -> Result<Request, Refusal> {
+    let consumer = ConsumerId::new(3)?;
+    let destination = Destination::topic(alloc, "t")?;
+    Ok(Request::CreateConsumer {
+        consumer,
+        destination,
+        selector: None,
+        no_local: true,
     })
 }
 
@@ -85,10 +123,9 @@ fn draft(alloc: Global) -> Draft {
     draft
 }
 
-fn send(alloc: Global) -> Result<ClientCall, Refusal> {
+fn send(alloc: Global, destination: Destination) -> Result<ClientCall, Refusal> {
     let session = session()?;
     let now = Moment::new(i64::MAX)?;
-    let destination = Destination::topic(alloc, "t")?;
     let draft = draft(alloc);
     Ok(ClientCall::Send {
         session,
@@ -101,21 +138,28 @@ fn send(alloc: Global) -> Result<ClientCall, Refusal> {
 /// The call of that index.
 fn wanted(alloc: Global, index: usize) -> Result<ClientCall, Refusal> {
     match index {
-        0 => by_connection(1, Request::Open),
-        1 => by_connection(4294967295, Request::Start),
-        2 => by_connection(2, Request::Stop),
-        3 => by_connection(2, Request::CloseConnection),
-        4 => by_session(Request::CreateSession { mode: Mode::Auto }),
-        5 => by_session(Request::CreateSession { mode: Mode::Client }),
-        6 => by_session(Request::CreateSession { mode: Mode::Dups }),
-        7 => by_session(Request::CloseSession),
-        8 => by_session(Request::Acknowledge),
-        9 => by_session(Request::Recover),
-        10 => by_session(close_consumer()?),
-        11 => by_session(missed()?),
-        12 => by_session(create_consumer(alloc)?),
-        13 => by_session(receive()?),
-        _ => send(alloc),
+        0 => by_connection(1, Request::Open { client: None }),
+        1 => by_connection(1, open(alloc)?),
+        2 => by_connection(4294967295, Request::Start),
+        3 => by_connection(2, Request::Stop),
+        4 => by_connection(2, Request::CloseConnection),
+        5 => create_session(Mode::Auto),
+        6 => create_session(Mode::Client),
+        7 => create_session(Mode::Dups),
+        8 => create_session(Mode::Transacted),
+        9 => by_session(Request::CloseSession),
+        10 => by_session(Request::Acknowledge),
+        11 => by_session(Request::Recover),
+        12 => commit(),
+        13 => by_session(Request::Rollback),
+        14 => by_session(close_consumer()?),
+        15 => by_session(missed()?),
+        16 => by_session(create_selecting(Destination::topic(alloc, "t")?, alloc)?),
+        17 => by_session(create_no_local(alloc)?),
+        18 => by_session(create_selecting(Destination::queue(alloc, "q")?, alloc)?),
+        19 => by_session(receive()?),
+        20 => send(alloc, Destination::topic(alloc, "t")?),
+        _ => send(alloc, Destination::queue(alloc, "q")?),
     }
 }
 
@@ -140,11 +184,11 @@ fn count(alloc: Global) -> Option<usize> {
 
 #[test]
 fn calls_of_a_scenario(rt: HostRuntime) {
-    holds(&rt, "calls", count(rt.alloc()) == Some(15));
+    holds(&rt, "calls", count(rt.alloc()) == Some(22));
 }
 
 /// Scenarios and the limits of held rows that they say.
-const LIMITS: [(&str, Option<u32>); 3] = [
+static LIMITS: [(&str, Option<u32>); 3] = [
     ("{\"calls\":[]}", None),
     ("{\"held\":1,\"calls\":[]}", Some(1)),
     ("{\"calls\":[],\"held\":1000000}", Some(1_000_000)),
@@ -173,7 +217,7 @@ fn fault_text(alloc: Global, bytes: &[u8]) -> Result<String, AllocError> {
 }
 
 /// Bytes, and their fault.
-const FAULTS: [(&[u8], &str); 10] = [
+static FAULTS: [(&[u8], &str); 14] = [
     (b"\xff", "Syntax"),
     (b"{}", "Shape { step: 0, field: Known(Calls) }"),
     (
@@ -198,6 +242,22 @@ const FAULTS: [(&[u8], &str); 10] = [
         "Shape { step: 1, field: Unknown(\"k\") }",
     ),
     (
+        b"{\"calls\":[{\"op\":\"commit\",\"c\":1}]}",
+        "Shape { step: 1, field: Known(Session) }",
+    ),
+    (
+        b"{\"calls\":[{\"op\":\"commit\",\"s\":[1,1.5]}]}",
+        "Floating { step: 1 }",
+    ),
+    (
+        b"{\"calls\":[{\"op\":\"rollback\",\"s\":[1,1],\"k\":1}]}",
+        "Shape { step: 1, field: Unknown(\"k\") }",
+    ),
+    (
+        b"{\"calls\":[{\"op\":\"session\",\"s\":[1,1],\"mode\":\"local\"}]}",
+        "Shape { step: 1, field: Known(Mode) }",
+    ),
+    (
         b"{\"calls\":[{\"op\":1.5}]}",
         "Shape { step: 1, field: Known(Operation) }",
     ),
@@ -214,17 +274,19 @@ fn faults_of_scenarios(rt: HostRuntime) {
     }
 }
 
-const FIELDS: [(Field, &str); 19] = [
+static FIELDS: [(Field, &str); 21] = [
     (Field::Calls, "calls"),
     (Field::Held, "held"),
     (Field::Operation, "op"),
     (Field::Connection, "c"),
+    (Field::Client, "client"),
     (Field::Session, "s"),
     (Field::Mode, "mode"),
     (Field::Consumer, "k"),
     (Field::Queue, "queue"),
     (Field::Topic, "topic"),
     (Field::Selector, "selector"),
+    (Field::NoLocal, "noLocal"),
     (Field::Now, "now"),
     (Field::Priority, "priority"),
     (Field::Persistent, "persistent"),

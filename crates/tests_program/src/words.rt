@@ -29,7 +29,7 @@ fn read(alloc: Global, words: &[&str]) -> Result<String, AllocError> {
 }
 
 /// Words after the program's name, with `|` between them, and what they are read as.
-const WORDS: [(&str, &str); 22] = [
+static WORDS: [(&str, &str); 22] = [
     ("jmsrun", "Input"),
     ("jmsrun|run|F", "Run { file: \"F\", held: None }"),
     ("jmsrun|run|--|-F", "Run { file: \"-F\", held: None }"),

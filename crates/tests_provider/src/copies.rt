@@ -1,11 +1,11 @@
 //! Calls, steps, replies and what is held: a copy is the same, and what differs in a part is not.
 
-use crate::calls::{OPS, Op, call, publication, sent};
+use crate::calls::{At, OPS, Op, call, commit, publication, sent};
 use crate::runs::run;
 use crate::told::holds;
 use jm_base::Refusal;
-use jm_core::{Consumer, Core, Station};
-use jm_dest::Key;
+use jm_core::{Consumer, Core, PlacedRow, Station};
+use jm_dest::{Key, Name};
 use jm_header::Message;
 use jm_machine::{
     Answer, Call, ClientCall, Delivery, Reply, Request, Step, Who, copy_reply, same_reply,
@@ -68,8 +68,34 @@ fn is_copied(alloc: Global, who: Who, request: &Request) -> bool {
 fn request_is_copied(alloc: Global, op: Op) -> bool {
     match call(alloc, op) {
         Ok(ClientCall::Ask { who, request }) => is_copied(alloc, who, &request),
-        Ok(ClientCall::Send { .. }) => true,
+        Ok(ClientCall::Send { .. } | ClientCall::CommitSession(_)) => true,
         Err(_) => false,
+    }
+}
+
+/// Calls that differ in one thing each.
+static LIKE: [Op; 12] = [
+    Op::Open(1),
+    Op::OpenFor(1, "c"),
+    Op::OpenFor(1, "d"),
+    Op::Consumer((1, 1), 1, None),
+    Op::ConsumerAt((1, 1), 1, At::Topic("t"), None, true),
+    Op::ConsumerAt((1, 1), 1, At::Topic("t"), Some("x > 0"), true),
+    Op::ConsumerAt((1, 1), 1, At::Topic("u"), None, true),
+    Op::ConsumerAt((1, 1), 1, At::Queue("t"), None, true),
+    Op::ConsumerAt((1, 1), 1, At::Queue("t"), None, false),
+    Op::Send(2, "a", None),
+    Op::SendTo(2, At::Topic("u"), "a", None),
+    Op::SendTo(2, At::Queue("t"), "a", None),
+];
+
+#[test]
+fn like_calls_are_told_apart(rt: HostRuntime) {
+    for (i, one) in LIKE.iter().enumerate() {
+        for (j, other) in LIKE.iter().enumerate() {
+            let told = is_call(rt.alloc(), *one, *other);
+            holds(&rt, "like calls", told == (i == j));
+        }
     }
 }
 
@@ -77,6 +103,9 @@ fn request_is_copied(alloc: Global, op: Op) -> bool {
 fn requests_are_copied(rt: HostRuntime) {
     for op in &OPS {
         holds(&rt, "a request", request_is_copied(rt.alloc(), *op));
+    }
+    for op in &LIKE {
+        holds(&rt, "a like request", request_is_copied(rt.alloc(), *op));
     }
 }
 
@@ -119,30 +148,40 @@ fn copied_replies(alloc: Global) -> (u32, u32) {
 #[test]
 fn replies_are_copied(rt: HostRuntime) {
     let copied = copied_replies(rt.alloc());
-    holds(&rt, "20 replies, 12 of them done", copied == (20, 12));
+    holds(&rt, "27 replies, 16 of them done", copied == (27, 16));
 }
 
-fn copy_is_publication(alloc: Global, one: &Step, count: u32) -> bool {
-    match publication(alloc, 1, None, count) {
-        Ok(other) => copied_step_is(alloc, one, &other),
-        Err(_) => false,
+/// Publications and commits: how many messages each carries, and whether it is a commit.
+static STEPS: [(u32, bool); 6] = [
+    (0, false),
+    (1, false),
+    (2, false),
+    (0, true),
+    (1, true),
+    (2, true),
+];
+
+fn step(alloc: Global, count: u32, is_commit: bool) -> Result<Step, Refusal> {
+    match is_commit {
+        true => commit(alloc, 1, count),
+        false => publication(alloc, 1, At::Topic("t"), None, count),
     }
 }
 
-/// Whether a copy of a publication of so many messages is one of so many others.
-fn is_publication(alloc: Global, one: u32, other: u32) -> bool {
-    match publication(alloc, 1, None, one) {
-        Ok(one) => copy_is_publication(alloc, &one, other),
-        Err(_) => false,
+/// Whether a copy of the one step is the other.
+fn is_copy(alloc: Global, one: (u32, bool), other: (u32, bool)) -> bool {
+    match (step(alloc, one.0, one.1), step(alloc, other.0, other.1)) {
+        (Ok(one), Ok(other)) => copied_step_is(alloc, &one, &other),
+        _ => false,
     }
 }
 
 #[test]
-fn publications_are_told_apart(rt: HostRuntime) {
-    for one in 0..3 {
-        for other in 0..3 {
-            let told = is_publication(rt.alloc(), one, other);
-            holds(&rt, "publications", told == (one == other));
+fn publications_and_commits_are_told_apart(rt: HostRuntime) {
+    for one in &STEPS {
+        for other in &STEPS {
+            let told = is_copy(rt.alloc(), *one, *other);
+            holds(&rt, "steps", told == (one == other));
         }
     }
 }
@@ -167,7 +206,7 @@ fn redelivered(message: Message, count: u32) -> Result<bool, Refusal> {
 }
 
 fn is_redelivery(alloc: Global, count: u32) -> Result<bool, Refusal> {
-    match sent(alloc, 1, "t", None) {
+    match sent(alloc, 1, At::Topic("t"), None) {
         Ok(message) => redelivered(message, count),
         Err(refusal) => Err(refusal),
     }
@@ -191,8 +230,26 @@ fn station_is_copied(alloc: Global, station: &Station) -> bool {
     }
 }
 
+fn row_is_copied(row: &PlacedRow) -> bool {
+    match row.copy() {
+        Ok(copy) => copy == *row,
+        Err(_) => false,
+    }
+}
+
+/// Whether the queue holds one row, a copy of which is the same.
+fn held_by_queue(core: &Core, name: &Name) -> bool {
+    match core.queue_rows(name) {
+        Ok(rows) => rows.len() == 1 && rows.iter().all(row_is_copied),
+        Err(_) => false,
+    }
+}
+
 /// Whether a copy of what is held under the key is the same.
 fn held_under(alloc: Global, core: &Core, key: &Key) -> bool {
+    if let Key::Queue(name) = key {
+        return held_by_queue(core, name);
+    }
     match core.station(key) {
         Ok(Some(station)) => station_is_copied(alloc, &station),
         _ => false,
@@ -218,7 +275,7 @@ fn holds_copies(alloc: Global, core: &Core) -> bool {
 
 fn held_is_copied(alloc: Global, core: &mut Core) -> bool {
     let _ = run(alloc, core, &OPS);
-    core.stations_len() == 2 && holds_copies(alloc, core)
+    core.stations_len() == 3 && holds_copies(alloc, core)
 }
 
 fn run_is_copied(alloc: Global) -> bool {
@@ -230,5 +287,5 @@ fn run_is_copied(alloc: Global) -> bool {
 
 #[test]
 fn what_is_held_is_copied(rt: HostRuntime) {
-    holds(&rt, "two stations", run_is_copied(rt.alloc()));
+    holds(&rt, "three stations and a queue", run_is_copied(rt.alloc()));
 }

@@ -1,6 +1,6 @@
-//! Tests of the provider of `jm_machine`, `jm_sub`, `jm_session`, `jm_core` and `jm_model`, over tables of calls: that calls
-//! find memory and succeed, what they leave, and that what the clauses say was meant. Runs with their lines are cases, and
-//! stand in `cases`.
+//! Tests of the provider of `jm_machine`, `jm_sub`, `jm_session`, `jm_tx`, `jm_core` and `jm_model`, over tables of calls:
+//! that calls find memory and succeed, what they leave, and that what the clauses say was meant. Runs with their lines are
+//! cases, and stand in `cases`.
 #![tactic(auto)]
 
 #[cfg(test)]
@@ -10,9 +10,13 @@ mod calls;
 #[cfg(test)]
 mod copies;
 #[cfg(test)]
+mod halves;
+#[cfg(test)]
 mod lone;
 #[cfg(test)]
 mod plans;
+#[cfg(test)]
+mod queues;
 #[cfg(test)]
 mod runs;
 #[cfg(test)]
@@ -23,3 +27,5 @@ mod sessions;
 mod subscriptions;
 #[cfg(test)]
 mod told;
+#[cfg(test)]
+mod transactions;

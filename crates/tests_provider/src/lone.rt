@@ -1,17 +1,20 @@
 //! What one subscription answers alone, over records of runs, also over such as no run gives.
 
-use crate::calls::{OPS, Op, calls, session, shown};
+use crate::calls::{At, OPS, Op, calls, commit, publication, session, shown};
 use crate::runs::run;
 use crate::told::{holds, is_text, is_told};
 use jm_base::{Mode, Refusal};
 use jm_core::Core;
 use jm_dest::{ConsumerId, Key, Name, Number};
-use jm_machine::{Answer, Entry, Reply};
-use jm_model::{LoneFault, entries, law_isolation, law_reached, lone_replies};
+use jm_machine::{Answer, Entry, Event, Reply, copy_reply};
+use jm_model::{
+    LoneFault, entries, expand, law_isolation, law_isolation_of_events, law_reached,
+    law_two_worlds, lone_replies,
+};
 use std::alloc::{AllocError, Global};
 
 /// Two connections with a session each, a consumer in the first, and a message that it receives.
-const FIRST_MESSAGE: [Op; 9] = [
+static FIRST_MESSAGE: [Op; 9] = [
     Op::Open(1),
     Op::Open(2),
     Op::Session((1, 1), Mode::Auto),
@@ -123,13 +126,15 @@ fn told(alloc: Global, ops: &[Op], places: &[usize], consumer: u32) -> Result<St
     }
 }
 
-/// Consumers, and what their subscriptions answer alone; 0 stands for a queue.
-const ALONE: [(u32, &str); 5] = [
+/// Consumers, and what their subscriptions answer alone; 0 stands for a queue, and 5 is the number of a queue's consumer.
+static ALONE: [(u32, &str); 7] = [
     (0, "not unshared"),
-    (1, "4 ok, 10 a#1, 13 missed 0, "),
+    (1, "4 ok, 13 a#1, 17 missed 0, "),
     (2, "5 ok, "),
-    (3, "6 InvalidSelector Expected 4, 12 IllegalState, "),
-    (4, ""),
+    (3, "6 InvalidSelector Expected 4, 16 IllegalState, "),
+    (4, "7 ok, "),
+    (5, "not unshared"),
+    (6, ""),
 ];
 
 #[test]
@@ -146,7 +151,7 @@ fn wrong_replies_are_not_handed_back(rt: HostRuntime) {
 }
 
 /// A message that comes again after its session recovered, and is acknowledged; then the session closes.
-const REDELIVERED: [Op; 15] = [
+static REDELIVERED: [Op; 15] = [
     Op::Open(1),
     Op::Open(2),
     Op::Session((1, 1), Mode::Client),
@@ -170,8 +175,110 @@ fn what_comes_again_comes_again_alone(rt: HostRuntime) {
     is_text(&rt, "4 ok, 7 a#1, 9 a#2, 12 none, 14 IllegalState, ", told);
 }
 
+/// Two transacted sessions: a message comes with the commit of its session, comes again after a rollback, and is settled by a
+/// commit; another is rolled back.
+static TRANSACTED: [Op; 19] = [
+    Op::Open(1),
+    Op::Open(2),
+    Op::Session((1, 1), Mode::Transacted),
+    Op::Session((2, 1), Mode::Transacted),
+    Op::Consumer((1, 1), 1, None),
+    Op::Start(1),
+    Op::Send(2, "a", None),
+    Op::Receive((1, 1), 1),
+    Op::Commit((2, 1)),
+    Op::Receive((1, 1), 1),
+    Op::Rollback((1, 1)),
+    Op::Receive((1, 1), 1),
+    Op::Commit((1, 1)),
+    Op::Rollback((1, 1)),
+    Op::Receive((1, 1), 1),
+    Op::Send(2, "b", None),
+    Op::Rollback((2, 1)),
+    Op::Commit((2, 1)),
+    Op::Receive((1, 1), 1),
+];
+
+#[test]
+fn what_is_committed_comes_alone(rt: HostRuntime) {
+    let told = told(rt.alloc(), &TRANSACTED, &[], 1);
+    is_text(&rt, "4 ok, 7 none, 9 a#1, 11 a#2, 14 none, 18 none, ", told);
+}
+
+/// A consumer of others' messages, between messages of its own connection's two sessions and one of another.
+static OTHERS: [Op; 13] = [
+    Op::OpenFor(1, "c"),
+    Op::Open(2),
+    Op::Session((1, 1), Mode::Auto),
+    Op::Session((1, 2), Mode::Auto),
+    Op::Session((2, 1), Mode::Auto),
+    Op::ConsumerAt((1, 2), 1, At::Topic("t"), None, true),
+    Op::ConsumerAt((1, 1), 1, At::Topic("t"), None, true),
+    Op::Start(1),
+    Op::Send(1, "a", None),
+    Op::Send(2, "b", None),
+    Op::SendTo(2, At::Queue("t"), "c", None),
+    Op::Receive((1, 1), 1),
+    Op::Receive((1, 1), 1),
+];
+
+#[test]
+fn others_messages_come_alone(rt: HostRuntime) {
+    let told = told(rt.alloc(), &OTHERS, &[], 1);
+    is_text(&rt, "6 ok, 11 b#1, 12 none, ", told);
+}
+
+/// Calls that name number 1 of session 1.1 for a queue too, refused or not.
+static SHARED_NUMBERS: [[Op; 5]; 3] = [
+    [
+        Op::Open(1),
+        Op::Session((1, 1), Mode::Auto),
+        Op::Consumer((1, 1), 1, None),
+        Op::ConsumerAt((1, 1), 1, At::Queue("q"), None, false),
+        Op::Start(1),
+    ],
+    [
+        Op::Open(1),
+        Op::Session((1, 1), Mode::Auto),
+        Op::ConsumerAt((1, 1), 1, At::Queue("q"), Some("x = "), false),
+        Op::Consumer((1, 1), 1, None),
+        Op::Start(1),
+    ],
+    [
+        Op::Open(1),
+        Op::ConsumerAt((1, 1), 1, At::Queue("q"), None, false),
+        Op::Session((1, 1), Mode::Auto),
+        Op::Consumer((1, 1), 1, None),
+        Op::Start(1),
+    ],
+];
+
+#[test]
+fn a_number_that_a_queue_names_too_is_not_unshared(rt: HostRuntime) {
+    for ops in &SHARED_NUMBERS {
+        is_text(&rt, "not unshared", told(rt.alloc(), ops, &[], 1));
+    }
+}
+
+/// Calls that name the number twice for consumers of topics, and a number of another session for a queue's.
+static OWN_NUMBER: [Op; 7] = [
+    Op::Open(1),
+    Op::Session((1, 1), Mode::Auto),
+    Op::Session((1, 2), Mode::Auto),
+    Op::Consumer((1, 1), 1, None),
+    Op::ConsumerAt((1, 1), 1, At::Topic("u"), None, true),
+    Op::ConsumerAt((1, 2), 1, At::Queue("q"), None, false),
+    Op::ConsumerAt((1, 1), 2, At::Queue("q"), None, false),
+];
+
+#[test]
+fn a_number_that_topics_alone_name_is_unshared(rt: HostRuntime) {
+    let told = told(rt.alloc(), &OWN_NUMBER, &[], 1);
+    is_text(&rt, "3 ok, 4 IllegalState, ", told);
+}
+
 /// A connection that is opened again, once a message came.
-const OPENED_TWICE: [Op; 9] = [
+static OPENED_TWICE: [Op; 9] = [
     Op::Open(1),
     Op::Open(2),
     Op::Session((1, 1), Mode::Auto),
@@ -205,7 +312,7 @@ fn a_second_opening_is_not_seen(rt: HostRuntime) {
 }
 
 /// A consumer for which two messages wait.
-const WAITING: [Op; 8] = [
+static WAITING: [Op; 8] = [
     Op::Open(1),
     Op::Open(2),
     Op::Session((1, 1), Mode::Auto),
@@ -217,7 +324,7 @@ const WAITING: [Op; 8] = [
 ];
 
 /// What comes next.
-const GOING_ON: [Op; 4] = [
+static GOING_ON: [Op; 4] = [
     Op::Receive((1, 1), 1),
     Op::Send(2, "c", None),
     Op::Receive((1, 1), 1),
@@ -247,7 +354,7 @@ fn what_waits_in_the_opening_is_delivered(rt: HostRuntime) {
     is_told(&rt, "0 a#1, 2 b#1, 3 c#1, ", told_waiting(rt.alloc()));
 }
 
-const PLACES: [usize; 9] = [0, 1, 2, 3, 4, 5, 6, 7, 8];
+static PLACES: [usize; 9] = [0, 1, 2, 3, 4, 5, 6, 7, 8];
 
 /// How many entries the record has where each reply is that refusal.
 fn count(alloc: Global, refusal: Refusal) -> Result<usize, Refusal> {
@@ -265,8 +372,43 @@ fn a_want_of_memory_leaves_no_entry(rt: HostRuntime) {
     );
 }
 
+/// A publication or a commit of so many messages, its reply, and how many entries it leaves.
+const EVENTS: [(bool, u32, Reply, usize); 6] = [
+    (false, 2, Ok(Answer::Done), 2),
+    (false, 2, Err(Refusal::Exhausted), 0),
+    (true, 0, Ok(Answer::Done), 1),
+    (true, 2, Ok(Answer::Done), 3),
+    (true, 2, Err(Refusal::Exhausted), 0),
+    (true, 2, Err(Refusal::Memory), 0),
+];
+
+/// How many entries the event leaves.
+fn expanded(
+    alloc: Global,
+    is_commit: bool,
+    messages: u32,
+    reply: &Reply,
+) -> Result<usize, Refusal> {
+    let step = match is_commit {
+        true => commit(alloc, 1, messages)?,
+        false => publication(alloc, 1, At::Topic("t"), None, messages)?,
+    };
+    let reply = copy_reply(reply)?;
+    Ok(expand(alloc, &[Event { step, reply }])?.len())
+}
+
+#[test]
+fn what_events_leave(rt: HostRuntime) {
+    for (is_commit, messages, reply, wanted) in &EVENTS {
+        let left = expanded(rt.alloc(), *is_commit, *messages, reply);
+        holds(&rt, "an event", left == Ok(*wanted));
+    }
+}
+
 #[test]
 fn laws_are_stated() {
     law_isolation();
+    law_isolation_of_events();
+    law_two_worlds();
     law_reached();
 }

@@ -1,20 +1,26 @@
 //! Plans: to plan a step and to install it is to make it, and a plan that is let go leaves the core as it was.
 
-use crate::calls::{OPS, Op, call, publication};
+use crate::calls::{At, OPS, Op, call, publication};
 use crate::runs::has_run;
 use crate::told::is_true;
-use jm_base::Refusal;
-use jm_core::{Call, Core, Reply, Station, Step};
-use jm_dest::Key;
+use jm_base::{List, Refusal};
+use jm_core::{Call, Core, Reply, Station, Step, Who};
+use jm_dest::{Key, Name};
 use jm_machine::{ClientCall, same_reply};
 use std::alloc::Global;
 
-/// The step of the call; that of a send publishes a message of session 2.1.
+/// The step of the call; that of a send publishes a message of session 2.1, and that of a commit carries none.
 fn step(alloc: Global, op: Op) -> Result<Step, Refusal> {
     match (op, call(alloc, op)?) {
-        (Op::Send(_, _, x), _) => publication(alloc, 1, x, 1),
+        (Op::Send(_, _, x), _) => publication(alloc, 1, At::Topic("t"), x, 1),
+        (Op::SendTo(_, at, _, x), _) => publication(alloc, 1, at, x, 1),
         (_, ClientCall::Ask { who, request }) => {
             let call = Call::Ask(request);
+            Ok(Step { who, call })
+        }
+        (_, ClientCall::CommitSession(session)) => {
+            let who = Who::Session(session);
+            let call = Call::Commit(List::new(Vec::new(alloc)));
             Ok(Step { who, call })
         }
         _ => Err(Refusal::Store),
@@ -29,8 +35,19 @@ fn holds_station(core: &Core, key: &Key, station: &Option<Station>) -> bool {
     }
 }
 
+/// Whether both hold the same at the queue of that name.
+fn holds_the_same_queue(one: &Core, other: &Core, name: &Name) -> bool {
+    match (one.queue_rows(name), other.queue_rows(name)) {
+        (Ok(rows), Ok(held)) => rows == held,
+        _ => false,
+    }
+}
+
 /// Whether both hold the same under the key.
 fn holds_the_same(one: &Core, other: &Core, key: &Key) -> bool {
+    if let Key::Queue(name) = key {
+        return holds_the_same_queue(one, other, name);
+    }
     match one.station(key) {
         Ok(station) => holds_station(other, key, &station),
         Err(_) => false,
@@ -44,7 +61,9 @@ fn hold_the_same(one: &Core, other: &Core) -> bool {
             return false;
         }
     }
-    one.stations_len() == other.stations_len() && one.kept() == other.kept()
+    one.stations_len() == other.stations_len()
+        && one.kept() == other.kept()
+        && one.kept_by_queues() == other.kept_by_queues()
 }
 
 /// Whether both show the same to callers.

@@ -1,9 +1,9 @@
 //! The core: replies, what is held after them, and stamps of another opening.
 
-use crate::calls::{OPS, Op, calls, publication, shown};
+use crate::calls::{At, OPS, Op, calls, commit, publication, session_of, shown};
 use crate::told::{holds, is_text};
 use jm_base::{Mode, Refusal};
-use jm_core::{Core, Reply, Step};
+use jm_core::{Core, Reply, Step, Who};
 use jm_dest::Key;
 use std::alloc::{AllocError, Global};
 
@@ -32,16 +32,19 @@ fn replies(alloc: Global) -> Result<String, AllocError> {
 }
 
 const REPLIES: &str =
-    "ok, ok, ok, ok, ok, ok, InvalidSelector Expected 4, ok, sent 1, sent 2, a#1, ok, IllegalState, missed 0, ok, ok, ok, \
-     IllegalState, ok, IllegalState, ";
+    "ok, ok, ok, ok, ok, ok, InvalidSelector Expected 4, ok, ok, ok, sent 1, sent 2, sent 3, a#1, none, ok, IllegalState, \
+     missed 0, ok, ok, ok, ok, ok, IllegalState, ok, IllegalState, InvalidClientId, ";
 
 #[test]
 fn replies_of_a_run(rt: HostRuntime) {
     is_text(&rt, REPLIES, replies(rt.alloc()));
 }
 
-/// Whether there is a row under the key.
+/// Whether there is a row under the key, of a queue or of a subscription.
 fn has_rows(core: &Core, key: &Key) -> bool {
+    if let Key::Queue(name) = key {
+        return matches!(core.queue_rows(name), Ok(rows) if rows.len() == 1);
+    }
     match core.station(key) {
         Ok(Some(station)) => !station.rows.as_slice().is_empty(),
         _ => false,
@@ -58,16 +61,17 @@ fn each_has_rows(core: &Core) -> bool {
     true
 }
 
-/// Whether the core holds two connections, three sessions, two consumers, and two subscriptions, each with a row of its own
-/// message, has used two places, and is of opening 1.
+/// Whether the core holds two connections, three sessions, four consumers, three subscriptions with rows of two messages, and
+/// a queue with one, has used three places, and is of opening 1.
 pub(crate) fn has_run(core: &Core) -> bool {
     core.connections().len() == 2
         && core.sessions().len() == 3
-        && core.consumers().len() == 2
-        && core.stations_len() == 2
+        && core.consumers().len() == 4
+        && core.stations_len() == 3
         && each_has_rows(core)
         && core.kept() == 2
-        && core.next_place() == 3
+        && core.kept_by_queues() == 1
+        && core.next_place() == 4
         && core.opening().get() == 1
 }
 
@@ -122,33 +126,59 @@ fn limits_are_up_to_a_million(rt: HostRuntime) {
     );
 }
 
-const SESSION: [Op; 2] = [Op::Open(2), Op::Session((2, 1), Mode::Auto)];
+/// A step with a message that session 2.1 stamped: the mode of sessions 2.1 and 2.2, which of them makes the step, whether it
+/// is a commit, in which opening the message was stamped, and whether the step is accepted in opening 1.
+type Stamp = (Mode, u32, bool, u32, bool);
 
-/// The next place after the step in a core with that session.
-fn next_place_after(alloc: Global, core: &mut Core, step: &Step) -> Result<u64, Refusal> {
-    let _ = run(alloc, core, &SESSION);
+static STAMPS: [Stamp; 8] = [
+    (Mode::Auto, 1, false, 1, true),
+    (Mode::Auto, 1, false, 2, false),
+    (Mode::Auto, 2, false, 1, false),
+    (Mode::Auto, 1, true, 1, false),
+    (Mode::Transacted, 1, true, 1, true),
+    (Mode::Transacted, 1, true, 2, false),
+    (Mode::Transacted, 2, true, 1, false),
+    (Mode::Transacted, 1, false, 1, false),
+];
+
+fn step_of(alloc: Global, stamp: &Stamp) -> Result<Step, Refusal> {
+    let (_, number, is_commit, opening, _) = *stamp;
+    let mut step = match is_commit {
+        true => commit(alloc, opening, 1)?,
+        false => publication(alloc, opening, At::Topic("t"), None, 1)?,
+    };
+    step.who = Who::Session(session_of((2, number))?);
+    Ok(step)
+}
+
+/// Whether the step is accepted in a core with these sessions, and then takes one place, and else is IllegalState and takes
+/// none.
+fn is_answered(alloc: Global, core: &mut Core, stamp: &Stamp, step: &Step) -> bool {
+    let (mode, _, _, _, is_accepted) = *stamp;
+    let sessions = [
+        Op::Open(2),
+        Op::Session((2, 1), mode),
+        Op::Session((2, 2), mode),
+    ];
+    let _ = run(alloc, core, &sessions);
     match core.step(step) {
-        Ok(_) => Ok(core.next_place()),
-        Err(refusal) if core.next_place() == 1 => Err(refusal),
-        Err(_) => Err(Refusal::Store),
+        Ok(_) => is_accepted && core.next_place() == 2,
+        Err(refusal) => {
+            !is_accepted && refusal == Refusal::IllegalState && core.next_place() == 1
+        }
     }
 }
 
-/// The next place after a message of session 2.1 that was stamped in that opening is published in opening 1.
-fn next_place(alloc: Global, opening: u32) -> Result<u64, Refusal> {
-    let step = publication(alloc, opening, None, 1)?;
-    match Core::new(alloc, 1, 100_000) {
-        Ok(mut core) => next_place_after(alloc, &mut core, &step),
-        Err(refusal) => Err(refusal),
+fn is_told(alloc: Global, stamp: &Stamp) -> bool {
+    match (Core::new(alloc, 1, 100_000), step_of(alloc, stamp)) {
+        (Ok(mut core), Ok(step)) => is_answered(alloc, &mut core, stamp, &step),
+        _ => false,
     }
 }
 
 #[test]
 fn foreign_stamps(rt: HostRuntime) {
-    holds(&rt, "1", next_place(rt.alloc(), 1) == Ok(2));
-    holds(
-        &rt,
-        "2",
-        next_place(rt.alloc(), 2) == Err(Refusal::IllegalState),
-    );
+    for stamp in &STAMPS {
+        holds(&rt, "a stamp", is_told(rt.alloc(), stamp));
+    }
 }

@@ -7,7 +7,7 @@ use jm_session::Sends;
 use std::alloc::Global;
 
 /// Sends in order: the connection and the number of the session, and which send of the session it is.
-const SENDS: [(u32, u32, u64); 6] = [
+static SENDS: [(u32, u32, u64); 6] = [
     (1, 1, 1),
     (1, 2, 1),
     (1, 1, 2),

@@ -2,14 +2,17 @@
 
 use crate::told::{holds, is_true};
 use jm_base::{Mode, Refusal};
-use jm_dest::{ConnectionId, ConsumerId, Key, SessionId};
-use jm_machine::Consumer;
+use jm_dest::{ClientId, ConnectionId, ConsumerId, Key, SessionId};
+use jm_machine::{ConnectionState, Consumer};
+use jm_selector::Selector;
 use jm_session::Sessions;
 use std::alloc::Global;
 
 #[derive(Clone, Copy)]
 enum Op {
     Open(u32),
+    /// The same for that client.
+    OpenFor(u32, &'static str),
     Start(u32),
     Stop(u32),
     Session(u32, u32),
@@ -23,19 +26,35 @@ fn session(connection: u32, number: u32) -> Result<SessionId, Refusal> {
     SessionId::new(ConnectionId::new(connection)?, number)
 }
 
-fn consumer(sessions: &mut Sessions, session: SessionId, number: u32) -> Result<(), Refusal> {
+fn consumer(
+    alloc: Global,
+    sessions: &mut Sessions,
+    session: SessionId,
+    number: u32,
+) -> Result<(), Refusal> {
     let id = ConsumerId::new(number)?;
     let key = Key::Own(session, id);
-    sessions.consumer(&session, id, key)
+    sessions.consumer(&session, id, key, Selector::none(alloc))
 }
 
-fn make(sessions: &mut Sessions, op: Op) -> Result<(), Refusal> {
+fn open_for(
+    alloc: Global,
+    sessions: &mut Sessions,
+    number: u32,
+    client: &str,
+) -> Result<(), Refusal> {
+    let id = ConnectionId::new(number)?;
+    sessions.open(id, Some(ClientId::new(alloc, client)?))
+}
+
+fn make(alloc: Global, sessions: &mut Sessions, op: Op) -> Result<(), Refusal> {
     match op {
-        Op::Open(c) => sessions.open(ConnectionId::new(c)?),
+        Op::Open(c) => sessions.open(ConnectionId::new(c)?, None),
+        Op::OpenFor(c, client) => open_for(alloc, sessions, c, client),
         Op::Start(c) => sessions.start(ConnectionId::new(c)?),
         Op::Stop(c) => sessions.stop(ConnectionId::new(c)?),
         Op::Session(c, s) => sessions.session(&session(c, s)?, Mode::Auto),
-        Op::Consumer(c, s, k) => consumer(sessions, session(c, s)?, k),
+        Op::Consumer(c, s, k) => consumer(alloc, sessions, session(c, s)?, k),
         Op::CloseConnection(c) => sessions.close_connection(ConnectionId::new(c)?),
         Op::CloseSession(c, s) => sessions.close_session(&session(c, s)?),
         Op::CloseConsumer(c, s, k) => {
@@ -45,7 +64,7 @@ fn make(sessions: &mut Sessions, op: Op) -> Result<(), Refusal> {
 }
 
 /// Calls, and whether each is done; the others are refused.
-const CALLS: [(Op, bool); 17] = [
+static CALLS: [(Op, bool); 17] = [
     (Op::Session(1, 1), false),
     (Op::Start(1), false),
     (Op::Open(1), true),
@@ -66,14 +85,14 @@ const CALLS: [(Op, bool); 17] = [
 ];
 
 /// Makes the calls in turn, and gives whether each is answered as wanted.
-fn are_made(sessions: &mut Sessions, calls: &[(Op, bool)]) -> bool {
+fn are_made(alloc: Global, sessions: &mut Sessions, calls: &[(Op, bool)]) -> bool {
     for (op, is_done) in calls {
         let wanted = if *is_done {
             Ok(())
         } else {
             Err(Refusal::IllegalState)
         };
-        if make(sessions, *op) != wanted {
+        if make(alloc, sessions, *op) != wanted {
             return false;
         }
     }
@@ -89,20 +108,20 @@ fn has_lists(sessions: &Sessions) -> bool {
 /// What is known after those calls; one that is not answered as wanted is seen by what is missing.
 fn made(alloc: Global) -> Sessions {
     let mut sessions = Sessions::new(alloc);
-    let _ = are_made(&mut sessions, &CALLS);
+    let _ = are_made(alloc, &mut sessions, &CALLS);
     sessions
 }
 
 /// Whether the calls are answered as wanted, after room was made for so many calls.
-fn answers(sessions: &mut Sessions, room: usize) -> Result<bool, Refusal> {
+fn answers(alloc: Global, sessions: &mut Sessions, room: usize) -> Result<bool, Refusal> {
     sessions.reserve(room)?;
-    Ok(are_made(sessions, &CALLS) && has_lists(sessions))
+    Ok(are_made(alloc, sessions, &CALLS) && has_lists(sessions))
 }
 
 /// The same from the first call on.
 fn is_answered(alloc: Global, room: usize) -> Result<bool, Refusal> {
     let mut sessions = Sessions::new(alloc);
-    answers(&mut sessions, room)
+    answers(alloc, &mut sessions, room)
 }
 
 #[test]
@@ -119,7 +138,7 @@ fn connection_known(sessions: &Sessions, connection: u32) -> Result<(bool, bool)
 }
 
 /// Connections, and whether each is used and started.
-const CONNECTIONS: [(u32, (bool, bool)); 3] = [
+static CONNECTIONS: [(u32, (bool, bool)); 3] = [
     (1, (true, true)),
     (2, (true, false)),
     (3, (false, false)),
@@ -150,7 +169,7 @@ fn session_known(sessions: &Sessions, c: u32, s: u32) -> Result<(bool, bool), Re
 }
 
 /// Sessions, and whether each is open, and may be opened.
-const SESSIONS: [(u32, u32, (bool, bool)); 5] = [
+static SESSIONS: [(u32, u32, (bool, bool)); 5] = [
     (1, 1, (true, false)),
     (1, 2, (true, false)),
     (2, 1, (true, false)),
@@ -183,7 +202,7 @@ fn consumer_known(sessions: &Sessions, s: u32, k: u32) -> Result<[bool; 3], Refu
 }
 
 /// Consumers of sessions of connection 1, and whether each was made, may be made, and may receive.
-const CONSUMERS: [(u32, u32, [bool; 3]); 4] = [
+static CONSUMERS: [(u32, u32, [bool; 3]); 4] = [
     (1, 1, [true, false, true]),
     (1, 2, [false, true, false]),
     (2, 1, [true, false, true]),
@@ -213,10 +232,21 @@ fn first_of(sessions: &Sessions, session: &SessionId) -> Result<Option<Consumer>
     }
 }
 
+/// A copy of the connection, where it was opened.
+fn copied_connection(
+    sessions: &Sessions,
+    id: ConnectionId,
+) -> Result<Option<ConnectionState>, Refusal> {
+    match sessions.connection_of(id) {
+        Some(connection) => Ok(Some(connection.copy()?)),
+        None => Ok(None),
+    }
+}
+
 /// The connection, session and consumer of that number, as they are known, and of no other.
 fn one_of(alloc: Global, sessions: &Sessions, number: u32) -> Result<Sessions, Refusal> {
     let session = session(number, 1)?;
-    let connection = sessions.connection_of(session.connection);
+    let connection = copied_connection(sessions, session.connection)?;
     let known = sessions.session_of(&session);
     match first_of(sessions, &session) {
         Ok(consumer) => Ok(Sessions::of_one(alloc, connection, known, consumer)?),
@@ -247,7 +277,7 @@ fn one_known(
 }
 
 /// Connections, how many connections, sessions and consumers are taken of each, and whether it is started.
-const TAKEN: [(u32, ([usize; 3], bool)); 3] = [
+static TAKEN: [(u32, ([usize; 3], bool)); 3] = [
     (1, ([1, 1, 1], true)),
     (2, ([1, 1, 0], false)),
     (3, ([0, 0, 0], false)),
@@ -269,7 +299,7 @@ fn what_is_known_of_one_session(rt: HostRuntime) {
 }
 
 /// Calls after those, and whether each is done; the others are refused.
-const CLOSES: [(Op, bool); 22] = [
+static CLOSES: [(Op, bool); 22] = [
     (Op::CloseConsumer(1, 1, 2), false),
     (Op::CloseConsumer(1, 3, 1), false),
     (Op::CloseConsumer(1, 1, 1), true),
@@ -306,14 +336,14 @@ fn open_parts(sessions: &Sessions, connection: u32) -> Result<[bool; 3], Refusal
 }
 
 /// Connections, and whether each, its session 1, and consumer 1 of that are open before those calls.
-const OPEN: [(u32, [bool; 3]); 3] = [
+static OPEN: [(u32, [bool; 3]); 3] = [
     (1, [true, true, true]),
     (2, [true, true, false]),
     (3, [false, false, false]),
 ];
 
 /// The same after them.
-const OPEN_AFTER: [(u32, [bool; 3]); 3] = [
+static OPEN_AFTER: [(u32, [bool; 3]); 3] = [
     (1, [false, false, false]),
     (2, [true, true, false]),
     (3, [false, false, false]),
@@ -329,15 +359,112 @@ fn are_open(sessions: &Sessions, rows: &[(u32, [bool; 3])]) -> bool {
 }
 
 /// Whether those calls close what they should, and all stays known.
-fn are_closed(sessions: &mut Sessions) -> bool {
+fn are_closed(alloc: Global, sessions: &mut Sessions) -> bool {
     are_open(sessions, &OPEN)
-        && are_made(sessions, &CLOSES)
+        && are_made(alloc, sessions, &CLOSES)
         && are_open(sessions, &OPEN_AFTER)
         && has_lists(sessions)
 }
 
 #[test]
 fn closing_calls(rt: HostRuntime) {
-    let are_closed = are_closed(&mut made(rt.alloc()));
+    let are_closed = are_closed(rt.alloc(), &mut made(rt.alloc()));
     holds(&rt, "closings", are_closed);
+}
+
+/// Calls of connections with clients, and what each is told.
+static CLIENTS: [(Op, Result<(), Refusal>); 13] = [
+    (Op::OpenFor(1, "c"), Ok(())),
+    (Op::OpenFor(2, "c"), Err(Refusal::InvalidClientId)),
+    (Op::OpenFor(1, "c"), Err(Refusal::IllegalState)),
+    (Op::OpenFor(2, "d"), Ok(())),
+    (Op::OpenFor(3, "C"), Ok(())),
+    (Op::Open(4), Ok(())),
+    (Op::Open(5), Ok(())),
+    (Op::CloseConnection(2), Ok(())),
+    (Op::OpenFor(6, "d"), Ok(())),
+    (Op::OpenFor(7, "d"), Err(Refusal::InvalidClientId)),
+    (Op::CloseConnection(1), Ok(())),
+    (Op::CloseConnection(1), Ok(())),
+    (Op::CloseConnection(2), Ok(())),
+];
+
+/// Makes those calls, and gives whether each is told what is wanted.
+fn are_told(alloc: Global, sessions: &mut Sessions) -> bool {
+    for (op, wanted) in &CLIENTS {
+        if make(alloc, sessions, *op) != *wanted {
+            return false;
+        }
+    }
+    true
+}
+
+/// Clients, and whether an open connection has each after those calls.
+static TAKEN_CLIENTS: [(&str, bool); 4] = [("c", false), ("d", true), ("C", true), ("e", false)];
+
+fn is_taken(alloc: Global, sessions: &Sessions, client: &str) -> Result<bool, Refusal> {
+    let client = Some(ClientId::new(alloc, client)?);
+    Ok(sessions.is_client_taken(&client))
+}
+
+/// Whether the clients are taken so, and a connection of none takes none.
+fn are_taken(alloc: Global, sessions: &Sessions) -> bool {
+    for (client, wanted) in &TAKEN_CLIENTS {
+        if is_taken(alloc, sessions, client) != Ok(*wanted) {
+            return false;
+        }
+    }
+    !sessions.is_client_taken(&None)
+}
+
+/// Whether the connection of that number was opened for that client, or for none.
+fn is_for(sessions: &Sessions, number: u32, wanted: Option<&str>) -> bool {
+    match (ConnectionId::new(number), wanted) {
+        (Ok(id), Some(wanted)) => {
+            matches!(sessions.client_of(id), Some(client) if client.as_str() == wanted)
+        }
+        (Ok(id), None) => sessions.client_of(id).is_none(),
+        _ => false,
+    }
+}
+
+/// Connections, and the client of each after those calls, which a closed one keeps.
+static CLIENTS_OF: [(u32, Option<&str>); 7] = [
+    (1, Some("c")),
+    (2, Some("d")),
+    (3, Some("C")),
+    (4, None),
+    (5, None),
+    (6, Some("d")),
+    (7, None),
+];
+
+fn are_for(sessions: &Sessions) -> bool {
+    for (number, wanted) in &CLIENTS_OF {
+        if !is_for(sessions, *number, *wanted) {
+            return false;
+        }
+    }
+    true
+}
+
+/// Whether all this holds, also of a copy, after room was made for so many calls.
+fn clients_stand(alloc: Global, room: usize) -> Result<bool, Refusal> {
+    let mut sessions = Sessions::new(alloc);
+    sessions.reserve(room)?;
+    let are_told = are_told(alloc, &mut sessions);
+    let copy = sessions.copy()?;
+    Ok(
+        are_told
+            && are_taken(alloc, &sessions)
+            && are_for(&sessions)
+            && are_taken(alloc, &copy)
+            && are_for(&copy),
+    )
+}
+
+#[test]
+fn clients_of_connections(rt: HostRuntime) {
+    is_true(&rt, "no room", clients_stand(rt.alloc(), 0));
+    is_true(&rt, "room for all", clients_stand(rt.alloc(), 13));
 }

@@ -1,9 +1,9 @@
 //! Subscriptions in order of creation: who accepts a message, and what a new one replaces.
 
-use crate::calls::{selector, sent, session};
+use crate::calls::{At, selector, sent, session};
 use crate::told::{holds, is_text};
 use jm_base::{Cause, Refusal, Str};
-use jm_dest::{ConnectionId, ConsumerId, Key, Name};
+use jm_dest::{ClientId, ConnectionId, ConsumerId, Key, Name, SubscriptionName};
 use jm_header::Message;
 use jm_machine::Consumers;
 use jm_sub::Subs;
@@ -18,7 +18,7 @@ fn key(consumer: u32) -> Result<Key, Refusal> {
 type Row = (u32, &'static str, Option<&'static str>);
 
 /// Four subscriptions; those of 1 and 4 are equal but for the topic.
-const FOUR: [Row; 4] = [
+static FOUR: [Row; 4] = [
     (1, "t", Some("x > 0")),
     (3, "t", None),
     (2, "t", Some("NOT x > 0")),
@@ -32,7 +32,7 @@ fn put(
     topic: &Name,
     selector: &Option<Str>,
 ) -> Result<(), Refusal> {
-    let decision = subs.decide_create(key(consumer)?, topic, selector)?;
+    let decision = subs.decide_create(key(consumer)?, topic, selector, false)?;
     subs.apply(decision);
     Ok(())
 }
@@ -76,19 +76,24 @@ fn consumers(alloc: Global, keys: &[Key]) -> Result<String, AllocError> {
     Ok(text)
 }
 
-/// The consumers whose subscriptions accept a message to that topic with that property x.
-fn takers(alloc: Global, topic: &str, x: Option<i64>) -> Result<String, AllocError> {
-    let Ok(message) = sent(alloc, 1, topic, x) else {
-        return Err(AllocError);
-    };
-    match four(alloc).accepting(&message) {
+/// The consumers whose subscriptions accept the message.
+fn takers_of(alloc: Global, subs: &Subs, message: &Message) -> Result<String, AllocError> {
+    match subs.accepting(message, None) {
         Ok(keys) => consumers(alloc, &keys),
         Err(_) => Err(AllocError),
     }
 }
 
+/// The consumers whose subscriptions accept a message to that topic with that property x.
+fn takers(alloc: Global, topic: &'static str, x: Option<i64>) -> Result<String, AllocError> {
+    let Ok(message) = sent(alloc, 1, At::Topic(topic), x) else {
+        return Err(AllocError);
+    };
+    takers_of(alloc, &four(alloc), &message)
+}
+
 /// Topics and properties of messages, and who accepts each.
-const TAKERS: [(&str, Option<i64>, &str); 6] = [
+static TAKERS: [(&str, Option<i64>, &str); 6] = [
     ("t", Some(1), "1 3 "),
     ("t", Some(0), "3 2 "),
     ("t", None, "3 "),
@@ -114,7 +119,7 @@ fn refusal(alloc: Global, selector: &'static str) -> Option<Refusal> {
 }
 
 /// Selectors that are refused, where, and why.
-const REFUSED: [(&str, usize, Cause); 2] = [
+static REFUSED: [(&str, usize, Cause); 2] = [
     ("x = ", 4, Cause::Expected),
     ("x = 7E3", 4, Cause::Floating),
 ];
@@ -139,8 +144,8 @@ fn found(subs: &Subs, consumer: u32, message: &Message) -> Option<(usize, bool, 
     if at >= subs.len() {
         return None;
     }
-    let has_selector = subs.definition_at(at).selector.is_some();
-    Some((at, has_selector, subs.accepts_at(at, message)))
+    let has_selector = !subs.definition_at(at).selector.is_none();
+    Some((at, has_selector, subs.accepts_at(at, message, None)))
 }
 
 /// A copy of the four subscriptions, after the first was replaced.
@@ -151,7 +156,7 @@ fn replaced(alloc: Global) -> Result<Subs, Refusal> {
 }
 
 /// Consumers, and where the subscription of each stands, whether it has a selector, and whether it accepts a message to u.
-const FOUND: [(u32, Option<(usize, bool, bool)>); 4] = [
+static FOUND: [(u32, Option<(usize, bool, bool)>); 4] = [
     (1, Some((3, false, true))),
     (3, Some((0, false, false))),
     (4, Some((2, true, false))),
@@ -170,7 +175,10 @@ fn are_found(subs: &Subs, message: &Message) -> bool {
 
 #[test]
 fn replaced_subscription(rt: HostRuntime) {
-    let is_replaced = match (replaced(rt.alloc()), sent(rt.alloc(), 1, "u", None)) {
+    let is_replaced = match (
+        replaced(rt.alloc()),
+        sent(rt.alloc(), 1, At::Topic("u"), None),
+    ) {
         (Ok(subs), Ok(message)) => are_found(&subs, &message),
         _ => false,
     };
@@ -195,15 +203,20 @@ fn meant(closing: Closing) -> Result<Consumers, Refusal> {
     }
 }
 
+/// Where that consumer's subscription stands.
+fn place(subs: &Subs, consumer: u32) -> Option<usize> {
+    match key(consumer) {
+        Ok(key) => subs.position(&key),
+        Err(_) => None,
+    }
+}
+
 /// Where the subscriptions of consumers 1 to 3 stand after that closing, and how many there are.
 fn kept(alloc: Global, closing: Closing) -> Result<([Option<usize>; 3], usize), Refusal> {
+    let consumers = meant(closing)?;
     let mut subs = four(alloc);
-    subs.close(&meant(closing)?);
-    let places = [
-        subs.position(&key(1)?),
-        subs.position(&key(2)?),
-        subs.position(&key(3)?),
-    ];
+    subs.close(&consumers);
+    let places = [place(&subs, 1), place(&subs, 2), place(&subs, 3)];
     Ok((places, subs.len()))
 }
 
@@ -222,4 +235,183 @@ fn closed_consumers(rt: HostRuntime) {
     for (closing, wanted) in &KEPT {
         holds(&rt, "a closing", kept(rt.alloc(), *closing) == Ok(*wanted));
     }
+}
+
+/// Subscriptions of three topics, by turns.
+static TURNS: [Row; 6] = [
+    (1, "a", None),
+    (2, "b", None),
+    (3, "a", None),
+    (4, "c", None),
+    (5, "b", None),
+    (6, "a", None),
+];
+
+/// What happens to those.
+#[derive(Clone, Copy)]
+enum Change {
+    Nothing,
+    /// That consumer of session 1 of connection 1 closes.
+    Close(u32),
+    /// That consumer's subscription is made anew, to that topic.
+    Create(u32, &'static str),
+}
+
+fn make_change(alloc: Global, subs: &mut Subs, change: Change) -> Result<(), Refusal> {
+    match change {
+        Change::Nothing => Ok(()),
+        Change::Close(consumer) => {
+            subs.close(&meant(Closing::One(1, consumer))?);
+            Ok(())
+        }
+        Change::Create(consumer, topic) => create(alloc, subs, (consumer, topic, None)),
+    }
+}
+
+/// The subscriptions after that change; a want of memory is seen by what is missing.
+fn changed(alloc: Global, it: Change) -> Subs {
+    let mut subs = Subs::new(alloc);
+    for row in &TURNS {
+        let _ = create(alloc, &mut subs, *row);
+    }
+    let _ = make_change(alloc, &mut subs, it);
+    subs
+}
+
+/// How many topics have subscriptions in a copy.
+fn topics_of_copy(subs: &Subs) -> Option<usize> {
+    match subs.copy() {
+        Ok(copy) => Some(copy.topics()),
+        Err(_) => None,
+    }
+}
+
+/// How many topics have subscriptions after that change, also in a copy.
+fn topics(alloc: Global, it: Change) -> (usize, Option<usize>) {
+    let subs = changed(alloc, it);
+    (subs.topics(), topics_of_copy(&subs))
+}
+
+/// The consumers whose subscriptions accept a message to that topic after that change.
+fn takers_after(alloc: Global, it: Change, topic: &'static str) -> Result<String, AllocError> {
+    let Ok(message) = sent(alloc, 1, At::Topic(topic), None) else {
+        return Err(AllocError);
+    };
+    takers_of(alloc, &changed(alloc, it), &message)
+}
+
+/// Changes, how many topics have subscriptions after each, and who accepts a message to each of a, b, c and d then.
+static CHANGES: [(Change, usize, [&str; 4]); 8] = [
+    (Change::Nothing, 3, ["1 3 6 ", "2 5 ", "4 ", ""]),
+    (Change::Close(1), 3, ["3 6 ", "2 5 ", "4 ", ""]),
+    (Change::Close(4), 2, ["1 3 6 ", "2 5 ", "", ""]),
+    (Change::Close(7), 3, ["1 3 6 ", "2 5 ", "4 ", ""]),
+    (Change::Create(1, "a"), 3, ["3 6 1 ", "2 5 ", "4 ", ""]),
+    (Change::Create(4, "a"), 2, ["1 3 6 4 ", "2 5 ", "", ""]),
+    (Change::Create(3, "d"), 4, ["1 6 ", "2 5 ", "4 ", "3 "]),
+    (Change::Create(7, "b"), 3, ["1 3 6 ", "2 5 7 ", "4 ", ""]),
+];
+
+#[test]
+fn many_topics(rt: HostRuntime) {
+    for (it, number, takers) in &CHANGES {
+        holds(
+            &rt,
+            "topics",
+            topics(rt.alloc(), *it) == (*number, Some(*number)),
+        );
+        is_text(&rt, takers[0], takers_after(rt.alloc(), *it, "a"));
+        is_text(&rt, takers[1], takers_after(rt.alloc(), *it, "b"));
+        is_text(&rt, takers[2], takers_after(rt.alloc(), *it, "c"));
+        is_text(&rt, takers[3], takers_after(rt.alloc(), *it, "d"));
+    }
+}
+
+/// Whose subscription it is: that of a consumer of session 1 of that connection, or a name with that client or none.
+#[derive(Clone, Copy)]
+enum Owner {
+    Consumer(u32),
+    Named(Option<&'static str>),
+}
+
+fn client(alloc: Global, client: Option<&str>) -> Result<Option<ClientId>, Refusal> {
+    match client {
+        Some(client) => Ok(Some(ClientId::new(alloc, client)?)),
+        None => Ok(None),
+    }
+}
+
+fn key_of(alloc: Global, owner: Owner) -> Result<Key, Refusal> {
+    match owner {
+        Owner::Consumer(c) => Ok(Key::Own(session(c)?, ConsumerId::new(1)?)),
+        Owner::Named(of) => {
+            let name = SubscriptionName::new(alloc, "s")?;
+            Ok(Key::Durable(client(alloc, of)?, name))
+        }
+    }
+}
+
+/// A subscription: whose it is, and whether it asks for no messages of local publishers; the client of the connection that
+/// publishes, connection 2; and whether the subscription accepts the message.
+type Local = (Owner, bool, Option<&'static str>, bool);
+
+static LOCAL: [Local; 12] = [
+    (Owner::Consumer(1), false, None, true),
+    (Owner::Consumer(1), true, None, true),
+    (Owner::Consumer(2), false, None, true),
+    (Owner::Consumer(2), true, None, false),
+    (Owner::Consumer(1), true, Some("c"), true),
+    (Owner::Consumer(2), true, Some("c"), false),
+    (Owner::Named(Some("c")), false, Some("c"), true),
+    (Owner::Named(Some("c")), true, Some("c"), false),
+    (Owner::Named(Some("c")), true, Some("d"), true),
+    (Owner::Named(Some("c")), true, None, true),
+    (Owner::Named(None), true, Some("c"), true),
+    (Owner::Named(None), true, None, true),
+];
+
+/// Whether the one subscription accepts the message, as all ways to ask say.
+fn says(subs: &Subs, message: &Message, publisher: Option<&ClientId>) -> Option<bool> {
+    if subs.is_empty() {
+        return None;
+    }
+    let accepts = subs.accepts_at(0, message, publisher);
+    match subs.accepting(message, publisher) {
+        Ok(keys) if keys.len() == usize::from(accepts) => Some(accepts),
+        _ => None,
+    }
+}
+
+/// Whether the row's subscription accepts a message that connection 2 publishes.
+fn accepted(alloc: Global, row: &Local) -> Result<Option<bool>, Refusal> {
+    let (owner, no_local, publisher, _) = *row;
+    let publisher = client(alloc, publisher)?;
+    let key = key_of(alloc, owner)?;
+    let topic = Name::new(alloc, "t")?;
+    let message = sent(alloc, 1, At::Topic("t"), None)?;
+    let mut subs = Subs::new(alloc);
+    let decision = subs.decide_create(key, &topic, &None, no_local)?;
+    subs.apply(decision);
+    Ok(says(&subs, &message, publisher.as_ref()))
+}
+
+#[test]
+fn local_publishers(rt: HostRuntime) {
+    for (i, row) in LOCAL.iter().enumerate() {
+        let is_accepted = accepted(rt.alloc(), row) == Ok(Some(row.3));
+        assert!(&rt; is_accepted, "row {i}");
+    }
+}
+
+/// The consumers whose subscriptions accept a message to the queue of that name.
+fn takers_of_queue(alloc: Global) -> Result<String, AllocError> {
+    let Ok(message) = sent(alloc, 1, At::Queue("t"), Some(1)) else {
+        return Err(AllocError);
+    };
+    takers_of(alloc, &four(alloc), &message)
+}
+
+#[test]
+fn no_subscription_accepts_what_goes_to_a_queue(rt: HostRuntime) {
+    is_text(&rt, "", takers_of_queue(rt.alloc()));
 }

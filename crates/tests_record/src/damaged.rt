@@ -7,13 +7,13 @@ use std::alloc::{AllocError, Global};
 use std::process::Abort;
 
 /// Where the fields begin, and where the last of them ends.
-const STARTS: [usize; 43] = [
+static STARTS: [usize; 43] = [
     0, 1, 5, 9, 13, 21, 29, 37, 38, 39, 40, 49, 50, 59, 60, 69, 70, 80, 88, 97, 98, 99, 108, 109,
     110, 119, 120, 122, 134, 135, 139, 148, 149, 157, 166, 167, 177, 196, 197, 206, 226, 227, 231,
 ];
 
 /// A place, a byte that makes a number, a mark or a tag there one that is not allowed, and where that is told.
-const NUMBERS: [(usize, u8, usize); 22] = [
+static NUMBERS: [(usize, u8, usize); 22] = [
     (0, 0, 0),
     (0, 2, 0),
     (4, 0, 1),
@@ -39,7 +39,7 @@ const NUMBERS: [(usize, u8, usize); 22] = [
 ];
 
 /// The same of a text or a name, or of a value or a tag that its name may not have.
-const TEXTS: [(usize, u8, usize); 19] = [
+static TEXTS: [(usize, u8, usize); 19] = [
     (47, 0, 40),
     (48, 0x1f, 40),
     (48, 0x7f, 40),
@@ -62,12 +62,12 @@ const TEXTS: [(usize, u8, usize); 19] = [
 ];
 
 /// Where a field begins with a length.
-const BLOCKS: [usize; 14] = [
+static BLOCKS: [usize; 14] = [
     40, 50, 60, 70, 88, 99, 110, 122, 139, 157, 167, 177, 197, 206,
 ];
 
 /// A place, and a byte that is allowed there.
-const LIMITS: [(usize, u8); 16] = [
+static LIMITS: [(usize, u8); 16] = [
     (1, 0xff),
     (4, 1),
     (5, 0xff),

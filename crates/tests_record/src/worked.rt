@@ -9,7 +9,7 @@ use jm_header::{Draft, Message, stamp};
 use jm_property::Property;
 use std::alloc::Global;
 
-const RECORD: [u8; 88] = [
+static RECORD: [u8; 88] = [
     1, 0, 0, 0, 1, 0, 0, 0, 1, 0, 0, 0, 1, // version, opening, connection, session
     0, 0, 0, 0, 0, 0, 0, 1, // number
     0, 0, 0, 0, 0, 0, 3, 0xe8, // timestamp

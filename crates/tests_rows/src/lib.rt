@@ -3,6 +3,8 @@
 #![tactic(auto)]
 
 #[cfg(test)]
+mod held;
+#[cfg(test)]
 mod keys;
 #[cfg(test)]
 mod loaded;
@@ -18,3 +20,5 @@ mod rows;
 mod steps;
 #[cfg(test)]
 mod tables;
+#[cfg(test)]
+mod told;

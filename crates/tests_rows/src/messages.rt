@@ -1,21 +1,25 @@
 //! Messages and keys of a test.
 
-use jm_base::Refusal;
+use jm_base::{Refusal, Str};
 use jm_dest::{ConnectionId, ConsumerId, Destination, Key, Moment, Number, SessionId};
 use jm_header::{Body, Draft, Message, Sender, stamp};
+use jm_selector::Selector;
 use std::alloc::Global;
 
-/// What a message differs in: its text, its priority, and its time to live in milliseconds, where 0 means without end.
+/// What a message differs in: its text, which is its JMSType too, its priority, and its time to live in milliseconds,
+/// where 0 means without end.
 pub(crate) type Words = (&'static str, u8, i64);
 
-fn session() -> Result<SessionId, Refusal> {
-    SessionId::new(ConnectionId::new(1)?, 1)
+/// The session of that number.
+pub(crate) fn session(number: u32) -> Result<SessionId, Refusal> {
+    SessionId::new(ConnectionId::new(1)?, number)
 }
 
 /// A draft of those words; a want of memory is seen by what is missing.
 fn draft(alloc: Global, words: Words) -> Draft {
     let mut draft = Draft::new(alloc);
     let _ = draft.set_text(words.0);
+    let _ = draft.set_type(words.0);
     let _ = draft.set_priority(words.1);
     let _ = draft.set_time_to_live(words.2);
     draft
@@ -24,16 +28,27 @@ fn draft(alloc: Global, words: Words) -> Draft {
 /// A message of those words to the topic t, sent at the moment 1000.
 pub(crate) fn sent(alloc: Global, words: Words) -> Result<Message, Refusal> {
     let opening = Number::new(1)?;
-    let session = session()?;
+    let session = session(1)?;
     let now = Moment::new(1000)?;
     let topic = Destination::topic(alloc, "t")?;
     let sender = Sender { opening, session };
     stamp(draft(alloc, words), topic, sender, 1, now)
 }
 
-/// The key of the consumer of that number.
-pub(crate) fn key(number: u32) -> Result<Key, Refusal> {
-    Ok(Key::Own(session()?, ConsumerId::new(number)?))
+/// The selector of that text.
+pub(crate) fn selector(alloc: Global, text: &str) -> Result<Selector, Refusal> {
+    let text = String::from_str(alloc, text)?;
+    Selector::read(alloc, &Some(Str::new(text)))
+}
+
+/// The key of the consumer, by the numbers of its session and its own.
+pub(crate) fn key(of: (u32, u32)) -> Result<Key, Refusal> {
+    Ok(Key::Own(session(of.0)?, ConsumerId::new(of.1)?))
+}
+
+/// Whether there is a message.
+pub(crate) fn is_there(message: Option<Message>) -> bool {
+    message.is_some()
 }
 
 /// Whether the message has that text.

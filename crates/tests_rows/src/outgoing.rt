@@ -1,32 +1,30 @@
 //! Rows that go out to sessions, are settled, and wait again; keys that close; publications that are missed.
 
-ghost use Rattle.std.specs.Prelude.{◌<◌, nat_eq, All, length};
-ghost use Rattle.std.specs.List.{IsDistinct};
-ghost use Rattle.jm_machine.specs.Machine.{places_end};
-
-use crate::messages::{Words, is_text, sent};
+use crate::held::{HeldStations, delivers, publish_to};
+use crate::keys::create;
+use crate::messages::{Words, selector, session};
+use crate::told::is_number;
 use jm_base::Refusal;
-use jm_dest::{ConnectionId, ConsumerId, Key, Moment, SessionId};
-use jm_header::Message;
+use jm_dest::{ConnectionId, ConsumerId, Moment};
 use jm_machine::{Answer, Consumers};
 use jm_stations::Stations;
 use std::alloc::Global;
 
-/// The consumers that a step is about, by numbers of a connection, a session and a consumer.
-#[derive(Clone, Copy)]
+/// The consumers that a step is about, by the number of a connection, or of a session of the connection 1.
 enum Which {
     OfConnection(u32),
-    OfSession(u32, u32),
+    OfSession(u32),
 }
 
 /// What is done to what is held under the keys.
-#[derive(Clone, Copy)]
 enum Op {
     /// A message comes to both keys.
     Publish(Words),
     /// The next row under the key with that index goes out to its session at that moment, and this text with this
     /// count is handed out, or nothing where the text is empty.
     Deliver(usize, i64, &'static str, u32),
+    /// The same of those rows that the selector selects.
+    DeliverWhere(usize, i64, &'static str, &'static str, u32),
     Settle(Which),
     GiveBack(Which),
     Close(Which),
@@ -35,49 +33,23 @@ enum Op {
 /// What is done, how many messages are kept after it, and how many publications the first key missed.
 type Step = (Op, usize, u64);
 
-/// The sessions of the two keys, by the numbers of connection and session.
-const SESSIONS: [(u32, u32); 2] = [(1, 1), (1, 2)];
+/// The sessions of the two keys, each of its first consumer.
+static SESSIONS: [u32; 2] = [1, 2];
 
-fn session(connection: u32, number: u32) -> Result<SessionId, Refusal> {
-    SessionId::new(ConnectionId::new(connection)?, number)
-}
-
-fn consumers(which: Which) -> Result<Consumers, Refusal> {
+fn consumers(which: &Which) -> Result<Consumers, Refusal> {
     match which {
         Which::OfConnection(connection) => {
-            Ok(Consumers::OfConnection(ConnectionId::new(connection)?))
+            Ok(Consumers::OfConnection(ConnectionId::new(*connection)?))
         }
-        Which::OfSession(connection, number) => {
-            Ok(Consumers::OfSession(session(connection, number)?))
-        }
+        Which::OfSession(number) => Ok(Consumers::OfSession(session(*number)?)),
     }
-}
-
-/// Adds the key of the first consumer of the session.
-fn create(stations: &mut Stations, of: (u32, u32), limit: Option<u32>) -> Result<(), Refusal> {
-    stations.reserve_key()?;
-    let key = Key::Own(session(of.0, of.1)?, ConsumerId::new(1)?);
-    if stations.index_of(&key).is_none() {
-        stations.create(key, limit);
-    }
-    Ok(())
-}
-
-fn publish_to(stations: &mut Stations, message: Message, indexes: &[usize]) -> Result<(), Refusal>
-    requires places { stations.old.next_place < places_end }
-    requires within { All (λ i. i < length stations.old.list) indexes.now }
-    requires once { IsDistinct nat_eq indexes.now }
-{
-    stations.reserve(indexes, 1)?;
-    stations.publish(message, indexes);
-    Ok(())
 }
 
 fn publish(alloc: Global, stations: &mut Stations, words: Words) -> Result<(), Refusal> {
     if stations.len() < 2 || stations.next_place() > 100 {
         return Err(Refusal::IllegalState);
     }
-    publish_to(stations, sent(alloc, words)?, &[0, 1])
+    publish_to(alloc, stations, words, &[0, 1])
 }
 
 fn deliver(stations: &mut Stations, index: usize, at: i64) -> Result<Answer, Refusal> {
@@ -85,42 +57,56 @@ fn deliver(stations: &mut Stations, index: usize, at: i64) -> Result<Answer, Ref
     if index >= stations.len() || index >= 2 {
         return Err(Refusal::IllegalState);
     }
-    let (connection, number) = SESSIONS[index];
-    let to = session(connection, number)?;
+    let to = session(SESSIONS[index])?;
     let consumer = ConsumerId::new(1)?;
     let copy = stations.copy_for(index, now, false)?;
     Ok(stations.deliver(index, now, copy, to, consumer))
 }
 
-fn delivers(stations: &mut Stations, index: usize, at: i64, text: &str, count: u32) -> bool {
-    match deliver(stations, index, at) {
-        Ok(Answer::Delivered(delivery)) => {
-            delivery.count == count && is_text(&delivery.message, text)
-        }
-        Ok(_) => text.is_empty(),
-        Err(_) => false,
+fn deliver_where(
+    alloc: Global,
+    stations: &mut Stations,
+    index: usize,
+    at: i64,
+    text: &str,
+) -> Result<Answer, Refusal> {
+    let now = Moment::new(at)?;
+    if index >= stations.len() || index >= 2 {
+        return Err(Refusal::IllegalState);
     }
+    let to = session(SESSIONS[index])?;
+    let consumer = ConsumerId::new(1)?;
+    let selector = selector(alloc, text)?;
+    let copy = stations.copy_where(index, now, false, &selector)?;
+    Ok(stations.deliver_where(index, now, &selector, copy, to, consumer))
 }
 
-fn settle(stations: &mut Stations, which: Which) -> Result<(), Refusal> {
+fn settle(stations: &mut Stations, which: &Which) -> Result<(), Refusal> {
     stations.settle(&consumers(which)?);
     Ok(())
 }
 
-fn give_back(stations: &mut Stations, which: Which) -> Result<(), Refusal> {
+fn give_back(stations: &mut Stations, which: &Which) -> Result<(), Refusal> {
     stations.give_back(&consumers(which)?);
     Ok(())
 }
 
-fn close(stations: &mut Stations, which: Which) -> Result<(), Refusal> {
+fn close(stations: &mut Stations, which: &Which) -> Result<(), Refusal> {
     stations.close(&consumers(which)?);
     Ok(())
 }
 
-fn does(alloc: Global, stations: &mut Stations, op: Op) -> bool {
+fn does(alloc: Global, stations: &mut Stations, op: &Op) -> bool {
     match op {
-        Op::Publish(words) => publish(alloc, stations, words).is_ok(),
-        Op::Deliver(index, at, text, count) => delivers(stations, index, at, text, count),
+        Op::Publish(words) => publish(alloc, stations, *words).is_ok(),
+        Op::Deliver(index, at, text, count) => {
+            delivers(deliver(stations, *index, *at), text, *count)
+        }
+        Op::DeliverWhere(index, at, selector, text, count) => delivers(
+            deliver_where(alloc, stations, *index, *at, selector),
+            text,
+            *count,
+        ),
         Op::Settle(which) => settle(stations, which).is_ok(),
         Op::GiveBack(which) => give_back(stations, which).is_ok(),
         Op::Close(which) => close(stations, which).is_ok(),
@@ -135,23 +121,34 @@ fn missed(stations: &Stations) -> u64 {
     }
 }
 
+/// Whether that is there after the step.
+fn comes_out(alloc: Global, stations: &mut Stations, step: &Step) -> bool {
+    let (op, kept, lost) = step;
+    does(alloc, stations, op) && stations.kept() == *kept && missed(stations) == *lost
+}
+
 /// The first step after which something else is there, or how many steps there are.
 fn first_other(alloc: Global, stations: &mut Stations, steps: &[Step]) -> usize {
-    for (n, (op, kept, lost)) in steps.iter().enumerate() {
-        let is_done = does(alloc, stations, *op);
-        if !is_done || stations.kept() != *kept || missed(stations) != *lost {
+    for (n, step) in steps.iter().enumerate() {
+        if !comes_out(alloc, stations, step) {
             return n;
         }
     }
     steps.len()
 }
 
+fn created(stations: &mut Stations, limit: Option<u32>) -> Result<(), Refusal> {
+    create(stations, (SESSIONS[0], 1), limit)?;
+    create(stations, (SESSIONS[1], 1), None)
+}
+
 /// The same over two keys, of which the first has that limit.
-fn run(alloc: Global, limit: Option<u32>, steps: &[Step]) -> Result<usize, Refusal> {
-    let mut stations = Stations::new(alloc);
-    create(&mut stations, SESSIONS[0], limit)?;
-    create(&mut stations, SESSIONS[1], None)?;
-    Ok(first_other(alloc, &mut stations, steps))
+fn run(alloc: Global, limit: Option<u32>, steps: &[Step]) -> usize {
+    let mut held = HeldStations::new(alloc);
+    match created(&mut held.stations, limit) {
+        Ok(()) => first_other(alloc, &mut held.stations, steps),
+        Err(_) => usize::MAX,
+    }
 }
 
 /// What is out stays held until it is settled, also where it expires.
@@ -161,8 +158,8 @@ const SETTLED: [Step; 7] = [
     (Op::Deliver(0, 1000, "", 0), 1, 0),
     (Op::Deliver(1, 1500, "", 0), 1, 0),
     (Op::Deliver(0, 1500, "", 0), 1, 0),
-    (Op::Settle(Which::OfSession(1, 2)), 1, 0),
-    (Op::Settle(Which::OfSession(1, 1)), 0, 0),
+    (Op::Settle(Which::OfSession(2)), 1, 0),
+    (Op::Settle(Which::OfSession(1)), 0, 0),
 ];
 
 /// What is given back comes again in its order, with its count; what another session has stays out.
@@ -172,7 +169,7 @@ const GIVEN_BACK: [Step; 9] = [
     (Op::Deliver(0, 1000, "a", 1), 2, 0),
     (Op::Deliver(0, 1000, "b", 1), 2, 0),
     (Op::Deliver(1, 1000, "a", 1), 2, 0),
-    (Op::GiveBack(Which::OfSession(1, 1)), 2, 0),
+    (Op::GiveBack(Which::OfSession(1)), 2, 0),
     (Op::Deliver(1, 1000, "b", 1), 2, 0),
     (Op::Deliver(0, 1000, "a", 2), 2, 0),
     (Op::Deliver(0, 1000, "b", 2), 2, 0),
@@ -191,22 +188,39 @@ const LIMITED: [Step; 5] = [
 const CLOSED: [Step; 5] = [
     (Op::Publish(("a", 4, 0)), 1, 0),
     (Op::Deliver(1, 1000, "a", 1), 1, 0),
-    (Op::Close(Which::OfSession(1, 1)), 1, 0),
+    (Op::Close(Which::OfSession(1)), 1, 0),
     (Op::Deliver(0, 1000, "", 0), 1, 0),
     (Op::Close(Which::OfConnection(1)), 0, 0),
 ];
 
-const RUNS: [(Option<u32>, &[Step]); 4] = [
-    (None, &SETTLED),
-    (None, &GIVEN_BACK),
-    (Some(1), &LIMITED),
-    (None, &CLOSED),
+/// What a selector does not select waits where it was; what was chosen and is given back comes again at its place.
+const CHOSEN: [Step; 12] = [
+    (Op::Publish(("a", 4, 0)), 1, 0),
+    (Op::Publish(("b", 9, 0)), 2, 0),
+    (Op::Publish(("c", 4, 0)), 3, 0),
+    (Op::DeliverWhere(0, 1000, "JMSType = 'c'", "c", 1), 3, 0),
+    (Op::DeliverWhere(0, 1000, "JMSPriority < 5", "a", 1), 3, 0),
+    (Op::DeliverWhere(0, 1000, "JMSPriority < 5", "", 0), 3, 0),
+    (Op::GiveBack(Which::OfSession(1)), 3, 0),
+    (Op::Deliver(0, 1000, "b", 1), 3, 0),
+    (Op::DeliverWhere(0, 1000, "JMSType <> 'a'", "c", 2), 3, 0),
+    (Op::DeliverWhere(1, 1000, "JMSType = 'a'", "a", 1), 3, 0),
+    (Op::Settle(Which::OfConnection(1)), 3, 0),
+    (Op::Deliver(0, 1000, "a", 2), 3, 0),
+];
+
+/// The limit of the first key, and what is done.
+static RUNS: [(&str, Option<u32>, &[Step]); 5] = [
+    ("settled", None, &SETTLED),
+    ("given back", None, &GIVEN_BACK),
+    ("limited", Some(1), &LIMITED),
+    ("closed", None, &CLOSED),
+    ("chosen", None, &CHOSEN),
 ];
 
 #[test]
 fn rows_go_out_and_come_again(rt: HostRuntime) {
-    for (n, (limit, steps)) in RUNS.iter().enumerate() {
-        let done = run(rt.alloc(), *limit, steps);
-        assert!(rt; done == Ok(steps.len()), "run {n}");
+    for (name, limit, steps) in &RUNS {
+        is_number(&rt, name, steps.len(), run(rt.alloc(), *limit, steps));
     }
 }

@@ -2,11 +2,12 @@
 
 ghost use Rattle.std.specs.Prelude.{◌≡◌};
 
-use crate::messages::{Words, sent};
+use crate::messages::{Words, is_there, sent};
 use jm_base::Refusal;
-use jm_dest::{ConnectionId, ConsumerId, Moment, SessionId};
+use jm_dest::{ConsumerId, Moment, SessionId};
 use jm_machine::{Consumers, RowState};
 use jm_pending::{Held, Row, Table};
+use jm_selector::Selector;
 use std::alloc::Global;
 use std::marker::Model;
 
@@ -30,11 +31,6 @@ impl Model for Rig {
     ghost invariant = { λ r. Covers r.table r.held.rows };
 }
 
-/// The session of that number.
-pub(crate) fn session(number: u32) -> Result<SessionId, Refusal> {
-    SessionId::new(ConnectionId::new(1)?, number)
-}
-
 fn out_to(row: &Row) -> u32 {
     match row.state {
         RowState::Waiting => 0,
@@ -52,12 +48,15 @@ impl Rig {
 
     /// The rows as they are seen, each with its message in the table, are those.
     pub(crate) fn shows(&self, seen: &[Seen]) -> bool {
-        let are_all = self.held.len() == seen.len() && self.table.len() == seen.len();
-        are_all
-            && seen
-                .iter()
-                .enumerate()
-                .all(|(i, it)| self.seen(i) == Some(*it))
+        if self.held.len() != seen.len() || self.table.len() != seen.len() {
+            return false;
+        }
+        for (index, it) in seen.iter().enumerate() {
+            if self.seen(index) != Some(*it) {
+                return false;
+            }
+        }
+        true
     }
 
     fn seen(&self, index: usize) -> Option<Seen> {
@@ -73,16 +72,16 @@ impl Rig {
 
     /// Adds a row of those words at a place that is above all others.
     pub(crate) fn add(&mut self, alloc: Global, place: u64, words: Words) -> Result<u64, Refusal> {
-        let message = sent(alloc, words)?;
-        let row = Row::new(place, &message);
         if place > 100 || self.table.holders(place) != 0 || self.held.row_from(place).is_some() {
             return Err(Refusal::IllegalState);
         }
         self.table.reserve(1)?;
         self.held.reserve(1)?;
+        let message = sent(alloc, words)?;
+        let row = Row::new(place, &message);
         self.table.put(place, message);
         self.held.add(&mut self.table, row);
-        let _ = self.table.release(place);
+        let _ = is_there(self.table.release(place));
         Ok(0)
     }
 
@@ -97,6 +96,39 @@ impl Rig {
     /// The place of the row that is delivered and settled, or 0.
     pub(crate) fn take_settled(&mut self, now: Moment) -> u64 {
         match self.held.take_settled(&mut self.table, now) {
+            Some(taken) => taken.row.place,
+            None => 0,
+        }
+    }
+
+    /// The place of the next row of those that the selector selects, or 0.
+    pub(crate) fn next_where(&self, now: Moment, selector: &Selector) -> u64 {
+        match self.held.next_where(&self.table, now, selector) {
+            Some(row) => row.place,
+            None => 0,
+        }
+    }
+
+    /// The place of the row of those that the selector selects that goes out through the consumer, or 0.
+    pub(crate) fn take_where(
+        &mut self,
+        now: Moment,
+        selector: &Selector,
+        to: SessionId,
+        through: ConsumerId,
+    ) -> u64 {
+        match self
+            .held
+            .take_where(&mut self.table, now, selector, to, through)
+        {
+            Some(row) => row.place,
+            None => 0,
+        }
+    }
+
+    /// The place of the row of those that the selector selects that is delivered and settled, or 0.
+    pub(crate) fn take_settled_where(&mut self, now: Moment, selector: &Selector) -> u64 {
+        match self.held.take_settled_where(&mut self.table, now, selector) {
             Some(taken) => taken.row.place,
             None => 0,
         }

@@ -1,13 +1,13 @@
-//! Rows that go out to sessions, are settled, given back and cleared, and that are missed or expire.
+//! Rows that go out to sessions, are chosen by selectors, settled, given back and cleared, and that are missed or expire.
 
-use crate::messages::Words;
-use crate::rig::{Rig, Seen, session};
+use crate::messages::{Words, selector, session};
+use crate::rig::{Rig, Seen};
+use crate::told::is_number;
 use jm_base::Refusal;
 use jm_dest::{ConsumerId, Moment};
 use std::alloc::Global;
 
 /// What is done to the rows.
-#[derive(Clone, Copy)]
 enum Op {
     /// A message comes to the place.
     Add(u64, Words),
@@ -15,6 +15,13 @@ enum Op {
     Take(i64, u32, u32),
     /// The next row is delivered at that moment and settled.
     TakeSettled(i64),
+    /// The selector's next row is looked for at that moment, and is left.
+    NextWhere(&'static str, i64),
+    /// The selector's next row goes out at that moment, to the session of the first number through its consumer of the
+    /// second.
+    TakeWhere(&'static str, i64, u32, u32),
+    /// The selector's next row is delivered at that moment and settled.
+    TakeSettledWhere(&'static str, i64),
     /// What is out to the session is settled.
     Settle(u32),
     /// What is out to the session through its consumer, at the place, is settled.
@@ -26,7 +33,7 @@ enum Op {
     Clear,
 }
 
-/// What is done, the place of the row that is delivered or 0, and the rows after it.
+/// What is done, the place of the row that is delivered or found, or 0, and the rows after it.
 type Step = (Op, u64, &'static [Seen]);
 
 fn take(rig: &mut Rig, now: i64, to: u32, through: u32) -> Result<u64, Refusal> {
@@ -35,6 +42,30 @@ fn take(rig: &mut Rig, now: i64, to: u32, through: u32) -> Result<u64, Refusal> 
 
 fn take_settled(rig: &mut Rig, now: i64) -> Result<u64, Refusal> {
     Ok(rig.take_settled(Moment::new(now)?))
+}
+
+fn next_where(alloc: Global, rig: &Rig, text: &str, now: i64) -> Result<u64, Refusal> {
+    let now = Moment::new(now)?;
+    Ok(rig.next_where(now, &selector(alloc, text)?))
+}
+
+fn take_where(
+    alloc: Global,
+    rig: &mut Rig,
+    text: &str,
+    now: i64,
+    to: u32,
+    through: u32,
+) -> Result<u64, Refusal> {
+    let now = Moment::new(now)?;
+    let to = session(to)?;
+    let through = ConsumerId::new(through)?;
+    Ok(rig.take_where(now, &selector(alloc, text)?, to, through))
+}
+
+fn take_settled_where(alloc: Global, rig: &mut Rig, text: &str, now: i64) -> Result<u64, Refusal> {
+    let now = Moment::new(now)?;
+    Ok(rig.take_settled_where(now, &selector(alloc, text)?))
 }
 
 fn settle(rig: &mut Rig, of: u32) -> Result<u64, Refusal> {
@@ -62,30 +93,55 @@ fn clear(rig: &mut Rig) -> Result<u64, Refusal> {
     Ok(0)
 }
 
-/// The place of the row that the call delivers, or 0.
-fn does(alloc: Global, rig: &mut Rig, op: Op) -> Result<u64, Refusal> {
+/// The place of the row that the call delivers or finds, or 0.
+fn does(alloc: Global, rig: &mut Rig, op: &Op) -> Result<u64, Refusal> {
     match op {
-        Op::Add(place, words) => rig.add(alloc, place, words),
-        Op::Take(now, to, through) => take(rig, now, to, through),
-        Op::TakeSettled(now) => take_settled(rig, now),
-        Op::Settle(of) => settle(rig, of),
-        Op::SettleOne(of, through, place) => settle_one(rig, of, through, place),
-        Op::GiveBack(of) => give_back(rig, of),
-        Op::GiveBackOne(of, through, place) => give_back_one(rig, of, through, place),
+        Op::Add(place, words) => rig.add(alloc, *place, *words),
+        Op::Take(now, to, through) => take(rig, *now, *to, *through),
+        Op::TakeSettled(now) => take_settled(rig, *now),
+        Op::NextWhere(text, now) => next_where(alloc, rig, text, *now),
+        Op::TakeWhere(text, now, to, through) => {
+            take_where(alloc, rig, text, *now, *to, *through)
+        }
+        Op::TakeSettledWhere(text, now) => take_settled_where(alloc, rig, text, *now),
+        Op::Settle(of) => settle(rig, *of),
+        Op::SettleOne(of, through, place) => settle_one(rig, *of, *through, *place),
+        Op::GiveBack(of) => give_back(rig, *of),
+        Op::GiveBackOne(of, through, place) => give_back_one(rig, *of, *through, *place),
         Op::Clear => clear(rig),
     }
 }
 
-/// The first step after which something else is there, or how many steps there are, and how many were missed.
-fn run(alloc: Global, limit: Option<u32>, steps: &[Step]) -> (usize, u64) {
-    let mut rig = Rig::new(alloc, limit);
-    for (n, (op, place, seen)) in steps.iter().enumerate() {
-        let is_done = does(alloc, &mut rig, *op) == Ok(*place);
-        if !is_done || !rig.shows(seen) {
-            return (n, rig.missed());
+/// Whether that is there after the step.
+fn comes_out(alloc: Global, rig: &mut Rig, step: &Step) -> bool {
+    does(alloc, rig, &step.0) == Ok(step.1) && rig.shows(step.2)
+}
+
+/// The first step after which something else is there, or how many steps there are.
+fn first_other(alloc: Global, rig: &mut Rig, steps: &[Step]) -> usize {
+    for (n, step) in steps.iter().enumerate() {
+        if !comes_out(alloc, rig, step) {
+            return n;
         }
     }
-    (steps.len(), rig.missed())
+    steps.len()
+}
+
+/// The same over no row, with that limit, and how many were missed.
+fn run(alloc: Global, limit: Option<u32>, steps: &[Step]) -> (usize, u64) {
+    let mut rig = Rig::new(alloc, limit);
+    let done = first_other(alloc, &mut rig, steps);
+    (done, rig.missed())
+}
+
+/// How many steps come out as they are written, where so many are missed.
+fn done(alloc: Global, limit: Option<u32>, steps: &[Step], missed: u64) -> usize {
+    let (done, were_missed) = run(alloc, limit, steps);
+    if were_missed == missed {
+        done
+    } else {
+        usize::MAX
+    }
 }
 
 /// Rows go out by priority and then by place, wait again with their counts, and are settled by session or one by one.
@@ -155,20 +211,144 @@ const EXPIRING: [Step; 11] = [
     (Op::TakeSettled(1600), 2, &[]),
 ];
 
+/// A selector's next row goes by priority and then by place among those that it selects; the others stay where they were,
+/// and what has no token selects all.
+const CHOSEN: [Step; 16] = [
+    (Op::Add(1, ("a", 4, 0)), 0, &[(1, 0, 0)]),
+    (Op::Add(2, ("b", 9, 0)), 0, &[(1, 0, 0), (2, 0, 0)]),
+    (
+        Op::Add(3, ("c", 4, 0)),
+        0,
+        &[(1, 0, 0), (2, 0, 0), (3, 0, 0)],
+    ),
+    (
+        Op::Add(4, ("d", 0, 0)),
+        0,
+        &[(1, 0, 0), (2, 0, 0), (3, 0, 0), (4, 0, 0)],
+    ),
+    (
+        Op::NextWhere("JMSType = 'd'", 1000),
+        4,
+        &[(1, 0, 0), (2, 0, 0), (3, 0, 0), (4, 0, 0)],
+    ),
+    (
+        Op::NextWhere(" ", 1000),
+        2,
+        &[(1, 0, 0), (2, 0, 0), (3, 0, 0), (4, 0, 0)],
+    ),
+    (
+        Op::TakeWhere("JMSPriority < 5", 1000, 1, 1),
+        1,
+        &[(1, 1, 1), (2, 0, 0), (3, 0, 0), (4, 0, 0)],
+    ),
+    (
+        Op::TakeWhere("JMSType IN ('d', 'c')", 1000, 2, 1),
+        3,
+        &[(1, 1, 1), (2, 0, 0), (3, 1, 2), (4, 0, 0)],
+    ),
+    (
+        Op::TakeWhere("JMSType = 'c'", 1000, 1, 1),
+        0,
+        &[(1, 1, 1), (2, 0, 0), (3, 1, 2), (4, 0, 0)],
+    ),
+    (
+        Op::GiveBack(1),
+        0,
+        &[(1, 1, 0), (2, 0, 0), (3, 1, 2), (4, 0, 0)],
+    ),
+    (
+        Op::TakeSettledWhere("JMSPriority < 5", 1000),
+        1,
+        &[(2, 0, 0), (3, 1, 2), (4, 0, 0)],
+    ),
+    (
+        Op::TakeWhere(" ", 1000, 1, 1),
+        2,
+        &[(2, 1, 1), (3, 1, 2), (4, 0, 0)],
+    ),
+    (Op::GiveBack(2), 0, &[(2, 1, 1), (3, 1, 0), (4, 0, 0)]),
+    (
+        Op::TakeSettledWhere("JMSType <> 'c'", 1000),
+        4,
+        &[(2, 1, 1), (3, 1, 0)],
+    ),
+    (
+        Op::TakeSettledWhere("JMSType = 'x'", 1000),
+        0,
+        &[(2, 1, 1), (3, 1, 0)],
+    ),
+    (Op::TakeSettled(1000), 3, &[(2, 1, 1)]),
+];
+
+/// A row behind others of its priority is chosen; those before it wait, and go first again.
+const BEHIND: [Step; 9] = [
+    (Op::Add(1, ("a", 4, 0)), 0, &[(1, 0, 0)]),
+    (Op::Add(2, ("b", 4, 0)), 0, &[(1, 0, 0), (2, 0, 0)]),
+    (
+        Op::Add(3, ("c", 4, 0)),
+        0,
+        &[(1, 0, 0), (2, 0, 0), (3, 0, 0)],
+    ),
+    (
+        Op::TakeWhere("JMSType = 'b'", 1000, 1, 1),
+        2,
+        &[(1, 0, 0), (2, 1, 1), (3, 0, 0)],
+    ),
+    (
+        Op::TakeSettledWhere("JMSType = 'c'", 1000),
+        3,
+        &[(1, 0, 0), (2, 1, 1)],
+    ),
+    (
+        Op::TakeWhere("JMSType <> 'a'", 1000, 2, 1),
+        0,
+        &[(1, 0, 0), (2, 1, 1)],
+    ),
+    (Op::Take(1000, 2, 1), 1, &[(1, 1, 2), (2, 1, 1)]),
+    (Op::GiveBack(1), 0, &[(1, 1, 2), (2, 1, 0)]),
+    (
+        Op::TakeWhere("JMSPriority = 4", 1000, 1, 1),
+        2,
+        &[(1, 1, 2), (2, 2, 1)],
+    ),
+];
+
+/// A row that is expired is not chosen, and goes with a delivery that would not have chosen it.
+const CHOSEN_LATE: [Step; 6] = [
+    (Op::Add(1, ("a", 4, 500)), 0, &[(1, 0, 0)]),
+    (Op::Add(2, ("b", 4, 0)), 0, &[(1, 0, 0), (2, 0, 0)]),
+    (
+        Op::Add(3, ("c", 9, 100)),
+        0,
+        &[(1, 0, 0), (2, 0, 0), (3, 0, 0)],
+    ),
+    (
+        Op::NextWhere("JMSType = 'c'", 1100),
+        0,
+        &[(1, 0, 0), (2, 0, 0), (3, 0, 0)],
+    ),
+    (
+        Op::TakeWhere("JMSType = 'b'", 1100, 1, 1),
+        2,
+        &[(1, 0, 0), (2, 1, 1)],
+    ),
+    (Op::TakeSettledWhere("JMSType = 'b'", 1500), 0, &[(2, 1, 1)]),
+];
+
 /// The limit, what is done, and how many are missed.
-const RUNS: [(Option<u32>, &[Step], u64); 3] = [
-    (None, &OUT, 0),
-    (Some(2), &LIMITED, 2),
-    (None, &EXPIRING, 0),
+static RUNS: [(&str, Option<u32>, &[Step], u64); 6] = [
+    ("out", None, &OUT, 0),
+    ("limited", Some(2), &LIMITED, 2),
+    ("expiring", None, &EXPIRING, 0),
+    ("chosen", None, &CHOSEN, 0),
+    ("behind", None, &BEHIND, 0),
+    ("chosen late", None, &CHOSEN_LATE, 0),
 ];
 
 #[test]
 fn rows_go_out_and_come_back(rt: HostRuntime) {
-    for (n, (limit, steps, missed)) in RUNS.iter().enumerate() {
-        let (done, were_missed) = run(rt.alloc(), *limit, steps);
-        assert!(rt;
-            done == steps.len() && were_missed == *missed,
-            "run {n}, step {done}"
-        );
+    for (name, limit, steps, missed) in &RUNS {
+        let done = done(rt.alloc(), *limit, steps, *missed);
+        is_number(&rt, name, steps.len(), done);
     }
 }

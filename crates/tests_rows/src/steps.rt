@@ -1,25 +1,21 @@
 //! Publications to three keys, deliveries from them, and keys that go.
 
-ghost use Rattle.std.specs.Prelude.{◌<◌, nat_eq, All, length};
-ghost use Rattle.std.specs.List.{IsDistinct};
-ghost use Rattle.jm_machine.specs.Machine.{places_end};
-
+use crate::held::{HeldStations, delivers, publish_to, receive, receive_where};
 use crate::keys::create;
-use crate::messages::{Words, is_text, sent};
+use crate::messages::Words;
+use crate::told::is_number;
 use jm_base::Refusal;
-use jm_dest::Moment;
-use jm_header::Message;
-use jm_machine::Answer;
 use jm_stations::Stations;
 use std::alloc::Global;
 
 /// What is done to what is held under the keys.
-#[derive(Clone, Copy)]
 enum Op {
     /// A message comes to the first so many keys.
     Publish(usize, Words),
     /// The next row under the key with that index is delivered at that moment.
     Receive(usize, i64),
+    /// The next row of those that the selector selects is delivered at that moment.
+    ReceiveWhere(usize, i64, &'static str),
     /// The key with that index goes.
     Remove(usize),
 }
@@ -29,62 +25,26 @@ enum Op {
 type Step = (Op, &'static str, usize, usize);
 
 /// The keys of the numbers 1 to 3, with those limits.
-fn created(stations: &mut Stations, limits: [Option<u32>; 3]) -> Result<(), Refusal> {
-    create(stations, 1, limits[0])?;
-    create(stations, 2, limits[1])?;
-    create(stations, 3, limits[2])
-}
-
-fn publish_to(stations: &mut Stations, message: Message, indexes: &[usize]) -> Result<(), Refusal>
-    requires places { stations.old.next_place < places_end }
-    requires within { All (λ i. i < length stations.old.list) indexes.now }
-    requires once { IsDistinct nat_eq indexes.now }
-{
-    stations.reserve(indexes, 1)?;
-    stations.publish(message, indexes);
-    Ok(())
+fn created(stations: &mut Stations, limits: &[Option<u32>; 3]) -> Result<(), Refusal> {
+    create(stations, (1, 1), limits[0])?;
+    create(stations, (1, 2), limits[1])?;
+    create(stations, (1, 3), limits[2])
 }
 
 /// Publishes to the first so many of three keys.
-fn publish(stations: &mut Stations, message: Message, count: usize) -> Result<(), Refusal> {
+fn publish(
+    alloc: Global,
+    stations: &mut Stations,
+    count: usize,
+    words: Words,
+) -> Result<(), Refusal> {
     if stations.len() < 3 || stations.next_place() > 100 {
         return Err(Refusal::IllegalState);
     }
     match count {
-        1 => publish_to(stations, message, &[0]),
-        2 => publish_to(stations, message, &[0, 1]),
-        _ => publish_to(stations, message, &[0, 1, 2]),
-    }
-}
-
-fn receive(stations: &mut Stations, index: usize, at: i64) -> Result<Answer, Refusal> {
-    let now = Moment::new(at)?;
-    if index >= stations.len() {
-        return Err(Refusal::IllegalState);
-    }
-    let copy = stations.copy_for(index, now, true)?;
-    Ok(stations.receive(index, now, copy))
-}
-
-/// Whether a message of that text is delivered, or nothing where the text is empty.
-fn is_delivered(answer: &Answer, text: &str) -> bool {
-    match answer {
-        Answer::Delivered(delivery) => delivery.count == 1 && is_text(&delivery.message, text),
-        _ => text.is_empty(),
-    }
-}
-
-fn delivers(stations: &mut Stations, index: usize, at: i64, text: &str) -> bool {
-    match receive(stations, index, at) {
-        Ok(answer) => is_delivered(&answer, text),
-        Err(_) => false,
-    }
-}
-
-fn publishes(alloc: Global, stations: &mut Stations, count: usize, words: Words) -> bool {
-    match sent(alloc, words) {
-        Ok(message) => publish(stations, message, count).is_ok(),
-        Err(_) => false,
+        1 => publish_to(alloc, stations, words, &[0]),
+        2 => publish_to(alloc, stations, words, &[0, 1]),
+        _ => publish_to(alloc, stations, words, &[0, 1, 2]),
     }
 }
 
@@ -97,17 +57,24 @@ fn removes(stations: &mut Stations, index: usize) -> bool {
     }
 }
 
-fn does(alloc: Global, stations: &mut Stations, op: Op, text: &str) -> bool {
+fn does(alloc: Global, stations: &mut Stations, op: &Op, text: &str) -> bool {
     match op {
-        Op::Publish(count, words) => publishes(alloc, stations, count, words),
-        Op::Receive(index, at) => delivers(stations, index, at, text),
-        Op::Remove(index) => removes(stations, index),
+        Op::Publish(count, words) => publish(alloc, stations, *count, *words).is_ok(),
+        Op::Receive(index, at) => delivers(receive(stations, *index, *at), text, 1),
+        Op::ReceiveWhere(index, at, selector) => {
+            delivers(
+                receive_where(alloc, stations, *index, *at, selector),
+                text,
+                1,
+            )
+        }
+        Op::Remove(index) => removes(stations, *index),
     }
 }
 
 fn kept_by_a_copy(stations: &Stations) -> usize {
     match stations.copy() {
-        Ok(copy) => copy.kept(),
+        Ok(stations) => HeldStations { stations }.stations.kept(),
         Err(_) => usize::MAX,
     }
 }
@@ -122,12 +89,19 @@ fn rows_of_the_first(stations: &Stations) -> usize {
     }
 }
 
+/// Whether that is there after the step.
+fn comes_out(alloc: Global, stations: &mut Stations, step: &Step) -> bool {
+    let (op, text, kept, rows) = step;
+    does(alloc, stations, op, text)
+        && stations.kept() == *kept
+        && kept_by_a_copy(stations) == *kept
+        && rows_of_the_first(stations) == *rows
+}
+
 /// The first step after which something else is there, or how many steps there are.
 fn first_other(alloc: Global, stations: &mut Stations, steps: &[Step]) -> usize {
-    for (n, (op, text, kept, rows)) in steps.iter().enumerate() {
-        let is_done = does(alloc, stations, *op, text);
-        let is_kept = stations.kept() == *kept && kept_by_a_copy(stations) == *kept;
-        if !is_done || !is_kept || rows_of_the_first(stations) != *rows {
+    for (n, step) in steps.iter().enumerate() {
+        if !comes_out(alloc, stations, step) {
             return n;
         }
     }
@@ -135,10 +109,10 @@ fn first_other(alloc: Global, stations: &mut Stations, steps: &[Step]) -> usize 
 }
 
 /// The same over three keys with those limits.
-fn run(alloc: Global, limits: [Option<u32>; 3], steps: &[Step]) -> usize {
-    let mut stations = Stations::new(alloc);
-    match created(&mut stations, limits) {
-        Ok(()) => first_other(alloc, &mut stations, steps),
+fn run(alloc: Global, limits: &[Option<u32>; 3], steps: &[Step]) -> usize {
+    let mut held = HeldStations::new(alloc);
+    match created(&mut held.stations, limits) {
+        Ok(()) => first_other(alloc, &mut held.stations, steps),
         Err(_) => usize::MAX,
     }
 }
@@ -196,19 +170,32 @@ const REMOVED: [Step; 6] = [
     (Op::Remove(0), "", 0, 0),
 ];
 
+/// What a selector does not select stays under its key, in its order; each key goes by itself.
+const CHOSEN: [Step; 9] = [
+    (Op::Publish(2, ("a", 4, 0)), "", 1, 1),
+    (Op::Publish(1, ("b", 9, 0)), "", 2, 2),
+    (Op::Publish(2, ("c", 4, 0)), "", 3, 3),
+    (Op::ReceiveWhere(0, 1000, "JMSType = 'c'"), "c", 3, 2),
+    (Op::ReceiveWhere(1, 1000, "JMSType = 'c'"), "c", 2, 2),
+    (Op::ReceiveWhere(0, 1000, "JMSPriority < 5"), "a", 2, 1),
+    (Op::ReceiveWhere(0, 1000, "JMSPriority < 5"), "", 2, 1),
+    (Op::Receive(1, 1000), "a", 1, 1),
+    (Op::ReceiveWhere(0, 1000, ""), "b", 0, 0),
+];
+
 /// The limits of the three keys, and what is done with them.
-const RUNS: [([Option<u32>; 3], &[Step]); 5] = [
-    ([None, None, None], &SHARED),
-    ([None, None, None], &IN_TURN),
-    ([None, Some(1), Some(0)], &LIMITED),
-    ([None, None, None], &EXPIRING),
-    ([Some(2), Some(1), None], &REMOVED),
+static RUNS: [(&str, [Option<u32>; 3], &[Step]); 6] = [
+    ("shared", [None, None, None], &SHARED),
+    ("in turn", [None, None, None], &IN_TURN),
+    ("limited", [None, Some(1), Some(0)], &LIMITED),
+    ("expiring", [None, None, None], &EXPIRING),
+    ("removed", [Some(2), Some(1), None], &REMOVED),
+    ("chosen", [None, None, None], &CHOSEN),
 ];
 
 #[test]
 fn steps_come_out_as_they_are_written(rt: HostRuntime) {
-    for (n, (limits, steps)) in RUNS.iter().enumerate() {
-        let done = run(rt.alloc(), *limits, steps);
-        assert!(rt; done == steps.len(), "run {n}, step {done}");
+    for (name, limits, steps) in &RUNS {
+        is_number(&rt, name, steps.len(), run(rt.alloc(), limits, steps));
     }
 }

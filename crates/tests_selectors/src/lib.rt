@@ -3,6 +3,8 @@
 #![tactic(auto)]
 
 #[cfg(test)]
+mod parsed;
+#[cfg(test)]
 mod tokens;
 #[cfg(test)]
 mod told;

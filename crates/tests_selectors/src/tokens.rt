@@ -4,14 +4,19 @@ use crate::told::is_text;
 use jm_lexer::{Kind, Token, lex};
 use std::alloc::{AllocError, Global};
 
+fn kind_shown(alloc: Global, kind: &Kind) -> Result<String, AllocError> {
+    match kind {
+        Kind::Mark(mark) => format!(in alloc; "{mark:?}"),
+        Kind::Name(name) => format!(in alloc; "name {name:?}"),
+        Kind::Number(number) => format!(in alloc; "{number}"),
+        Kind::Text(text) => format!(in alloc; "text {text:?}"),
+    }
+}
+
 fn shown(alloc: Global, token: &Token) -> Result<String, AllocError> {
     let (start, end) = (token.start, token.end);
-    match &token.kind {
-        Kind::Mark(mark) => format!(in alloc; "{mark:?} {start}..{end}, "),
-        Kind::Name(name) => format!(in alloc; "name {name:?} {start}..{end}, "),
-        Kind::Number(number) => format!(in alloc; "{number} {start}..{end}, "),
-        Kind::Text(text) => format!(in alloc; "text {text:?} {start}..{end}, "),
-    }
+    let kind = kind_shown(alloc, &token.kind)?;
+    format!(in alloc; "{kind} {start}..{end}, ")
 }
 
 fn all_shown(alloc: Global, tokens: &[Token]) -> Result<String, AllocError> {
@@ -34,7 +39,7 @@ fn lexed(alloc: Global, text: &str) -> Result<String, AllocError> {
 }
 
 /// Texts, and their tokens or their fault.
-const TEXTS: [(&str, &str); 13] = [
+static TEXTS: [(&str, &str); 13] = [
     (
         "a<>'it''s \u{e9}' nOt",
         "name \"a\" 0..1, NotEqual 1..3, text \"it's \u{e9}\" 3..13, Not 14..17, ",

@@ -8,10 +8,15 @@ pub(crate) fn holds(rt: &impl Abort, row: &str, holds: bool) {
     assert!(rt; holds, "{row}");
 }
 
+/// Whether this text is told.
+fn is_told(told: &Result<String, AllocError>, wanted: &str) -> bool {
+    match told {
+        Ok(text) => text.as_str() == wanted,
+        Err(_) => false,
+    }
+}
+
 /// Asserts that this text is told.
 pub(crate) fn is_text(rt: &impl Abort, wanted: &str, told: Result<String, AllocError>) {
-    match told {
-        Ok(text) => assert!(rt; text.as_str() == wanted, "{text} and not {wanted}"),
-        Err(_) => assert!(rt; false, "no memory for {wanted}"),
-    }
+    assert!(rt; is_told(&told, wanted), "{told:?} and not {wanted}");
 }

@@ -1,20 +1,27 @@
 //! Selector texts and their trees.
 
+use crate::parsed::{Parsed, tree_of};
 use crate::told::{holds, is_text};
-use jm_syntax::{Sort, SyntaxFault, Tree, law_fault, law_one_tree, parse};
+use jm_syntax::{Sort, SyntaxFault, Tree, law_fault, law_one_tree};
 use std::alloc::{AllocError, Global};
 
-/// The tree of the text as the derived form prints it, `none` where the text has no tokens, or the cause and the offset of
-/// its fault.
-fn parsed(alloc: Global, text: &str) -> Result<String, AllocError> {
-    match parse(alloc, text) {
-        Ok(Some(tree)) => format!(in alloc; "{tree:?}"),
-        Ok(None) => String::from_str(alloc, "none"),
+/// The tree of the text as the derived form prints it, `none` where the text has no tokens, or the cause and the offset
+/// of its fault.
+fn shown(alloc: Global, text: &str) -> Result<String, AllocError> {
+    match tree_of(alloc, text) {
+        Ok(parsed) => shown_tree(alloc, &parsed),
         Err(SyntaxFault { at, cause }) => format!(in alloc; "{cause} at {at}"),
     }
 }
 
-const TEXTS: [(&str, &str); 17] = [
+fn shown_tree(alloc: Global, parsed: &Parsed) -> Result<String, AllocError> {
+    match &parsed.tree {
+        Some(tree) => format!(in alloc; "{tree:?}"),
+        None => String::from_str(alloc, "none"),
+    }
+}
+
+static TEXTS: [(&str, &str); 17] = [
     ("", "none"),
     (" \t\u{c}\n\r", "none"),
     ("x = ", "Expected at 4"),
@@ -67,38 +74,53 @@ const TEXTS: [(&str, &str); 17] = [
 #[test]
 fn trees_of_texts(rt: HostRuntime) {
     for (text, wanted) in &TEXTS {
-        is_text(&rt, wanted, parsed(rt.alloc(), text));
+        is_text(&rt, wanted, shown(rt.alloc(), text));
+    }
+}
+
+/// Whether a copy of the tree equals it, also where there is none.
+fn equals_its_copy(alloc: Global, parsed: &Parsed) -> bool {
+    match parsed.copy(alloc) {
+        Ok(copy) => copy.tree == parsed.tree,
+        Err(_) => false,
     }
 }
 
 /// Whether a copy of the text's tree equals it; a text with no tree has none that differs.
-fn is_copied(alloc: Global, text: &str) -> Result<bool, AllocError> {
-    match parse(alloc, text) {
-        Ok(Some(tree)) => Ok(tree.copy(alloc)? == tree),
-        _ => Ok(true),
+fn is_copied(alloc: Global, text: &str) -> bool {
+    match tree_of(alloc, text) {
+        Ok(parsed) => equals_its_copy(alloc, &parsed),
+        Err(_) => true,
     }
 }
 
 #[test]
 fn copies_are_equal(rt: HostRuntime) {
     for (text, _) in &TEXTS {
-        holds(&rt, text, is_copied(rt.alloc(), text) == Ok(true));
+        holds(&rt, text, is_copied(rt.alloc(), text));
     }
 }
 
-/// The sort of the text's tree.
-fn sort(alloc: Global, text: &str) -> Option<Sort> {
-    match parse(alloc, text) {
-        Ok(Some(tree)) => Some(tree.sort()),
-        _ => None,
+/// Whether the text has a tree of that sort.
+fn is_sort(alloc: Global, text: &str, sort: Sort) -> bool {
+    match tree_of(alloc, text) {
+        Ok(parsed) => parsed.is_sort(sort),
+        Err(_) => false,
     }
 }
+
+/// Texts, and the sorts of their trees.
+static SORTS: [(&str, Sort); 3] = [
+    ("x", Sort::Any),
+    ("FALSE", Sort::Truth),
+    ("NOT x", Sort::Truth),
+];
 
 #[test]
 fn sorts_of_trees(rt: HostRuntime) {
-    holds(&rt, "x", sort(rt.alloc(), "x") == Some(Sort::Any));
-    holds(&rt, "FALSE", sort(rt.alloc(), "FALSE") == Some(Sort::Truth));
-    holds(&rt, "NOT x", sort(rt.alloc(), "NOT x") == Some(Sort::Truth));
+    for (text, sort) in &SORTS {
+        holds(&rt, text, is_sort(rt.alloc(), text, *sort));
+    }
     holds(&rt, "1", Tree::Num(1).sort() == Sort::Number);
 }
 

@@ -1,5 +1,6 @@
 //! The values of selectors over a message, patterns, and the text of JMSMessageID.
 
+use crate::parsed::{Parsed, tree_of};
 use crate::told::{holds, is_text};
 use jm_base::Refusal;
 use jm_dest::{ConnectionId, Destination, Moment, Number, SessionId};
@@ -7,7 +8,6 @@ use jm_eval::{
     Value, condition, eval, law_between, law_fits, law_in, law_names, law_negations, like, selects,
 };
 use jm_header::{Draft, Message, Sender, stamp};
-use jm_syntax::{Tree, parse};
 use std::alloc::{AllocError, Global};
 
 /// A send of a session, all of whose numbers are that one, at 1000 to a topic.
@@ -36,25 +36,36 @@ fn shown(alloc: Global, value: Value<'_>) -> Result<String, AllocError> {
 }
 
 /// The value of the tree over the message, the value as a condition, and whether the message is selected.
-fn told_of_tree(alloc: Global, tree: Tree, message: &Message) -> Result<String, AllocError> {
-    let value = shown(alloc, eval(&tree, message));
-    let truth = condition(&tree, message);
-    let is_selected = selects(&Some(tree), message);
-    let value = value?;
-    let value = value.as_str();
-    format!(in alloc; "{value}, {truth:?}, {is_selected}")
+fn told_of_tree(alloc: Global, parsed: &Parsed, message: &Message) -> Result<String, AllocError> {
+    match &parsed.tree {
+        None => Err(AllocError),
+        Some(tree) => {
+            let value = shown(alloc, eval(tree, message))?;
+            let truth = condition(tree, message);
+            let is_selected = selects(&parsed.tree, message);
+            format!(in alloc; "{value}, {truth:?}, {is_selected}")
+        }
+    }
 }
 
-/// The same of the tree of the text, over the first message of session 1.1.
-fn told(alloc: Global, text: &str) -> Result<String, AllocError> {
-    match (parse(alloc, text), sent(alloc, 1)) {
-        (Ok(Some(tree)), Ok(message)) => told_of_tree(alloc, tree, &message),
-        _ => Err(AllocError),
+/// The same of the tree of the text.
+fn told_of_text(alloc: Global, text: &str, message: &Message) -> Result<String, AllocError> {
+    match tree_of(alloc, text) {
+        Ok(parsed) => told_of_tree(alloc, &parsed, message),
+        Err(_) => Err(AllocError),
+    }
+}
+
+/// The same over the message all of whose numbers are that one.
+fn told(alloc: Global, number: u32, text: &str) -> Result<String, AllocError> {
+    match sent(alloc, number) {
+        Ok(message) => told_of_text(alloc, text, &message),
+        Err(_) => Err(AllocError),
     }
 }
 
 /// Selectors, and what is told of them.
-const SELECTORS: [(&str, &str); 9] = [
+static SELECTORS: [(&str, &str); 9] = [
     ("TRUE", "true, True, true"),
     ("FALSE", "false, False, false"),
     ("x", "unknown, Unknown, false"),
@@ -69,12 +80,12 @@ const SELECTORS: [(&str, &str); 9] = [
 #[test]
 fn values_of_selectors(rt: HostRuntime) {
     for (text, wanted) in &SELECTORS {
-        is_text(&rt, wanted, told(rt.alloc(), text));
+        is_text(&rt, wanted, told(rt.alloc(), 1, text));
     }
 }
 
 /// Texts, patterns, escapes, and whether the text fits.
-const PATTERNS: [(&str, &str, Option<char>, bool); 8] = [
+static PATTERNS: [(&str, &str, Option<char>, bool); 8] = [
     ("_abc", "\\_%", Some('\\'), true),
     ("abc", "\\_%", Some('\\'), false),
     ("a\\", "a\\", Some('\\'), true),
@@ -92,20 +103,20 @@ fn like_patterns(rt: HostRuntime) {
     }
 }
 
-/// The text of the message's JMSMessageID.
-fn id(alloc: Global, number: u32) -> Result<String, AllocError> {
-    match sent(alloc, number) {
-        Ok(message) => String::from_str(alloc, message.message_id().as_str()),
-        Err(_) => Err(AllocError),
-    }
-}
-
-const LAST_ID: &str = "ID:4294967295-4294967295.4294967295.4294967295";
+/// Numbers of all that a message's JMSMessageID has, and what is told of it.
+static IDS: [(u32, &str); 2] = [
+    (1, "id ID:1-1.1.1, Unknown, false"),
+    (
+        4294967295,
+        "id ID:4294967295-4294967295.4294967295.4294967295, Unknown, false",
+    ),
+];
 
 #[test]
 fn message_ids(rt: HostRuntime) {
-    is_text(&rt, "ID:1-1.1.1", id(rt.alloc(), 1));
-    is_text(&rt, LAST_ID, id(rt.alloc(), 4294967295));
+    for (number, wanted) in &IDS {
+        is_text(&rt, wanted, told(rt.alloc(), *number, "JMSMessageID"));
+    }
 }
 
 #[test]

@@ -39,7 +39,7 @@ fn boxes(rt: HostRuntime) {
     holds(&rt, "7 in a box", boxed(rt.alloc()) == Ok(7));
 }
 
-const REFUSALS: [(Refusal, &str); 10] = [
+static REFUSALS: [(Refusal, &str); 10] = [
     (Refusal::IllegalState, "IllegalState"),
     (Refusal::BadName, "BadName"),
     (Refusal::OutOfRange, "OutOfRange"),
@@ -63,7 +63,7 @@ fn names_of_refusals(rt: HostRuntime) {
     }
 }
 
-const CAUSES: [(Cause, &str); 8] = [
+static CAUSES: [(Cause, &str); 8] = [
     (Cause::Token, "InvalidSelector Token 4"),
     (Cause::Expected, "InvalidSelector Expected 4"),
     (Cause::Kind, "InvalidSelector Kind 4"),

@@ -1,6 +1,6 @@
 //! Drafts and messages: stamps, header fields, expiry, and what is read-only.
 
-use crate::told::{holds, is_true};
+use crate::told::{holds, is_truth};
 use jm_base::{MessageFault, Refusal, Str};
 use jm_dest::{ConnectionId, Destination, Moment, Number, SessionId};
 use jm_header::{Body, DeliveryMode, Draft, Message, Sender, stamp};
@@ -35,21 +35,55 @@ fn set(draft: &mut Draft, send: Send) -> Result<(), Refusal> {
     draft.set_time_to_live(send.time_to_live)
 }
 
-fn stamped(alloc: Global, draft: Draft, send: Send) -> Result<Message, Refusal> {
-    match (
-        Destination::topic(alloc, "t"),
-        sender(),
-        Moment::new(send.now),
-    ) {
-        (Ok(topic), Ok(sender), Ok(now)) => stamp(draft, topic, sender, send.number, now),
-        _ => Err(Refusal::Memory),
+/// A message. It is dropped by one call, so that a function with several ways out does not drop a message, field by
+/// field, on each.
+struct HeldMessage {
+    message: Message,
+}
+
+impl Drop for HeldMessage {
+    fn drop(self) {
+        let HeldMessage { message: _message } = self;
     }
 }
 
-fn sent(alloc: Global, send: Send) -> Result<Message, Refusal> {
+impl HeldMessage {
+    fn into_draft(self) -> Draft {
+        let HeldMessage { message } = self;
+        message.into_draft()
+    }
+
+    fn copy(&self) -> Result<HeldMessage, AllocError> {
+        match self.message.copy() {
+            Ok(message) => Ok(HeldMessage { message }),
+            Err(error) => Err(error),
+        }
+    }
+}
+
+/// What a message is stamped with, besides its number.
+type Stamp = (Destination, Sender, Moment);
+
+fn stamp_at(alloc: Global, now: i64) -> Result<Stamp, Refusal> {
+    let (sender, now) = (sender()?, Moment::new(now)?);
+    Ok((Destination::topic(alloc, "t")?, sender, now))
+}
+
+fn stamped(draft: Draft, with: Stamp, number: u64) -> Result<HeldMessage, Refusal> {
+    let (topic, sender, now) = with;
+    match stamp(draft, topic, sender, number, now) {
+        Ok(message) => Ok(HeldMessage { message }),
+        Err(refusal) => Err(refusal),
+    }
+}
+
+fn sent(alloc: Global, send: Send) -> Result<HeldMessage, Refusal> {
+    let with = stamp_at(alloc, send.now)?;
     let mut draft = Draft::new(alloc);
-    match set(&mut draft, send) {
-        Ok(()) => stamped(alloc, draft, send),
+    let is_set = set(&mut draft, send);
+    let sent = stamped(draft, with, send.number)?;
+    match is_set {
+        Ok(()) => Ok(sent),
         Err(refusal) => Err(refusal),
     }
 }
@@ -66,7 +100,7 @@ fn numbers(message: &Message) -> [u64; 4] {
 
 fn numbers_of(alloc: Global, send: Send) -> Result<[u64; 4], Refusal> {
     match sent(alloc, send) {
-        Ok(message) => Ok(numbers(&message)),
+        Ok(sent) => Ok(numbers(&sent.message)),
         Err(refusal) => Err(refusal),
     }
 }
@@ -74,7 +108,7 @@ fn numbers_of(alloc: Global, send: Send) -> Result<[u64; 4], Refusal> {
 const LAST: u64 = 9223372036854775807;
 
 /// Sends, and the priority, the number, the timestamp and the expiration of each.
-const SENDS: [(Send, Result<[u64; 4], Refusal>); 10] = [
+static SENDS: [(Send, Result<[u64; 4], Refusal>); 10] = [
     (FIRST, Ok([4, 1, 1000, 0])),
     (
         Send {
@@ -154,33 +188,25 @@ fn is_expired(alloc: Global, time_to_live: i64, now: i64) -> Result<bool, Refusa
             ..FIRST
         },
     ) {
-        Ok(message) => Ok(message.expired(now)),
+        Ok(sent) => Ok(sent.message.expired(now)),
         Err(refusal) => Err(refusal),
     }
 }
 
+/// Times to live, moments, and whether a message is expired then.
+static EXPIRIES: [(&str, i64, i64, Result<bool, Refusal>); 4] = [
+    ("500 at 1499", 500, 1499, Ok(false)),
+    ("500 at 1500", 500, 1500, Ok(true)),
+    ("500 at 1400", 500, 1400, Ok(false)),
+    ("0 at the last", 0, i64::MAX, Ok(false)),
+];
+
 #[test]
 fn expiry(rt: HostRuntime) {
-    holds(
-        &rt,
-        "500 at 1499",
-        is_expired(rt.alloc(), 500, 1499) == Ok(false),
-    );
-    holds(
-        &rt,
-        "500 at 1500",
-        is_expired(rt.alloc(), 500, 1500) == Ok(true),
-    );
-    holds(
-        &rt,
-        "500 at 1400",
-        is_expired(rt.alloc(), 500, 1400) == Ok(false),
-    );
-    holds(
-        &rt,
-        "0 at the last",
-        is_expired(rt.alloc(), 0, i64::MAX) == Ok(false),
-    );
+    for (row, time_to_live, now, wanted) in &EXPIRIES {
+        let is_expired = is_expired(rt.alloc(), *time_to_live, *now);
+        is_truth(&rt, row, wanted, is_expired);
+    }
 }
 
 fn has_default_fields(message: &Message) -> bool {
@@ -193,7 +219,7 @@ fn has_default_fields(message: &Message) -> bool {
 #[test]
 fn defaults_are_stamped(rt: HostRuntime) {
     let has_defaults = match sent(rt.alloc(), FIRST) {
-        Ok(message) => has_default_fields(&message),
+        Ok(sent) => has_default_fields(&sent.message),
         Err(_) => false,
     };
     holds(&rt, "defaults", has_defaults);
@@ -212,11 +238,12 @@ fn add_properties(draft: &mut Draft) {
     let _ = draft.properties_mut().set("y", Property::Bool(true));
 }
 
-fn order(alloc: Global) -> Result<Message, Refusal> {
+fn order(alloc: Global) -> Result<HeldMessage, Refusal> {
+    let with = stamp_at(alloc, 1000)?;
     let mut draft = Draft::new(alloc);
     fill(&mut draft);
     add_properties(&mut draft);
-    stamped(alloc, draft, FIRST)
+    stamped(draft, with, 1)
 }
 
 fn is_text(text: Option<&Str>, wanted: &str) -> bool {
@@ -243,7 +270,7 @@ fn is_order(message: &Message) -> bool {
 #[test]
 fn fields_are_as_they_were_set(rt: HostRuntime) {
     let is_kept = match order(rt.alloc()) {
-        Ok(message) => is_order(&message),
+        Ok(order) => is_order(&order.message),
         Err(_) => false,
     };
     holds(&rt, "an order", is_kept);
@@ -257,9 +284,9 @@ fn writes(message: &mut Message) -> [Option<MessageFault>; 3] {
     [text, bytes, property]
 }
 
-const WRITTEN: [Option<MessageFault>; 3] = [None; 3];
+static WRITTEN: [Option<MessageFault>; 3] = [None; 3];
 
-const REFUSED: [Option<MessageFault>; 3] = [Some(MessageFault::NotWriteable); 3];
+static REFUSED: [Option<MessageFault>; 3] = [Some(MessageFault::NotWriteable); 3];
 
 /// Whether the message can be written, not when it is protected, and again when it is cleared.
 fn is_protected(message: &mut Message) -> bool {
@@ -275,38 +302,55 @@ fn is_protected(message: &mut Message) -> bool {
 #[test]
 fn properties_and_writes(rt: HostRuntime) {
     let is_protected = match order(rt.alloc()) {
-        Ok(mut message) => is_protected(&mut message) && is_bytes(message.body(), &[1]),
+        Ok(mut order) => is_protected(&mut order.message) && is_bytes(order.message.body(), &[1]),
         Err(_) => false,
     };
     holds(&rt, "an order", is_protected);
 }
 
-/// Whether a copy is the same, and not when it is protected.
-fn is_copied(message: &Message) -> Result<bool, AllocError> {
-    let mut copy = message.copy()?;
+/// Whether the copy is the same, and not when it is protected.
+fn is_same(copy: &mut Message, message: &Message) -> bool {
     let is_same = copy.is(message);
     copy.protect();
-    Ok(is_same && !copy.is(message))
+    is_same && !copy.is(message)
+}
+
+fn is_copied(order: &HeldMessage) -> bool {
+    match order.copy() {
+        Ok(mut copy) => is_same(&mut copy.message, &order.message),
+        Err(_) => false,
+    }
 }
 
 #[test]
 fn copies_are_equal(rt: HostRuntime) {
     let is_copied = match order(rt.alloc()) {
-        Ok(message) => is_copied(&message) == Ok(true),
+        Ok(order) => is_copied(&order),
         Err(_) => false,
     };
     holds(&rt, "an order", is_copied);
 }
 
-/// Whether a copy of the draft of a message with another text equals it.
-fn draft_is_copied(alloc: Global) -> Result<bool, Refusal> {
-    let mut draft = order(alloc)?.into_draft();
+/// Whether a copy of the draft equals it.
+fn draft_is_copied(draft: &Draft) -> bool {
+    match draft.copy() {
+        Ok(copy) => copy == *draft,
+        Err(_) => false,
+    }
+}
+
+/// The same of the draft of a message with another text.
+fn becomes_a_draft(order: HeldMessage) -> bool {
+    let mut draft = order.into_draft();
     let _ = draft.set_text("b");
-    let copy = draft.copy();
-    Ok(copy.is_ok_and(|copy| copy == draft))
+    draft_is_copied(&draft)
 }
 
 #[test]
 fn a_message_becomes_a_draft(rt: HostRuntime) {
-    is_true(&rt, "an order", draft_is_copied(rt.alloc()));
+    let is_draft = match order(rt.alloc()) {
+        Ok(order) => becomes_a_draft(order),
+        Err(_) => false,
+    };
+    holds(&rt, "an order", is_draft);
 }

@@ -16,13 +16,13 @@ enum Value {
     Text(&'static str),
 }
 
-fn property(alloc: Global, value: Value) -> Result<Property, AllocError> {
+fn property(alloc: Global, value: &Value) -> Result<Property, AllocError> {
     match value {
-        Value::Bool(value) => Ok(Property::Bool(value)),
-        Value::Byte(value) => Ok(Property::Byte(value)),
-        Value::Short(value) => Ok(Property::Short(value)),
-        Value::Int(value) => Ok(Property::Int(value)),
-        Value::Long(value) => Ok(Property::Long(value)),
+        Value::Bool(value) => Ok(Property::Bool(*value)),
+        Value::Byte(value) => Ok(Property::Byte(*value)),
+        Value::Short(value) => Ok(Property::Short(*value)),
+        Value::Int(value) => Ok(Property::Int(*value)),
+        Value::Long(value) => Ok(Property::Long(*value)),
         Value::Text(text) => Ok(Property::Text(Str::new(String::from_str(alloc, text)?))),
     }
 }
@@ -32,7 +32,7 @@ fn set(
     alloc: Global,
     properties: &mut Properties,
     name: &str,
-    value: Value,
+    value: &Value,
 ) -> Option<MessageFault> {
     match property(alloc, value) {
         Ok(value) => properties.set(name, value).err(),
@@ -41,25 +41,35 @@ fn set(
 }
 
 /// Properties of which the only one is `x`.
-fn only(alloc: Global, value: Value) -> Properties {
+fn only(alloc: Global, value: &Value) -> Properties {
     let mut properties = Properties::new(alloc);
     let _ = set(alloc, &mut properties, "x", value);
     properties
 }
 
-/// `x` read as a boolean, a byte, a short, an int and a long: a truth value as 1 or 0, and what does not convert as none.
+/// What is read as a number: a truth value as 1 or 0, and what does not convert as none.
+fn as_long(read: Result<impl Into<i64>, MessageFault>) -> Option<i64> {
+    match read {
+        Ok(value) => Some(value.into()),
+        Err(_) => None,
+    }
+}
+
+/// `x` read as a boolean, a byte, a short, an int and a long.
 fn reads(properties: &Properties) -> [Option<i64>; 5] {
     [
-        properties.get_bool("x").ok().map(|value| i64::from(value)),
-        properties.get_byte("x").ok().map(|value| i64::from(value)),
-        properties.get_short("x").ok().map(|value| i64::from(value)),
-        properties.get_int("x").ok().map(|value| i64::from(value)),
-        properties.get_long("x").ok(),
+        as_long(properties.get_bool("x")),
+        as_long(properties.get_byte("x")),
+        as_long(properties.get_short("x")),
+        as_long(properties.get_int("x")),
+        as_long(properties.get_long("x")),
     ]
 }
 
-/// Values, what is read of each, and the text.
-const READS: [(Value, [Option<i64>; 5], &str); 12] = [
+/// A value, what is read of it, and its text.
+type Read = (Value, [Option<i64>; 5], &'static str);
+
+static READS: [Read; 12] = [
     (
         Value::Bool(false),
         [Some(0), None, None, None, None],
@@ -114,30 +124,45 @@ const READS: [(Value, [Option<i64>; 5], &str); 12] = [
     ),
 ];
 
-/// The text of `x` where it is the only property.
-fn text(alloc: Global, value: Value) -> Result<String, AllocError> {
-    match only(alloc, value).get_text("x") {
+/// The table, which stands once.
+fn all_reads() -> &'static [Read] {
+    &READS
+}
+
+/// Whether that is read of the value, where it is the only property.
+fn is_read(alloc: Global, row: &Read) -> bool {
+    reads(&only(alloc, &row.0)) == row.1
+}
+
+#[test]
+fn each_type_is_read(rt: HostRuntime) {
+    for row in all_reads() {
+        holds(&rt, row.2, is_read(rt.alloc(), row));
+    }
+}
+
+/// The text of `x`.
+fn text(properties: &Properties) -> Result<String, AllocError> {
+    match properties.get_text("x") {
         Ok(text) => Ok(text.into_inner()),
         Err(_) => Err(AllocError),
     }
 }
 
-#[test]
-fn each_type_is_read(rt: HostRuntime) {
-    for (value, wanted, text) in &READS {
-        holds(&rt, text, reads(&only(rt.alloc(), *value)) == *wanted);
-    }
+/// The text of `x` where it is the only property.
+fn text_of(alloc: Global, value: &Value) -> Result<String, AllocError> {
+    text(&only(alloc, value))
 }
 
 #[test]
 fn each_type_has_a_text(rt: HostRuntime) {
-    for (value, _, wanted) in &READS {
-        is_text(&rt, wanted, text(rt.alloc(), *value));
+    for row in all_reads() {
+        is_text(&rt, row.2, text_of(rt.alloc(), &row.0));
     }
 }
 
 /// Texts, and the longs that they are read as.
-const LONGS: [(&str, Option<i64>); 12] = [
+static LONGS: [(&str, Option<i64>); 12] = [
     ("-9223372036854775808", Some(i64::MIN)),
     ("-9223372036854775809", None),
     ("9223372036854775807", Some(i64::MAX)),
@@ -152,17 +177,21 @@ const LONGS: [(&str, Option<i64>); 12] = [
     ("0x1", None),
 ];
 
+/// Whether the text is read as that long, or not at all.
+fn is_long(alloc: Global, text: &'static str, wanted: Option<i64>) -> bool {
+    as_long(only(alloc, &Value::Text(text)).get_long("x")) == wanted
+}
+
 #[test]
 fn texts_are_read_as_longs(rt: HostRuntime) {
     for (text, wanted) in &LONGS {
-        let read = only(rt.alloc(), Value::Text(text)).get_long("x");
-        holds(&rt, text, read.ok() == *wanted);
+        holds(&rt, text, is_long(rt.alloc(), text, *wanted));
     }
 }
 
 /// The fault of reading the property of that name as an int, where `x` is a long and there is no other.
 fn fault_of_read(alloc: Global, name: &str) -> Option<MessageFault> {
-    only(alloc, Value::Long(5)).get_int(name).err()
+    only(alloc, &Value::Long(5)).get_int(name).err()
 }
 
 #[test]
@@ -174,7 +203,7 @@ fn faults_of_reads(rt: HostRuntime) {
 }
 
 /// Names, whether each is an identifier, and whether a client may set a property of that name.
-const NAMES: [(&str, bool, bool); 18] = [
+static NAMES: [(&str, bool, bool); 18] = [
     ("x", true, true),
     ("_", true, true),
     ("$1", true, true),
@@ -195,16 +224,20 @@ const NAMES: [(&str, bool, bool); 18] = [
     ("Null", false, false),
 ];
 
+/// Whether that is said of the name.
+fn is_named(name: &str, is_name: bool, may_be_set: bool) -> bool {
+    is_identifier(name) == is_name && is_settable(name) == may_be_set
+}
+
 #[test]
 fn names_of_properties(rt: HostRuntime) {
     for (name, is_name, may_be_set) in &NAMES {
-        holds(&rt, name, is_identifier(name) == *is_name);
-        holds(&rt, name, is_settable(name) == *may_be_set);
+        holds(&rt, name, is_named(name, *is_name, *may_be_set));
     }
 }
 
 /// Names, and whether a first property of that name may be a number, and a text.
-const ALLOWED: [(&str, bool, bool); 6] = [
+static ALLOWED: [(&str, bool, bool); 6] = [
     ("x", true, true),
     ("JMSXGroupID", false, true),
     ("JMSXGroupSeq", true, false),
@@ -213,29 +246,35 @@ const ALLOWED: [(&str, bool, bool); 6] = [
     ("Null", false, false),
 ];
 
-/// Whether a first property of that name and value is set; else it is refused for its name.
-fn is_set(alloc: Global, name: &str, value: Value) -> Option<bool> {
-    let mut properties = Properties::new(alloc);
-    match set(alloc, &mut properties, name, value) {
+/// Whether the property, the first, is set; else it is refused for its name.
+fn sets_first(
+    alloc: Global,
+    properties: &mut Properties,
+    name: &str,
+    value: &Value,
+) -> Option<bool> {
+    match set(alloc, properties, name, value) {
         None => Some(properties.len() == 1),
         Some(MessageFault::BadName) if properties.is_empty() => Some(false),
         Some(_) => None,
     }
 }
 
+/// Whether a first property of that name and value is set, or refused for its name, as it is allowed.
+fn is_allowed(alloc: Global, name: &str, value: &Value, allowed: bool) -> bool {
+    sets_first(alloc, &mut Properties::new(alloc), name, value) == Some(allowed)
+}
+
+const NUMBER: Value = Value::Int(1);
+
+const TEXT: Value = Value::Text("1");
+
 #[test]
 fn names_and_values_are_refused(rt: HostRuntime) {
     for (name, number, text) in &ALLOWED {
-        holds(
-            &rt,
-            name,
-            is_set(rt.alloc(), name, Value::Int(1)) == Some(*number),
-        );
-        holds(
-            &rt,
-            name,
-            is_set(rt.alloc(), name, Value::Text("1")) == Some(*text),
-        );
+        let number = is_allowed(rt.alloc(), name, &NUMBER, *number);
+        holds(&rt, name, number);
+        holds(&rt, name, is_allowed(rt.alloc(), name, &TEXT, *text));
     }
 }
 
@@ -245,42 +284,67 @@ const IN_TURN: [(&str, i32); 4] = [("a", 1), ("JMSXGroupSeq", 2), ("A", 3), ("a"
 fn in_turn(alloc: Global) -> Properties {
     let mut properties = Properties::new(alloc);
     for (name, value) in &IN_TURN {
-        let _ = set(alloc, &mut properties, name, Value::Int(*value));
+        let _ = set(alloc, &mut properties, name, &Value::Int(*value));
     }
     properties
 }
 
+fn is_int(property: Option<&Property>, value: i32) -> bool {
+    match property {
+        Some(Property::Int(number)) => *number == value,
+        _ => false,
+    }
+}
+
+fn is_entry(entry: Option<(&str, &Property)>, name: &str, value: i32) -> bool {
+    match entry {
+        Some((its_name, property)) => its_name == name && is_int(Some(property), value),
+        None => false,
+    }
+}
+
 /// Whether the property at that place has that name and value, by each way to ask.
 fn is_at(properties: &Properties, place: usize, name: &str, value: i32) -> bool {
-    let value = Property::Int(value);
     properties.name_at(place) == Some(name)
-        && properties.entry_at(place) == Some((name, &value))
-        && properties.get(name) == Some(&value)
+        && is_entry(properties.entry_at(place), name, value)
+        && is_int(properties.get(name), value)
+}
+
+/// The same of the properties that are set in turn.
+fn is_in_turn_at(alloc: Global, place: usize, name: &str, value: i32) -> bool {
+    is_at(&in_turn(alloc), place, name, value)
+}
+
+static PLACES: [(usize, &str, i32); 3] = [(0, "a", 4), (1, "JMSXGroupSeq", 2), (2, "A", 3)];
+
+fn has_no_more(alloc: Global) -> bool {
+    in_turn(alloc).name_at(3).is_none()
 }
 
 #[test]
 fn order_is_that_of_first_setting(rt: HostRuntime) {
-    let properties = in_turn(rt.alloc());
-    holds(&rt, "a", is_at(&properties, 0, "a", 4));
-    holds(
-        &rt,
-        "JMSXGroupSeq",
-        is_at(&properties, 1, "JMSXGroupSeq", 2),
-    );
-    holds(&rt, "A", is_at(&properties, 2, "A", 3));
-    holds(&rt, "no more", properties.name_at(3).is_none());
+    for (place, name, value) in &PLACES {
+        holds(&rt, name, is_in_turn_at(rt.alloc(), *place, name, *value));
+    }
+    holds(&rt, "no more", has_no_more(rt.alloc()));
 }
 
-/// Whether a copy is the same, and not when the first is cleared.
-fn is_copied(properties: &mut Properties) -> Result<bool, AllocError> {
-    let copy = properties.copy()?;
+/// Whether the copy is the same, and not when the first is cleared.
+fn is_same(copy: &Properties, properties: &mut Properties) -> bool {
     let is_same = copy.is(properties);
     properties.clear();
-    Ok(is_same && !copy.is(properties) && properties.is_empty())
+    is_same && !copy.is(properties) && properties.is_empty()
+}
+
+fn is_copied(properties: &mut Properties) -> bool {
+    match properties.copy() {
+        Ok(copy) => is_same(&copy, properties),
+        Err(_) => false,
+    }
 }
 
 #[test]
 fn copies_are_equal(rt: HostRuntime) {
-    let copied = is_copied(&mut in_turn(rt.alloc()));
-    holds(&rt, "a copy", copied == Ok(true));
+    let is_copied = is_copied(&mut in_turn(rt.alloc()));
+    holds(&rt, "a copy", is_copied);
 }

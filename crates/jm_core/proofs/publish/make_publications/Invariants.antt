@@ -1,7 +1,8 @@
-use Rattle.std.proofs.Common.{◌≡◌, ◌≤◌, ◌+◌, ◌++◌, All, length}
+use Rattle.std.proofs.Common.{◌≡◌, ◌≤◌, ◌+◌, ◌++◌, All, length, map}
 use Rattle.std.specs.Vec.Iter.{into_iter_items}
 use Rattle.jm_core.specs.declared.publish.Publication.{Publication}
-use Rattle.jm_core.specs.Publications.{ArePublished, IsReserved}
+use Rattle.jm_core.specs.Publications.{ArePublished, HasRoom, queue_indexes}
+use Rattle.jm_core.specs.Queues.{IsQueued, published_queues, rows_in}
 use Rattle.jm_core.proofs.publish.make_publications.Given as goal
 
 abbrev pub invariant-loop-publication : goal.invariant-loop-publication
@@ -10,6 +11,8 @@ invariant-loop-publication l = record {
   made : ArePublished l.yielded l.fn.stations.next_place l.fn.stations.list l.stations.list;
   keys : l.stations.keys ≡ l.fn.stations.keys;
   next_place : l.stations.next_place ≡ l.fn.stations.next_place + length l.yielded;
-  messages : length (into_iter_items l.publication-iterator) ≤ l.stations.message_room;
-  reserved : All (λ (x : Publication). IsReserved (length (into_iter_items l.publication-iterator)) l.stations.list x.indexes.items) (into_iter_items l.publication-iterator);
+  queues : rows_in l.queues ≡ published_queues l.fn.stations.next_place (map (λ (x : Publication). x.message) l.yielded) (rows_in l.fn.queues);
+  queue_place : l.queues.next_place ≤ l.stations.next_place;
+  reserved : All (λ (x : Publication). HasRoom (length (into_iter_items l.publication-iterator)) l.stations l.queues x.goal) (into_iter_items l.publication-iterator);
+  queued : All (λ (x : Publication). IsQueued l.queues.keys x.message.destination (queue_indexes x.goal)) (into_iter_items l.publication-iterator);
 }

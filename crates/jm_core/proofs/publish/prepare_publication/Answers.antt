@@ -1,10 +1,30 @@
-use Rattle.jm_core.proofs.Publishing.{nobody, accepting_stand, ready_there}
+use Rattle.std.proofs.Common.{◌∙◌, ◌∷◌, [], refl, subst, sym}
+use Rattle.jm_core.specs.Queues.{IsQueued}
+use Rattle.jm_core.proofs.Publishing.{none_reserved, none_routed}
 use Rattle.jm_core.proofs.publish.prepare_publication.Goals as goal
-
-pub indexes_of-requires : goal.indexes_of-requires
-indexes_of-requires c = record { there = rw (c.deref.ensures.value, c.in_ok-keys.ensures.ok nobody) (accepting_stand nobody c.args.message c.args.subs.now.list c.args.stations.now.keys c.requires.same) }
+use Rattle.jm_core.proofs.publish.prepare_publication.Goals.{in-Queue+in_ok-reserve-in-Queue, in-Topic+in_ok-prepare_subscriptions-in-Topic}
 
 pub returns-clause-ready : goal.returns-clause-ready
 returns-clause-ready c =
-    ready_there c.args.additional c.args.subs.now.list c.args.stations.now.keys c.args.stations.now.list c.reserve.new.self.list c.in_ok-keys.keys.items (record { message = c.args.message; indexes = c.in_ok-indexes.indexes }) c.requires.same c.requires.once
-    c.in_ok-keys.ensures.ok (rw c.deref.ensures.value at c.in_ok-indexes.ensures.indexes) c.in_ok-indexes.ensures.within (rw c.deref.ensures.value at c.in_ok-indexes.ensures.once) c.in_ok-reserve.ensures.list (rw c.deref-2.ensures.value at c.in_ok-reserve.ensures.rows)
+    let life = c.args.sessions.now.life in
+    let ss = c.args.subs.now.list in
+    elim c.match-destination.branch [
+      | in-Queue+in_ok-reserve-in-Queue w ↦
+          let e = w.in_ok-reserve-in-Queue.ensures in
+          let i = w.in_ok-reserve-in-Queue.field-0 in
+          let sent = sym c.destination.ensures ∙ w.in-Queue.is in
+          rw (w.goal-is, w.stations-is, w.queues-is) (record {
+            room = record { subscriptions = none_reserved c.args.additional c.args.stations.now.list; queue = e.reserved; messages = e.messages };
+            aimed = record {
+              routed = none_routed life ss c.args.message w.in-Queue.name sent;
+              queued = subst (λ d. IsQueued w.reserve.new.self.keys d (i ∷ [])) (sym sent) (i, refl, e.there);
+            };
+          })
+      | in-Topic+in_ok-prepare_subscriptions-in-Topic w ↦
+          let e = w.in_ok-prepare_subscriptions-in-Topic.ensures in
+          let sent = sym c.destination.ensures ∙ w.in-Topic.is in
+          rw (w.goal-is, w.stations-is, w.queues-is) (record {
+            room = record { subscriptions = e.reserved; queue = none_reserved c.args.additional c.args.queues.now.list; messages = e.messages };
+            aimed = record { routed = e.routed; queued = subst (λ d. IsQueued c.args.queues.now.keys d []) (sym sent) refl };
+          })
+    ]

@@ -5,4 +5,4 @@ use Rattle.jm_core.specs.Provider.{state_of}
 use Rattle.jm_model.proofs.replies.owner_replies.Goals as goal
 
 pub returns : goal.returns
-returns c = c.answers.ensures (state_of c.args.opening.now).life (lone_of (scope c.args.owner.now) (state_of c.args.opening.now)) (sym c.in_ok-lone.ensures)
+returns c = c.answers.ensures (state_of c.args.opening.now).life (lone_of (scope c.args.owner.now) (state_of c.args.opening.now)) (sym c.in_ok-lone.ensures) (c.in_ok-transactions.ensures c.args.entries.now)

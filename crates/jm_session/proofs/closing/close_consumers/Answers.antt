@@ -1,4 +1,4 @@
-use Rattle.std.proofs.Common.{◌≡◌, ◌∙◌, arith}
+use Rattle.std.proofs.Common.{◌∙◌, arith}
 use Rattle.indexmap.specs.IndexMap.{set_value_at}
 use Rattle.jm_machine.specs.Machine.{closed_consumer, are_meant}
 use Rattle.jm_session.proofs.Changed.{begun_within, begun_next, begun_all}

@@ -7,4 +7,4 @@ pub returns : goal.returns
 returns c =
     let m = c.make_open.ensures in
     let i = c.self.inside in
-    λ who call h. opened c.args.self.now who call c.args.id (state_of (of_parts i.opening i.limit c.make_open.new.sessions i.subs i.stations)) h (rw (m.life, m.consumers, ← c.self.view_is) refl)
+    λ who call h. opened c.args.self.now who call c.args.id c.args.client (state_of (of_parts i.opening i.limit c.make_open.new.sessions i.subs i.stations i.queues)) h (rw (m.life, m.consumers, ← c.self.view_is) refl)

@@ -1,4 +1,4 @@
 use Rattle.jm_core.proofs.state.CoreState.law_accepted.Goals as goal
 
 pub returns : goal.returns
-returns c = rw (← c.self.view_is) c.self.invariant.accepted
+returns c = rw (← c.self.view_is) c.self.invariant.0.accepted

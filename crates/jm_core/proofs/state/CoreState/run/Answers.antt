@@ -8,11 +8,11 @@ use Rattle.jm_core.proofs.state.CoreState.run.Goals as goal
 
 pub loop-call-init : goal.loop-call-init
 loop-call-init c = (
-  rw c.in_ok-replies.ensures.items (begins (state_of c.args.self.now) c.in_ok-sends.sends c.in_ok-sends.ensures.sent),
+  rw c.in_ok-replies.ensures.items (begins (state_of c.args.self.now) c.in_ok-halves.halves c.in_ok-halves.ensures.sent c.in_ok-halves.ensures.kept),
   c.in_ok-replies.ensures.len,
   (let room = c.in_ok-replies.ensures.capacity in let calls = c.len.ensures in omega (arith, room, calls, c.args.calls.ok)),
   sym c.into_iter-call-iterator.ensures.into_iter_gives.0,
-  (let gives = ap length c.into_iter-call-iterator.ensures.into_iter_gives.0 in let room = c.in_ok-sends.ensures.room in let calls = c.len-2.ensures in omega (arith, gives, room, calls)),
+  (let gives = ap length c.into_iter-call-iterator.ensures.into_iter_gives.0 in let room = c.in_ok-halves.ensures.room in let calls = c.len-2.ensures in omega (arith, gives, room, calls)),
 )
 
 pub answer-requires : goal.answer-requires
@@ -28,7 +28,7 @@ push_reserved-requires c =
 
 pub loop-call-preserved : goal.loop-call-preserved
 loop-call-preserved c = (
-  rw c.push_reserved.ensures.items (fits_more _ c.loop-call.yielded c.loop-call.replies.items (progress (state_of c.loop-call.self) c.loop-call.sends) c.in-Some.call c.answer.result (progress (state_of c.answer.new.self) c.answer.new.sends) c.loop-call.invariant.0 c.answer.ensures.owed),
+  rw c.push_reserved.ensures.items (fits_more _ c.loop-call.yielded c.loop-call.replies.items (progress (state_of c.loop-call.self) c.loop-call.halves) c.in-Some.call c.answer.result (progress (state_of c.answer.new.self) c.answer.new.halves) c.loop-call.invariant.0 c.answer.ensures.owed),
   omega (arith, length-append c.loop-call.yielded (c.in-Some.call ∷ [])),
   omega arith,
   c.loop-call.invariant.3 ∙ ap (λ rest. c.loop-call.yielded ++ rest) c.in-Some.ensures.steps.0 ∙ list_assoc c.loop-call.yielded (c.in-Some.call ∷ []) (into_iter_items c.next.new.self),
@@ -37,7 +37,7 @@ loop-call-preserved c = (
 
 pub returns-clause-ok : goal.returns-clause-ok
 returns-clause-ok c = (
-  progress (state_of c.loop-call.self) c.loop-call.sends,
+  progress (state_of c.loop-call.self) c.loop-call.halves,
   rw (← nothing_left c.args.calls.items c.loop-call.yielded (into_iter_items c.loop-call.call-iterator) c.loop-call.invariant.3 (sym c.loop-call.call-iterator.rest.ok.0 ∙ c.in-None.ensures.steps.0)) c.loop-call.invariant.0,
   refl,
 )

@@ -24,7 +24,7 @@ returns c =
     on_ok c.end_if.result
     (λ is.
     ap (seen c.args.owner.now) is
-    ∙ close_seen c.args.owner.now c.self.inside.sessions c.close_connection.new.self c.self.inside.subs.list c.self.inside.rows c.give_back.new.self c.ends-ends.result (is_ok c.close_connection.result) c.self.invariant
+    ∙ close_seen c.args.owner.now c.self.inside.sessions c.close_connection.new.self c.self.inside.definition c.self.inside.rows c.give_back.new.self c.ends-ends.result (is_ok c.close_connection.result) c.self.invariant
     c.close_connection.ensures.ok c.close_connection.ensures.life c.close_connection.ensures.consumers c.give_back.ensures
     (c.ends-ends.ensures ∙ ap (λ (l : Lone). ends p l.consumers (scope c.args.owner.now).key) (sym c.self.view_is))
     ∙ ap (λ (l : Lone). seen c.args.owner.now (lone_did (scope c.args.owner.now).key l (Connection c.args.owner.now.session.connection) CloseConnection)) c.self.view_is)

@@ -19,7 +19,7 @@ invariant_of-self-2 c =
 
 pub returns-then-is_err : goal.returns-then-is_err
 returns-then-is_err c =
-    leave_refused (scope c.args.owner.now).key c.args.id.now c.self.inside.sessions c.close_session.new.self c.self.inside.subs.list c.self.inside.rows (is_ok c.close_session.result)
+    leave_refused (scope c.args.owner.now).key c.args.id.now c.self.inside.sessions c.close_session.new.self c.self.inside.definition c.self.inside.rows (is_ok c.close_session.result)
     (not_ok c.close_session.result (sym c.is_err.ensures.value ∙ c.if-is_err.true)) c.close_session.ensures.ok c.close_session.ensures.life c.close_session.ensures.consumers
     ∙ ap (λ (l : Lone). cond (is_none (lone_refusal l (Session c.args.id.now) CloseSession)) (lone_did (scope c.args.owner.now).key l (Session c.args.id.now) CloseSession) l) c.self.view_is
 
@@ -28,7 +28,7 @@ returns c =
     on_ok c.end_if.result
     (λ is.
     is
-    ∙ leaves (scope c.args.owner.now).key c.args.id.now c.self.inside.sessions c.close_session.new.self c.self.inside.subs.list c.self.inside.rows c.give_back.new.self c.ends-ends.result (is_ok c.close_session.result)
+    ∙ leaves (scope c.args.owner.now).key c.args.id.now c.self.inside.sessions c.close_session.new.self c.self.inside.definition c.self.inside.rows c.give_back.new.self c.ends-ends.result (is_ok c.close_session.result)
     (not_err c.close_session.result (sym c.is_err.ensures.value ∙ c.if-is_err.false)) c.close_session.ensures.ok c.close_session.ensures.life c.close_session.ensures.consumers c.give_back.ensures
     (c.ends-ends.ensures ∙ ap (λ (l : Lone). ends (of_session c.args.id.now) l.consumers (scope c.args.owner.now).key) (sym c.self.view_is))
     ∙ ap (λ (l : Lone). cond (is_none (lone_refusal l (Session c.args.id.now) CloseSession)) (lone_did (scope c.args.owner.now).key l (Session c.args.id.now) CloseSession) l) c.self.view_is)

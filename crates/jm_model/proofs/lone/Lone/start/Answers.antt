@@ -17,5 +17,5 @@ invariant_of-self c =
 
 pub returns : goal.returns
 returns c =
-    start_seen c.args.owner.now c.self.inside.sessions c.start.new.self c.self.inside.subs.list c.self.inside.rows (is_ok c.start.result) c.self.invariant c.start.ensures.ok c.start.ensures.life c.start.ensures.consumers
+    start_seen c.args.owner.now c.self.inside.sessions c.start.new.self c.self.inside.definition c.self.inside.rows (is_ok c.start.result) c.self.invariant c.start.ensures.ok c.start.ensures.life c.start.ensures.consumers
     ∙ ap (λ (l : Lone). seen c.args.owner.now (lone_did (scope c.args.owner.now).key l (Connection c.args.owner.now.session.connection) Start)) c.self.view_is

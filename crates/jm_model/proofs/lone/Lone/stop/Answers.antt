@@ -17,5 +17,5 @@ invariant_of-self c =
 
 pub returns : goal.returns
 returns c =
-    stop_seen c.args.owner.now c.self.inside.sessions c.stop.new.self c.self.inside.subs.list c.self.inside.rows (is_ok c.stop.result) c.self.invariant c.stop.ensures.ok c.stop.ensures.life c.stop.ensures.consumers
+    stop_seen c.args.owner.now c.self.inside.sessions c.stop.new.self c.self.inside.definition c.self.inside.rows (is_ok c.stop.result) c.self.invariant c.stop.ensures.ok c.stop.ensures.life c.stop.ensures.consumers
     ∙ ap (λ (l : Lone). seen c.args.owner.now (lone_did (scope c.args.owner.now).key l (Connection c.args.owner.now.session.connection) Stop)) c.self.view_is

@@ -1,4 +1,4 @@
-use Rattle.std.proofs.Common.{◌≡◌, ◌∙◌, ap, sym, refl, subst, false, true}
+use Rattle.std.proofs.Common.{◌∙◌, ap, sym, refl, subst, false}
 use Rattle.std.specs.Prelude.{◌==◌, is_some, map}
 use Rattle.std.specs.Map.{values_of}
 use Rattle.indexmap.specs.IndexMap.{values}
@@ -12,6 +12,7 @@ use Rattle.jm_session.specs.Known.{Known}
 use Rattle.jm_session.specs.Numbers.{IsNumbered, number_of}
 use Rattle.jm_session.proofs.Found.{connection_found, num_sym, life_of}
 use Rattle.jm_session.proofs.Changed.{changed_found, num_same, values_changed, numbered_changed, session_keeps, consumer_keeps}
+use Rattle.jm_session.proofs.Indexed.{apart_closed, index_closed}
 use Rattle.jm_session.proofs.sessions.Sessions.close_connection.Goals as goal
 
 pub returns-in_default-clause-ok : goal.returns-in_default-clause-ok
@@ -26,6 +27,9 @@ invariant_of-self c = (
   subst (IsNumbered (λ (x : SessionState). x.id)) (sym c.close_sessions.ensures.entries)
       (numbered_changed (closed_where (λ s. s.connection == c.args.id)) (λ (x : SessionState). x.id) (session_keeps (λ s. s.connection == c.args.id)) c.self.inside.sessions.entries c.self.invariant.1),
   subst (IsNumbered number_of) (sym c.close_consumers.ensures.entries) (numbered_changed (closed_consumer (of_connection c.args.id)) number_of (consumer_keeps (of_connection c.args.id)) c.self.inside.consumers.entries c.self.invariant.2),
+  apart_closed (record c.index_mut-connection.result.now { is_started = false; is_open = false }) c.self.inside.connections.entries c.in-Some.at c.index_mut-connection.result.now c.index_mut-connection.ensures.value refl c.self.invariant.3,
+  λ all. index_closed (record c.index_mut-connection.result.now { is_started = false; is_open = false }) c.self.inside.connections.entries c.in-Some.at c.index_mut-connection.result.now c.self.inside.clients c.free.new.self c.index_mut-connection.ensures.value refl c.self.invariant.3
+      c.free.ensures.clients (c.self.invariant.4 (sym c.free.ensures.all ∙ all)),
 )
 
 pub returns-clause-ok : goal.returns-clause-ok

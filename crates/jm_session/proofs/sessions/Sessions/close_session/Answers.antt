@@ -17,6 +17,8 @@ invariant_of-self c = (
   c.self.invariant.0,
   (c.close_session.ensures.entries c.self.invariant.1).1,
   subst (IsNumbered number_of) (sym c.close_consumers.ensures.entries) (numbered_changed (closed_consumer (of_session c.args.id.now)) number_of (consumer_keeps (of_session c.args.id.now)) c.self.inside.consumers.entries c.self.invariant.2),
+  c.self.invariant.3,
+  c.self.invariant.4,
 )
 
 pub returns-clause-life : goal.returns-clause-life

@@ -1,16 +1,38 @@
-use Rattle.std.proofs.Common.{◌≡◌, ◌∙◌, sym, refl, subst, false}
+use Rattle.std.proofs.Common.{◌≡◌, ◌∙◌, ap, arith, sym, subst, true, false}
 use Rattle.std.specs.Prelude.{is_some}
-use Rattle.jm_machine.specs.Life.{connection_of}
+use Rattle.indexmap.specs.IndexMap.{values}
+use Rattle.jm_machine.specs.declared.call.Who.TheVariants.{Connection}
+use Rattle.jm_machine.specs.declared.call.Request.TheVariants.{Open}
 use Rattle.jm_machine.specs.declared.state.ConnectionState.{ConnectionState}
+use Rattle.jm_machine.specs.Life.{connection_of, is_client_taken, life_after}
+use Rattle.jm_session.specs.Clients.{AreClientsApart, IsIndexOf}
 use Rattle.jm_session.specs.Known.{Known}
-use Rattle.jm_session.specs.Numbers.{IsNumbered}
-use Rattle.jm_session.proofs.Found.{connection_added_numbered}
+use Rattle.jm_session.proofs.Found.{life_of, opened, surely}
+use Rattle.jm_session.proofs.Indexed.{apart_more, free_client, index_of_more}
 use Rattle.jm_session.proofs.sessions.Sessions.open.Goals as goal
 
 pub invariant_of-self-2 : goal.invariant_of-self-2
 invariant_of-self-2 c =
-    let absent : is_some (connection_of c.args.self.now.life.connections c.args.id) ≡ false = sym c.is_used.ensures ∙ c.if-is_used.false in (
-      subst (IsNumbered (λ (x : ConnectionState). x.id)) (sym c.in-Ok.ensures.entries) (connection_added_numbered c.self.inside.connections c.args.id _ refl c.self.invariant.0 (subst (λ (k : Known). is_some (connection_of k.life.connections c.args.id) ≡ false) (sym c.self.view_is) absent)),
+    let x : ConnectionState = record { id = c.args.id; client = c.args.client; is_started = false; is_open = true } in
+    let absent : is_some (connection_of (values c.self.inside.connections) c.args.id) ≡ false =
+    ap (λ (k : Known). is_some (connection_of k.life.connections c.args.id)) c.self.view_is ∙ sym c.is_used.ensures ∙ c.if-is_used.false in
+    let free : is_client_taken (life_of (values c.self.inside.connections) (values c.self.inside.sessions)) c.args.client ≡ false =
+    ap (λ (k : Known). is_client_taken k.life c.args.client) c.self.view_is ∙ sym c.is_client_taken.ensures ∙ c.if-is_client_taken.false in
+    let after = opened c.self.inside.connections c.reserve.new.self c.insert.new.self x c.self.invariant.0 absent c.reserve.ensures.entries (surely c.insert.result c.insert.ensures.entries (c.insert.ensures.succeeds (omega (arith, c.in_ok-reserve.ensures.ok)))) in (
+      after.1,
       c.self.invariant.1,
       c.self.invariant.2,
+      subst AreClientsApart (sym after.0) (apart_more (values c.self.inside.connections) x c.self.invariant.3 (free_client (values c.self.inside.connections) (values c.self.inside.sessions) x free)),
+      λ all. subst (λ xs. IsIndexOf xs c.note.new.self) (sym after.0)
+          (index_of_more (values c.self.inside.connections) x c.self.inside.clients c.note.new.self (c.self.invariant.4 (c.note.ensures.all all)) (c.note.ensures.clients all)),
     )
+
+pub returns-clause-life : goal.returns-clause-life
+unfolding life_after
+returns-clause-life c =
+    let x : ConnectionState = record { id = c.args.id; client = c.args.client; is_started = false; is_open = true } in
+    let absent : is_some (connection_of (values c.self.inside.connections) c.args.id) ≡ false =
+    ap (λ (k : Known). is_some (connection_of k.life.connections c.args.id)) c.self.view_is ∙ sym c.is_used.ensures ∙ c.if-is_used.false in
+    let after = opened c.self.inside.connections c.reserve.new.self c.insert.new.self x c.self.invariant.0 absent c.reserve.ensures.entries (surely c.insert.result c.insert.ensures.entries (c.insert.ensures.succeeds (omega (arith, c.in_ok-reserve.ensures.ok)))) in
+    ap (λ xs. life_of xs (values c.self.inside.sessions)) after.0
+    ∙ ap (λ (k : Known). life_after k.life (Connection c.args.id) (Open c.args.client)) c.self.view_is

@@ -1,4 +1,4 @@
-use Rattle.std.proofs.Common.{◌≡◌, ◌∙◌, ap, sym, refl, false, Option, Some, None}
+use Rattle.std.proofs.Common.{◌≡◌, ◌∙◌, ap, sym, refl, false, Some}
 use Rattle.std.specs.Prelude.{◌==◌, is_some}
 use Rattle.indexmap.specs.IndexMap.{values}
 use Rattle.jm_machine.specs.declared.state.ConnectionState.{ConnectionState}
@@ -6,6 +6,7 @@ use Rattle.jm_machine.specs.Life.{connection_of, is_open_connection}
 use Rattle.jm_session.specs.Known.{Known, life_set}
 use Rattle.jm_session.proofs.Found.{connection_found, num_sym, life_of, nothing}
 use Rattle.jm_session.proofs.Changed.{changed_found, num_same}
+use Rattle.jm_session.proofs.Indexed.{apart_kept, index_kept}
 use Rattle.jm_session.proofs.sessions.Sessions.set_started.Goals as goal
 
 pub returns-in_default-clause-ok : goal.returns-in_default-clause-ok
@@ -28,6 +29,8 @@ invariant_of-self c = (
       c.index_mut.ensures.value c.self.invariant.0 c.get_index_of.ensures.unique (sym c.get_index_of.ensures.index ∙ c.in-Some.is)).1,
   c.self.invariant.1,
   c.self.invariant.2,
+  apart_kept (record c.index_mut.result.now { is_started = c.args.on }) c.self.inside.connections.entries c.in-Some.at c.index_mut.result.now c.index_mut.ensures.value (λ client. refl) c.self.invariant.3,
+  λ all. index_kept (record c.index_mut.result.now { is_started = c.args.on }) c.self.inside.connections.entries c.in-Some.at c.index_mut.result.now c.self.inside.clients c.index_mut.ensures.value (λ client. refl) (c.self.invariant.4 all),
 )
 
 pub returns-clause-ok : goal.returns-clause-ok

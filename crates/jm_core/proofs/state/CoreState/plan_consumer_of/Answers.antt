@@ -1,0 +1,14 @@
+use Rattle.std.proofs.Common.{refl}
+use Rattle.std.proofs.lemmas.Result.{err_from_is_err_and}
+use Rattle.jm_dest.specs.declared.destination.Destination.TheVariants.{Queue}
+use Rattle.jm_core.specs.Queues.{rows_in}
+use Rattle.jm_core.proofs.Fits.{state_from, create_refused}
+use Rattle.jm_core.proofs.state.CoreState.plan_consumer_of.Goals as goal
+
+pub returns-in_err-queue : goal.returns-in_err-queue
+returns-in_err-queue c = λ no_local.
+    let p = err_from_is_err_and c.from_residual.result c.from_residual.ensures.1 in
+    let h = c.in_err-queue.ensures in
+    let i = c.self.inside in
+    let state = state_from i.opening i.limit i.sessions.life i.sessions.consumers i.subs.list i.stations.list (rows_in i.queues) i.stations.next_place in
+    rw (p.1, p.2, h.life, h.consumers, ← c.self.view_is) (refl {a = state}, create_refused state c.args.session.now c.args.id (Queue c.args.queue.now) c.args.selector.now no_local c.in_err-queue.field-0.0 h.illegal h.refused)

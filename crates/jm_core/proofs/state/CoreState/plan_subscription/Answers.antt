@@ -1,0 +1,17 @@
+use Rattle.std.proofs.Common.{ap, refl}
+use Rattle.std.proofs.lemmas.Result.{err_from_is_err_and}
+use Rattle.jm_dest.specs.declared.destination.Destination.TheVariants.{Topic}
+use Rattle.jm_stations.specs.Stations.{Stations}
+use Rattle.jm_core.specs.Queues.{rows_in}
+use Rattle.jm_core.proofs.Fits.{state_from, create_refused}
+use Rattle.jm_core.proofs.state.CoreState.plan_subscription.Goals as goal
+
+pub returns-in_err-decision : goal.returns-in_err-decision
+returns-in_err-decision c =
+    let p = err_from_is_err_and c.from_residual.result c.from_residual.ensures.1 in
+    let h = c.in_err-decision.ensures in
+    let list = ap (λ (x : Stations). x.list) h.stations in
+    let place = ap (λ (x : Stations). x.next_place) h.stations in
+    let i = c.self.inside in
+    rw (p.1, p.2, h.life, h.consumers, h.subs, list, place, ← c.self.view_is)
+    (refl, create_refused (state_from i.opening i.limit i.sessions.life i.sessions.consumers i.subs.list i.stations.list (rows_in i.queues) i.stations.next_place) c.args.session.now c.args.id (Topic c.args.topic.now) c.args.selector.now c.args.no_local c.in_err-decision.field-0.0 h.illegal h.refused)

@@ -1,0 +1,223 @@
+//! What the queues hold.
+
+ghost use Rattle.std.specs.Prelude.{◌≡◌, ◌≤◌, ◌<◌, ◌+◌, ◌&&◌, ℕ, true, false, List, [], ◌∷◌, not, is_some, map, length, slice_index_or, Some, IfSome, IfOk, OnOk, OnErr};
+ghost use Rattle.jm_dest.specs.declared.key.Key.TheVariants as key;
+ghost use Rattle.jm_dest.specs.declared.destination.Destination.TheVariants as destination;
+ghost use Rattle.jm_machine.specs.Machine.{are_meant, at_queue, at_queues, places_end, queued, returned_rows, settled_rows};
+ghost use Rattle.jm_machine.specs.Rows.{bare, chosen, deliver_chosen};
+ghost use Rattle.jm_machine.specs.Wants.{next_chosen};
+ghost use Rattle.jm_selector.specs.Selectors.{read_selects, selector_read};
+ghost use Rattle.jm_stations.specs.Backlogs as backlogs;
+ghost use Rattle.jm_stations.specs.Backlogs.{Backlog};
+ghost use Rattle.jm_stations.specs.Stations.{index_in};
+ghost use Rattle.jm_core.specs.Publications.{IsReserved};
+ghost use Rattle.jm_core.specs.Queues.{HaveMoreRoom, rows_in};
+
+use jm_dest::{ConsumerId, Key, Moment, Name, SessionId};
+use jm_header::Message;
+use jm_machine::{Answer, Consumers, PlacedRow};
+use jm_selector::Selector;
+use jm_stations::Stations;
+use std::alloc::{AllocError, Global};
+use std::marker::Model;
+use std::slice::from_ref;
+
+/// What the queues hold, in a table of messages of its own: a message is sent to a queue or to a topic, and is held in
+/// one of both tables. A queue has a key from the first message on that is sent to it; one that holds nothing is as if it
+/// had none.
+#[derive(Drop)]
+pub(crate) struct Queues {
+    stations: Stations,
+}
+
+impl Model for Queues {
+    ghost use Rattle.jm_stations.specs.Stations.{Stations as StationsShown};
+    ghost use Rattle.jm_core.specs.Queues.{AreQueues};
+
+    ghost Value = { StationsShown };
+
+    ghost view = { λ q. q.stations };
+
+    ghost invariant = { λ q. AreQueues q.stations.list q.stations.next_place };
+}
+
+impl Queues {
+    /// No queue holds anything. Takes no memory.
+    pub(crate) fn new(alloc: Global) -> Queues
+        ensures keys { result.keys ≡ [] }
+        ensures list { result.list ≡ [] }
+        ensures next_place { result.next_place ≡ 1 }
+    {
+        Queues {
+            stations: Stations::new(alloc),
+        }
+    }
+
+    /// How many messages are held, each counted once.
+    pub(crate) fn kept(&self) -> usize
+        ensures { backlogs.IsNumberOfMessages result self.now.list }
+    {
+        self.stations.kept()
+    }
+
+    /// An equal table, with other room. `AllocError` where a request for memory was refused.
+    pub(crate) fn copy(&self) -> Result<Queues, AllocError>
+        ensures rows { IfOk result (λ copy. rows_in copy ≡ rows_in self.now) }
+        ensures next_place { IfOk result (λ copy. copy.next_place ≡ self.now.next_place) }
+    {
+        Ok(Queues {
+            stations: self.stations.copy()?,
+        })
+    }
+
+    /// Copies of the rows of that queue, by place. `AllocError` where a request for memory was refused.
+    pub(crate) fn rows(&self, alloc: Global, name: &Name) -> Result<Vec<PlacedRow>, AllocError>
+        ensures { IfOk result (λ rows. rows.items ≡ rows_in self.now name.now) }
+    {
+        let key = Key::Queue(name.copy()?);
+        match self.stations.index_of(&key) {
+            None => Ok(Vec::new(alloc)),
+            Some(index) => self.stations.rows_of(index),
+        }
+    }
+
+    /// Where the key of a queue stands. It is found by its hash.
+    pub(crate) fn index_of(&self, key: &Key) -> Option<usize>
+        ensures index { result ≡ index_in self.now.keys key.now }
+        ensures within { IfSome result (λ i. i < length self.now.list) }
+    {
+        self.stations.index_of(key)
+    }
+
+    /// Where the key of that queue stands, which is made where there was none.
+    fn index_made(&mut self, name: &Name) -> Result<usize, AllocError>
+        ensures more { HaveMoreRoom self.old self.new }
+        ensures there { IfOk result (λ i. index_in self.new.keys (key.Queue name.now) ≡ Some i) }
+        ensures within { IfOk result (λ i. i < length self.new.list) }
+    {
+        let key = Key::Queue(name.copy()?);
+        match self.stations.index_of(&key) {
+            Some(index) => Ok(index),
+            None => {
+                let index = self.stations.len();
+                self.stations.reserve_key()?;
+                self.stations.create(key, None);
+                Ok(index)
+            }
+        }
+    }
+
+    /// Where that queue stands, with room for that many more messages. `AllocError` where a request for memory was
+    /// refused. Either way all but the room is as before.
+    pub(crate) fn reserve(&mut self, name: &Name, additional: usize) -> Result<usize, AllocError>
+        ensures more { HaveMoreRoom self.old self.new }
+        ensures there { IfOk result (λ i. index_in self.new.keys (key.Queue name.now) ≡ Some i) }
+        ensures reserved { IfOk result (λ i. IsReserved additional self.new.list (i ∷ [])) }
+        ensures messages { OnOk result (additional ≤ self.new.message_room) }
+    {
+        let index = self.index_made(name)?;
+        self.stations.reserve(from_ref(&index), additional)?;
+        Ok(index)
+    }
+
+    /// A message comes to the queue with that index, at that place. Takes no memory, since room was reserved.
+    pub(crate) fn publish(&mut self, message: Message, index: usize, place: u64)
+        requires from { self.old.next_place ≤ place }
+        requires places { place < places_end }
+        requires messages { 0 < self.old.message_room }
+        requires reserved { IsReserved 1 self.old.list (index ∷ []) }
+        ensures keys { self.new.keys ≡ self.old.keys }
+        ensures list { backlogs.IsPublished (index ∷ []) place message self.old.list self.new.list }
+        ensures rows { (name : List ℕ) → index_in self.old.keys (key.Queue name) ≡ Some index →
+            rows_in self.new ≡ queued (destination.Queue name) message place (rows_in self.old) }
+        ensures next_place { self.new.next_place ≡ place + 1 }
+        ensures room { self.old.message_room ≤ self.new.message_room + 1 }
+    {
+        self.stations.skip_to(place);
+        self.stations.publish(message, from_ref(&index));
+    }
+
+    /// The copy that a delivery from the queue with that index wants at that moment, which settles at once or not, of the
+    /// messages that the selector selects. `AllocError` where a request for memory was refused, which comes only where a
+    /// row stays: a queue's message is held there alone.
+    pub(crate) fn copy_for(
+        &self,
+        index: usize,
+        now: Moment,
+        settles: bool,
+        selector: &Selector,
+    ) -> Result<Option<Message>, AllocError>
+        requires within { index < length self.now.list }
+        ensures copy { (d : Backlog) → IfOk result (λ copy. copy ≡ backlogs.copy_wanted_where (read_selects (selector_read selector.now))
+            settles now self.now.list (slice_index_or self.now.list index d).rows) }
+        ensures err { (name : List ℕ) → index_in self.now.keys (key.Queue name) ≡ Some index → OnErr result
+            ((not settles && is_some (next_chosen (read_selects (selector_read selector.now)) now (rows_in self.now name))) ≡ true) }
+    {
+        self.stations.copy_where(index, now, settles, selector)
+    }
+
+    /// Drops the waiting rows of the queue with that index that are expired at that moment, and delivers the next one of
+    /// those that the selector selects, which is settled. Takes no memory.
+    pub(crate) fn receive(
+        &mut self,
+        index: usize,
+        now: Moment,
+        selector: &Selector,
+        copy: Option<Message>,
+    ) -> Answer
+        requires within { index < length self.old.list }
+        requires copy { (d : Backlog) → copy ≡ backlogs.copy_wanted_where (read_selects (selector_read selector.now)) true now
+            self.old.list (slice_index_or self.old.list index d).rows }
+        ensures answer { (name : List ℕ) → index_in self.old.keys (key.Queue name) ≡ Some index →
+            result ≡ backlogs.answered_where (read_selects (selector_read selector.now)) now (rows_in self.old name) }
+        ensures rows { (name : List ℕ) → index_in self.old.keys (key.Queue name) ≡ Some index →
+            rows_in self.new ≡ at_queue name (deliver_chosen (read_selects (selector_read selector.now)) now backlogs.gone) (rows_in self.old) }
+        ensures next_place { self.new.next_place ≡ self.old.next_place }
+    {
+        self.stations.receive_where(index, now, selector, copy)
+    }
+
+    /// Drops the waiting rows of the queue with that index that are expired at that moment, and delivers the next one of
+    /// those that the selector selects, which goes out to the session through its consumer. Takes no memory.
+    pub(crate) fn deliver(
+        &mut self,
+        index: usize,
+        now: Moment,
+        selector: &Selector,
+        copy: Option<Message>,
+        session: SessionId,
+        consumer: ConsumerId,
+    ) -> Answer
+        requires within { index < length self.old.list }
+        requires copy { (d : Backlog) → copy ≡ backlogs.copy_wanted_where (read_selects (selector_read selector.now)) false now
+            self.old.list (slice_index_or self.old.list index d).rows }
+        ensures answer { (name : List ℕ) → index_in self.old.keys (key.Queue name) ≡ Some index →
+            result ≡ backlogs.answered_where (read_selects (selector_read selector.now)) now (rows_in self.old name) }
+        ensures rows { (name : List ℕ) → index_in self.old.keys (key.Queue name) ≡ Some index → rows_in self.new ≡
+            at_queue name (deliver_chosen (read_selects (selector_read selector.now)) now (backlogs.out_row session consumer)) (rows_in self.old) }
+        ensures next_place { self.new.next_place ≡ self.old.next_place }
+    {
+        self.stations
+            .deliver_where(index, now, selector, copy, session, consumer)
+    }
+
+    /// The rows that are out through one of those consumers go. Takes no memory.
+    pub(crate) fn settle(&mut self, which: &Consumers)
+        ensures keys { self.new.keys ≡ self.old.keys }
+        ensures list { self.new.list ≡ map (backlogs.settled (are_meant which.now)) self.old.list }
+        ensures rows { rows_in self.new ≡ at_queues (settled_rows (are_meant which.now)) (rows_in self.old) }
+        ensures next_place { self.new.next_place ≡ self.old.next_place }
+        ensures room { self.old.message_room ≤ self.new.message_room }
+    {
+        self.stations.settle(which);
+    }
+
+    /// The rows that are out through one of those consumers wait again, at their places and with their counts. Takes no
+    /// memory.
+    pub(crate) fn give_back(&mut self, which: &Consumers)
+        ensures rows { rows_in self.new ≡ at_queues (returned_rows (are_meant which.now)) (rows_in self.old) }
+        ensures next_place { self.new.next_place ≡ self.old.next_place }
+    {
+        self.stations.give_back(which);
+    }
+}

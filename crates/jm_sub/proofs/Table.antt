@@ -1,0 +1,160 @@
+-- The table of topics agrees with the list.
+use Rattle.std.proofs.Common.{◌≡◌, ◌+◌, ◌≤◌, ◌<◌, ◌^◌, ℕ, suc, length, Bool, true, false, true≢false, cond, List, [], ◌∷◌, ◌++◌, None, Some, refl, sym, ap, ◌∙◌, arith, is_some, unwrap_or}
+use Rattle.std.specs.Prelude.{not, filter, map, option_and_then}
+use Rattle.std.specs.Map.{lookup}
+use Rattle.std.specs.Set.{is_member}
+use Rattle.std.proofs.lemmas.Cmp.{nat_list_eq_equiv}
+use Rattle.jm_dest.specs.declared.key.Key.{Key}
+use Rattle.jm_dest.specs.Keys.{key_eq}
+use Rattle.jm_dest.specs.Names.{text_eq}
+use Rattle.jm_machine.specs.declared.state.Definition.{Definition}
+use Rattle.jm_sub.specs.declared.ending.Ending.{Ending}
+use Rattle.jm_sub.specs.declared.topics.Topics.{Topics}
+use Rattle.jm_sub.specs.Entries.{IsNew, subscription_of, subscriptions_of}
+use Rattle.jm_sub.specs.Subscriptions.{Subscription, without}
+use Rattle.jm_sub.specs.Topics.{IsTableOf, at_least_one, ends, keys_at, keys_to, left}
+use Rattle.jm_sub.proofs.Keys.{key_sym, set_eq, set_is, text_same}
+
+-- those of the subscriptions that stay
+abbrev pub staying : Ending → List Subscription → List Subscription
+staying ending subscriptions = filter (λ s. not (ends ending s.key)) subscriptions
+
+-- the subscriptions of the entries that stay
+pub subscriptions_left : (ending : Ending) (es : List (Key × Definition)) → subscriptions_of (filter (λ e. not (ends ending e.0)) es) ≡ staying ending (subscriptions_of es)
+subscriptions_left ending [] = refl
+subscriptions_left ending (e ∷ es) = by (not (ends ending e.0)) (subscriptions_left ending es)
+  where
+    by : (b : Bool) → subscriptions_of (filter (λ x. not (ends ending x.0)) es) ≡ staying ending (subscriptions_of es) →
+        subscriptions_of (cond b (e ∷ filter (λ x. not (ends ending x.0)) es) (filter (λ x. not (ends ending x.0)) es)) ≡ cond b (subscription_of e ∷ staying ending (subscriptions_of es)) (staying ending (subscriptions_of es))
+    by true rest = ap (λ ss. subscription_of e ∷ ss) rest
+    by false rest = rest
+
+-- the keys of a topic's subscriptions that stay
+pub keys_left : (ending : Ending) (topic : List ℕ) (ss : List Subscription) → keys_to topic (staying ending ss) ≡ left ending (keys_to topic ss)
+keys_left ending topic [] = refl
+keys_left ending topic (s ∷ ss) = by (not (ends ending s.key)) refl (text_eq s.definition.topic topic) refl (keys_left ending topic ss)
+  where
+    by : (b : Bool) → not (ends ending s.key) ≡ b → (t : Bool) → text_eq s.definition.topic topic ≡ t → keys_to topic (staying ending ss) ≡ left ending (keys_to topic ss) →
+        keys_to topic (staying ending (s ∷ ss)) ≡ left ending (keys_to topic (s ∷ ss))
+    by true stays true there rest = rw (stays, there) (rw stays (ap (λ ks. s.key ∷ ks) rest))
+    by true stays false other rest = rw (stays, other) rest
+    by false goes true there rest = rw (goes, there) (rw goes rest)
+    by false goes false other rest = rw (goes, other) rest
+
+-- an entry that is cut down
+cut_entry : (ending : Ending) (keys : List Key) → option_and_then (λ ks. at_least_one (left ending ks)) (at_least_one keys) ≡ at_least_one (left ending keys)
+cut_entry ending [] = refl
+cut_entry ending (k ∷ keys) = refl
+
+-- the table after an end
+pub removed_table : (ending : Ending) (old new : Topics) (ss ss' : List Subscription) → ss' ≡ staying ending ss → IsTableOf ss old →
+    ((topic : List ℕ) → keys_at new topic ≡ option_and_then (λ keys. at_least_one (left ending keys)) (keys_at old topic)) → IsTableOf ss' new
+removed_table ending old new ss ss' same table after = λ topic.
+    after topic ∙ ap (option_and_then (λ keys. at_least_one (left ending keys))) (table topic) ∙ cut_entry ending (keys_to topic ss) ∙ ap at_least_one (sym (keys_left ending topic ss)) ∙ ap (λ xs. at_least_one (keys_to topic xs)) (sym same)
+
+-- where the key is nobody's, nobody is taken out
+pub without_absent : (key : Key) (es : List (Key × Definition)) → is_some (lookup (set_eq key) es) ≡ false → subscriptions_of es ≡ without key (subscriptions_of es)
+without_absent key [] h = refl
+without_absent key (e ∷ es) h = by (set_eq key e.0) refl (without_absent key es)
+  where
+    by : (b : Bool) → set_eq key e.0 ≡ b → (is_some (lookup (set_eq key) es) ≡ false → subscriptions_of es ≡ without key (subscriptions_of es)) → subscriptions_of (e ∷ es) ≡ without key (subscriptions_of (e ∷ es))
+    by true this rest = absurd (true≢false (sym (ap (λ b. is_some (cond b (Some e.1) (lookup (set_eq key) es))) this) ∙ h))
+    by false this rest =
+        let apart : key_eq e.0 key ≡ false = key_sym e.0 key ∙ sym (set_is key e.0) ∙ this in
+        let later : is_some (lookup (set_eq key) es) ≡ false = sym (ap (λ b. is_some (cond b (Some e.1) (lookup (set_eq key) es))) this) ∙ h in
+        rw apart (ap (λ ss. subscription_of e ∷ ss) (rest later))
+
+-- the key of what was taken out is new
+pub new_without : (key : Key) (ss : List Subscription) → IsNew key (without key ss)
+new_without key [] = tt
+new_without key (s ∷ ss) = by (key_eq s.key key) refl (new_without key ss)
+  where
+    by : (b : Bool) → key_eq s.key key ≡ b → IsNew key (without key ss) → IsNew key (cond (not b) (s ∷ without key ss) (without key ss))
+    by true same rest = rest
+    by false apart rest = (apart, rest)
+
+-- a new key is not found
+pub none_found : (key : Key) (es : List (Key × Definition)) → IsNew key (subscriptions_of es) → lookup (set_eq key) es ≡ None
+none_found key [] h = refl
+none_found key (e ∷ es) h =
+    let apart : set_eq key e.0 ≡ false = set_is key e.0 ∙ key_sym key e.0 ∙ h.0 in
+    ap (λ b. cond b (Some e.1) (lookup (set_eq key) es)) apart ∙ none_found key es h.1
+
+-- one subscription more
+pub subscriptions_more : (es : List (Key × Definition)) (e : Key × Definition) → subscriptions_of (es ++ e ∷ []) ≡ subscriptions_of es ++ subscription_of e ∷ []
+subscriptions_more [] e = refl
+subscriptions_more (x ∷ es) e = ap (λ ss. subscription_of x ∷ ss) (subscriptions_more es e)
+
+-- and its key
+pub keys_more : (topic : List ℕ) (ss : List Subscription) (s : Subscription) → keys_to topic (ss ++ s ∷ []) ≡ keys_to topic ss ++ cond (text_eq s.definition.topic topic) (s.key ∷ []) []
+keys_more topic [] s = by (text_eq s.definition.topic topic)
+  where
+    by : (b : Bool) → map (λ (x : Subscription). x.key) (cond b (s ∷ []) []) ≡ cond b (s.key ∷ []) []
+    by true = refl
+    by false = refl
+keys_more topic (x ∷ ss) s = by (text_eq x.definition.topic topic) refl (keys_more topic ss s)
+  where
+    by : (b : Bool) → text_eq x.definition.topic topic ≡ b → keys_to topic (ss ++ s ∷ []) ≡ keys_to topic ss ++ cond (text_eq s.definition.topic topic) (s.key ∷ []) [] →
+        keys_to topic (x ∷ (ss ++ s ∷ [])) ≡ keys_to topic (x ∷ ss) ++ cond (text_eq s.definition.topic topic) (s.key ∷ []) []
+    by true there rest = rw there (ap (λ ks. x.key ∷ ks) rest)
+    by false other rest = rw other rest
+
+-- a topic has as many subscriptions as there are, or fewer
+pub keys_within : (topic : List ℕ) (ss : List Subscription) → length (keys_to topic ss) ≤ length ss
+keys_within topic [] = omega arith
+keys_within topic (s ∷ ss) = by (text_eq s.definition.topic topic) (keys_within topic ss)
+  where
+    by : (b : Bool) → length (keys_to topic ss) ≤ length ss → length (map (λ (x : Subscription). x.key) (cond b (s ∷ filter (λ x. text_eq x.definition.topic topic) ss) (filter (λ x. text_eq x.definition.topic topic) ss))) ≤ suc (length ss)
+    by true h = omega arith
+    by false h = omega arith
+
+-- what stands under a topic, or nothing
+pub keys_or_none : (keys : List Key) → unwrap_or (at_least_one keys) [] ≡ keys
+keys_or_none [] = refl
+keys_or_none (k ∷ keys) = refl
+
+-- a list with one more holds something
+one_more : (keys : List Key) (k : Key) → at_least_one (keys ++ k ∷ []) ≡ Some (keys ++ k ∷ [])
+one_more [] k = refl
+one_more (x ∷ keys) k = refl
+
+-- what stays where nothing is added
+append_none : (keys : List Key) → keys ++ [] ≡ keys
+append_none [] = refl
+append_none (k ∷ keys) = ap (λ ks. k ∷ ks) (append_none keys)
+
+-- the table after a subscription more
+pub joined_table : (old new : Topics) (ss ss' : List Subscription) (s : Subscription) → ss' ≡ ss ++ s ∷ [] → IsTableOf ss old →
+    ((t : List ℕ) → keys_at new t ≡ cond (text_eq s.definition.topic t) (Some (unwrap_or (keys_at old s.definition.topic) [] ++ s.key ∷ [])) (keys_at old t)) → IsTableOf ss' new
+joined_table old new ss ss' s same table after = λ t.
+    after t ∙ by t (text_eq s.definition.topic t) refl ∙ ap at_least_one (sym (keys_more t ss s)) ∙ ap (λ xs. at_least_one (keys_to t xs)) (sym same)
+  where
+    by : (t : List ℕ) (b : Bool) → text_eq s.definition.topic t ≡ b →
+        cond (text_eq s.definition.topic t) (Some (unwrap_or (keys_at old s.definition.topic) [] ++ s.key ∷ [])) (keys_at old t) ≡ at_least_one (keys_to t ss ++ cond (text_eq s.definition.topic t) (s.key ∷ []) [])
+    by t true there =
+        let held : unwrap_or (keys_at old s.definition.topic) [] ≡ keys_to t ss =
+        ap (λ o. unwrap_or o []) (table s.definition.topic) ∙ keys_or_none (keys_to s.definition.topic ss) ∙ ap (λ x. keys_to x ss) (text_same s.definition.topic t there) in
+        rw there (ap (λ ks. Some (ks ++ s.key ∷ [])) held ∙ sym (one_more (keys_to t ss) s.key))
+    by t false other = rw other (table t ∙ ap at_least_one (sym (append_none (keys_to t ss))))
+
+-- the keys of its topic can be counted with one more
+pub keys_fit : (old : Topics) (ss : List Subscription) (topic : List ℕ) (keys : List Key) (k : Key) (n : ℕ) → IsTableOf ss old → keys ≡ k ∷ [] → n ≡ length ss + 1 → n < 2 ^ 63 →
+    length (unwrap_or (keys_at old topic) []) + length keys < 2 ^ 63
+keys_fit old ss topic keys k n table one is small =
+    let held : unwrap_or (keys_at old topic) [] ≡ keys_to topic ss = ap (λ o. unwrap_or o []) (table topic) ∙ keys_or_none (keys_to topic ss) in
+    omega (arith, ap length held, ap length one, keys_within topic ss)
+
+-- there are as many subscriptions as entries
+pub length_subscriptions : (es : List (Key × Definition)) → length (subscriptions_of es) ≡ length es
+length_subscriptions [] = refl
+length_subscriptions (e ∷ es) = ap suc (length_subscriptions es)
+
+-- a topic has an entry where it has a subscription
+pub entry_there : (topic : List ℕ) (ss : List Subscription) → is_some (at_least_one (keys_to topic ss)) ≡ is_member text_eq (map (λ s. s.definition.topic) ss) topic
+entry_there topic [] = refl
+entry_there topic (s ∷ ss) = by (text_eq s.definition.topic topic) refl (entry_there topic ss)
+  where
+    by : (b : Bool) → text_eq s.definition.topic topic ≡ b → is_some (at_least_one (keys_to topic ss)) ≡ is_member text_eq (map (λ x. x.definition.topic) ss) topic →
+        is_some (at_least_one (keys_to topic (s ∷ ss))) ≡ is_member text_eq (map (λ x. x.definition.topic) (s ∷ ss)) topic
+    by true there rest = rw (there, nat_list_eq_equiv.symm topic s.definition.topic ∙ there) refl
+    by false other rest = rw (other, nat_list_eq_equiv.symm topic s.definition.topic ∙ other) rest

@@ -1,0 +1,19 @@
+use Rattle.std.proofs.Common.{◌≡◌, ◌∙◌, ◌++◌, ◌∷◌, [], sym}
+use Rattle.jm_dest.specs.declared.key.Key.{Key}
+use Rattle.jm_machine.specs.declared.state.Definition.{Definition}
+use Rattle.jm_sub.specs.Entries.{subscription_of}
+use Rattle.jm_sub.proofs.Listed.{new_next, subscriptions_next}
+use Rattle.jm_sub.proofs.subs.copied.Goals as goal
+
+pub add-requires-clause-new : goal.add-requires-clause-new
+add-requires-clause-new c =
+    let e : Key × Definition = (c.in-Some.key.now, c.in-Some.definition.now) in
+    let same : c.in_ok-decision.decision ≡ subscription_of e = c.in_ok-decision.ensures in
+    rw (c.reserve.ensures.list, c.loop-at.invariant, same) (new_next c.args.items.now.entries c.loop-at.at e c.len-at-end.ensures.unique (sym c.in-Some.ensures.entry))
+
+pub loop-at-preserved : goal.loop-at-preserved
+loop-at-preserved c =
+    let e : Key × Definition = (c.in-Some.key.now, c.in-Some.definition.now) in
+    let same : c.in_ok-decision.decision ≡ subscription_of e = c.in_ok-decision.ensures in
+    let before = c.reserve.ensures.list ∙ c.loop-at.invariant in
+    c.add.ensures.list ∙ (λ i. before i ++ same i ∷ []) ∙ sym (subscriptions_next c.args.items.now.entries c.loop-at.at e (sym c.in-Some.ensures.entry))

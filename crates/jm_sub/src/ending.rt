@@ -1,0 +1,28 @@
+//! Which subscriptions end.
+
+ghost use Rattle.std.specs.Prelude.{◌≡◌};
+ghost use Rattle.jm_sub.specs.Topics as spec;
+
+use jm_dest::Key;
+use jm_machine::Consumers;
+
+/// Which subscriptions end with a change.
+#[derive(Drop)]
+pub(crate) enum Ending<'a> {
+    /// The own subscriptions of those consumers.
+    Own(&'a Consumers),
+    /// The subscription of that key.
+    Of(&'a Key),
+}
+
+impl Ending<'_> {
+    /// Whether the subscription of that key ends.
+    pub(crate) fn ends(&self, key: &Key) -> bool
+        ensures { result ≡ spec.ends self.now key.now }
+    {
+        match self {
+            Ending::Own(which) => which.own(key),
+            Ending::Of(other) => key.is(other),
+        }
+    }
+}

@@ -1,0 +1,112 @@
+//! The table of topics.
+
+ghost use Rattle.std.specs.Prelude.{◌≡◌, [], ◌+◌, ◌<◌, ◌≤◌, ◌++◌, ◌^◌, ℕ, List, length, true, false, not, is_some, filter, IfOk, OnOk, None, Some, unwrap_or, option_and_then, if◌then◌else◌};
+ghost use Rattle.std.specs.Option.{option_copied};
+ghost use Rattle.std.specs.Set.{distinct_count, is_member};
+ghost use Rattle.jm_dest.specs.Names.{text_eq};
+ghost use Rattle.jm_sub.specs.Topics.{at_least_one, keys_at, left, room};
+
+use crate::ending::Ending;
+use indexmap::IndexMap;
+use jm_dest::{Key, Name};
+use std::alloc::{AllocError, Global};
+use std::collections::LinkedList;
+
+/// The keys of the subscriptions of each topic, in order of creation, found by the topic. A topic without
+/// subscriptions has no entry. Keys are linked one behind the other, so that a key which has its memory
+/// already joins its topic without more.
+#[derive(Drop)]
+pub(crate) struct Topics {
+    alloc: Global,
+    entries: IndexMap<Name, LinkedList<Key>>,
+}
+
+/// Takes the keys that end out, and leaves the others in their order. Takes no memory.
+fn remove_from(alloc: Global, keys: &mut LinkedList<Key>, ending: &Ending)
+    ensures { keys.new ≡ left ending.now keys.old }
+{
+    let mut kept = LinkedList::new(alloc);
+    for _ in 0..keys.len() {
+        let Some(key) = keys.front() else {
+            break;
+        };
+        let ends = ending.ends(key);
+        let Ok(others) = keys.split_off(1) else {
+            break;
+        };
+        if !ends {
+            let _ = kept.append(keys);
+        }
+        *keys = others;
+    }
+    *keys = kept;
+}
+
+impl Topics {
+    /// No topics. Takes no memory.
+    pub(crate) fn new(alloc: Global) -> Topics
+        ensures { (topic : List ℕ) → keys_at result topic ≡ None }
+    {
+        Topics {
+            alloc,
+            entries: IndexMap::new(alloc),
+        }
+    }
+
+    /// How many topics there are.
+    pub(crate) fn len(&self) -> usize
+        ensures { (topics : List (List ℕ)) → ((topic : List ℕ) → is_some (keys_at self.now topic) ≡ is_member text_eq topics topic) →
+            result ≡ distinct_count text_eq topics }
+    {
+        self.entries.len()
+    }
+
+    /// The keys of the topic, if it has some.
+    pub(crate) fn keys(&self, topic: &Name) -> Option<&LinkedList<Key>>
+        ensures { option_copied result ≡ keys_at self.now topic.now }
+    {
+        self.entries.get(topic)
+    }
+
+    /// Makes room for one more topic.
+    pub(crate) fn reserve(&mut self) -> Result<(), AllocError>
+        ensures keys { (topic : List ℕ) → keys_at self.new topic ≡ keys_at self.old topic }
+        ensures ok { OnOk result (0 < room self.new) }
+        ensures room { room self.old ≤ room self.new }
+    {
+        self.entries.reserve(1)
+    }
+
+    /// Adds the keys behind those of the topic. Takes no memory.
+    pub(crate) fn join(&mut self, topic: Name, mut keys: LinkedList<Key>)
+        requires room { 0 < room self.old }
+        requires fits { length (unwrap_or (keys_at self.old topic) []) + length keys < 2 ^ 63 }
+        ensures keys { (t : List ℕ) → keys_at self.new t ≡
+            (if text_eq topic t then Some (unwrap_or (keys_at self.old topic) [] ++ keys) else keys_at self.old t) }
+        ensures room { room self.old ≤ room self.new + 1 }
+    {
+        match self.entries.get_mut(&topic) {
+            Some(held) => {
+                let _ = held.append(&mut keys);
+            }
+            None => {
+                let _ = self.entries.insert(topic, keys);
+            }
+        }
+    }
+
+    /// Takes the keys that end out, and the entries of topics that have none left, in a walk over all. Takes
+    /// no memory.
+    pub(crate) fn remove(&mut self, ending: &Ending)
+        ensures keys { (topic : List ℕ) → keys_at self.new topic ≡ option_and_then (λ keys. at_least_one (left ending.now keys)) (keys_at self.old topic) }
+        ensures room { room self.old ≤ room self.new }
+    {
+        // The length is what says that each topic stands once.
+        let _number = self.entries.len();
+        let alloc = self.alloc;
+        self.entries.retain(|_, keys| {
+            remove_from(alloc, keys, ending);
+            !keys.is_empty()
+        });
+    }
+}
