@@ -3,7 +3,9 @@
 
 use jm_base::{List, Mode, Refusal};
 use jm_core::{Answer, Call, Core, Request, Step, Who};
-use jm_dest::{ConnectionId, ConsumerId, Destination, Moment, Number, SessionId};
+use jm_dest::{
+    ClientId, ConnectionId, ConsumerId, Destination, Moment, Number, SessionId, SubscriptionName,
+};
 use jm_header::{Draft, Message, Sender};
 use jm_tx::{Sent, SessionHalf};
 use std::alloc::Global;
@@ -44,6 +46,12 @@ fn topic_name(alloc: Global, topic: u32) -> Result<String, Refusal> {
 fn destination(alloc: Global, topic: u32) -> Result<Destination, Refusal> {
     let name = topic_name(alloc, topic)?;
     Destination::topic(alloc, name.as_str())
+}
+
+/// The name of a subscription to the topic of that number.
+fn subscription_name(alloc: Global, topic: u32) -> Result<SubscriptionName, Refusal> {
+    let name = topic_name(alloc, topic)?;
+    SubscriptionName::new(alloc, name.as_str())
 }
 
 /// Sets what the message of the parcel has beside its destination.
@@ -91,21 +99,27 @@ impl Provider {
         })
     }
 
-    /// Opens and starts the session's connection, and opens the session in that mode.
-    fn open_session(&mut self, session: SessionId, mode: Mode) -> Result<(), Refusal> {
+    /// Opens and starts the session's connection for that client, and opens the session in that mode.
+    fn open_session(
+        &mut self,
+        session: SessionId,
+        mode: Mode,
+        client: Option<ClientId>,
+    ) -> Result<(), Refusal> {
         let connection = session.connection;
-        self.ask(Who::Connection(connection), Request::Open { client: None })?;
+        self.ask(Who::Connection(connection), Request::Open { client })?;
         self.ask(Who::Connection(connection), Request::Start)?;
         self.ask(Who::Session(session), Request::CreateSession { mode })?;
         Ok(())
     }
 
-    /// Opens and starts both connections, and opens both sessions.
+    /// Opens and starts both connections, the one that receives for a client, and opens both sessions.
     pub(crate) fn open(&mut self) -> Result<(), Refusal> {
         let receiver = self.receiver;
         let publisher = self.publisher;
-        self.open_session(receiver, self.mode)?;
-        self.open_session(publisher, publishing(self.mode))
+        let client = ClientId::new(self.alloc, "receiver")?;
+        self.open_session(receiver, self.mode, Some(client))?;
+        self.open_session(publisher, publishing(self.mode), None)
     }
 
     fn ask(&mut self, who: Who, request: Request) -> Result<Answer, Refusal> {
@@ -148,6 +162,36 @@ impl Provider {
             destination,
             selector: None,
             no_local: false,
+        };
+        self.ask(Who::Session(self.receiver), request)?;
+        Ok(())
+    }
+
+    /// Makes a consumer of that number of the durable subscription to the topic of that number.
+    pub(crate) fn subscribe_durably(&mut self, consumer: u32, topic: u32) -> Result<(), Refusal> {
+        let consumer = ConsumerId::new(consumer)?;
+        let name = subscription_name(self.alloc, topic)?;
+        let request = Request::CreateDurable {
+            consumer,
+            destination: destination(self.alloc, topic)?,
+            name,
+            selector: None,
+            no_local: false,
+        };
+        self.ask(Who::Session(self.receiver), request)?;
+        Ok(())
+    }
+
+    /// Makes a consumer of that number of the shared subscription to the topic of that number, which ends with its last
+    /// consumer.
+    pub(crate) fn share(&mut self, consumer: u32, topic: u32) -> Result<(), Refusal> {
+        let consumer = ConsumerId::new(consumer)?;
+        let name = subscription_name(self.alloc, topic)?;
+        let request = Request::CreateShared {
+            consumer,
+            destination: destination(self.alloc, topic)?,
+            name,
+            selector: None,
         };
         self.ask(Who::Session(self.receiver), request)?;
         Ok(())

@@ -28,6 +28,10 @@ pub(crate) enum Kind {
     /// A message is sent and committed, and one is received, rolled back, received again and committed, beside subscribers
     /// of other topics.
     Rollback,
+    /// A message is sent to the first of many topics, each with a durable subscription, and received there.
+    Durables,
+    /// A message is sent, and received by the next of the consumers of one shared subscription.
+    Shared,
 }
 
 /// How many rows are out at most where they are acknowledged or committed together, and how many messages a commit carries.
@@ -40,7 +44,7 @@ pub(crate) struct Load {
     pub rounds: u32,
     /// Rows that are held before the first round, and left after the last.
     pub held: u32,
-    /// Subscribers, or topics with one subscriber each; at least 1.
+    /// Subscribers, or topics with one subscriber each, or consumers of one subscription; at least 1.
     pub subscribers: u32,
 }
 
@@ -56,6 +60,8 @@ pub(crate) fn kind_named(name: &str) -> Option<Kind> {
         "client" => Some(Kind::Client),
         "transacted" => Some(Kind::Transacted),
         "rollback" => Some(Kind::Rollback),
+        "durables" => Some(Kind::Durables),
+        "shared" => Some(Kind::Shared),
         _ => None,
     }
 }
@@ -94,8 +100,12 @@ pub(crate) fn mode(kind: Kind) -> Mode {
 /// The topic of the subscriber that so many were made before.
 fn topic(kind: Kind, number: u32) -> u32 {
     match kind {
-        Kind::Topics | Kind::Redelivery | Kind::Client | Kind::Transacted | Kind::Rollback =>
-            number,
+        Kind::Topics
+        | Kind::Redelivery
+        | Kind::Client
+        | Kind::Transacted
+        | Kind::Rollback
+        | Kind::Durables => number,
         _ => 0,
     }
 }
@@ -116,11 +126,25 @@ fn finish_fill(provider: &mut Provider, kind: Kind) -> Result<(), Refusal> {
     }
 }
 
+/// Makes a consumer of that number on the topic of that number, with a subscription as the kind of work asks for it.
+fn subscribe(
+    provider: &mut Provider,
+    kind: Kind,
+    consumer: u32,
+    topic: u32,
+) -> Result<(), Refusal> {
+    match kind {
+        Kind::Durables => provider.subscribe_durably(consumer, topic),
+        Kind::Shared => provider.share(consumer, topic),
+        _ => provider.subscribe(consumer, topic),
+    }
+}
+
 /// Opens the provider, and makes the subscribers of the load and the rows that are held before it.
 pub(crate) fn fill(provider: &mut Provider, load: Load) -> Result<(), Refusal> {
     provider.open()?;
     for number in 0..load.subscribers.min(1_000_000) {
-        provider.subscribe(number + 1, topic(load.kind, number))?;
+        subscribe(provider, load.kind, number + 1, topic(load.kind, number))?;
     }
     for round in 0..load.held {
         let held = Parcel {
@@ -137,7 +161,7 @@ pub(crate) fn fill(provider: &mut Provider, load: Load) -> Result<(), Refusal> {
 fn receivers(load: Load, round: u32) -> (u32, u32) {
     match load.kind {
         Kind::FanOut => (0, load.subscribers.min(1_000_000)),
-        Kind::Topics => {
+        Kind::Topics | Kind::Shared => {
             let at = round % load.subscribers.clamp(1, 1_000_000);
             (at, at + 1)
         }

@@ -12,7 +12,7 @@ use Rattle.jm_dest.specs.declared.key.Key.TheVariants.{Queue, Own, SharedOwn, Du
 use Rattle.jm_header.specs.declared.content.Content.{Content}
 use Rattle.jm_dest.specs.Keys.{key_eq}
 use Rattle.jm_machine.specs.declared.answer.Answer.{Answer}
-use Rattle.jm_machine.specs.declared.answer.Answer.TheVariants.{Done, Nothing}
+use Rattle.jm_machine.specs.declared.answer.Answer.TheVariants.{Nothing}
 use Rattle.jm_machine.specs.declared.call.Who.TheVariants.{Session}
 use Rattle.jm_machine.specs.declared.call.Call.TheVariants.{Ask}
 use Rattle.jm_machine.specs.declared.call.Request.TheVariants.{CreateConsumer, Receive}
@@ -22,7 +22,7 @@ use Rattle.jm_machine.specs.declared.state.Station.{Station}
 use Rattle.jm_machine.specs.Life.{Life, is_started, mode_of}
 use Rattle.jm_machine.specs.Rows.{bare, deliver_chosen, deliver_placed, live, next}
 use Rattle.jm_selector.specs.Selectors.{selector_refusal}
-use Rattle.jm_machine.specs.Machine.{State, after, answer, at_key, at_queue, consumer_of, delivered, delivery, first_cause, held, holding_at, key_at, made, may_begin, missed_of, receive, refusal, replied, reply, rows_of, rows_under, selected_by, station_of, step, unless, with_rows}
+use Rattle.jm_machine.specs.Machine.{State, after, answer, at_key, at_queue, consumer_of, delivered, delivery, first_cause, held, holding_at, key_at, may_begin, missed_of, receive, refusal, replied, reply, rows_of, rows_under, selected_by, station_of, step, unless, with_rows}
 use Rattle.jm_machine.specs.Wants.{is_copied, is_want, is_next_copied, may_want, next_placed, placed_rows}
 use Rattle.jm_session.specs.Known.{may_receive}
 use Rattle.jm_stations.specs.Backlogs.{Backlog, answered_where, copy_wanted, empty}
@@ -43,7 +43,7 @@ state_from opening limit life consumers ss list queues place = record { opening 
 
 -- ---- a consumer that is made, or refused
 
-not_wanted : (r : Refusal) → is_want (Err r) ≡ false → r ≢ Memory
+pub not_wanted : (r : Refusal) → is_want (Err r) ≡ false → r ≢ Memory
 not_wanted r e n = let f = rw n at e in cc
 
 illegal_is_told : (r : Refusal) → r ≡ IllegalState → is_want (Err r) ≡ false
@@ -63,15 +63,9 @@ create_refused state s c destination selector no_local r f k =
     go false a true e f k = absurd (let told = illegal_is_told r (f refl) in cc)
     go false a false e f k = ap (λ x. Err x) (f refl)
 
-pub create_made : (state : State) (s : SessionId) (c : ℕ) (destination : Destination) (selector : Option (List ℕ)) (no_local : Bool) (next : State) →
-    may_begin state.life state.consumers s c ≡ true → selector_refusal selector ≡ None → next ≡ made s c destination selector no_local state →
-    StepFits state (Session s) (Ask (CreateConsumer c destination selector no_local)) (Ok Done) next
-unfolding reply step refusal answer after
-create_made state s c destination selector no_local next m v e = rw (m, v) (refl, e)
-
 -- ---- a receive
 
-rows_bare : (o : Option Station) → rows_of o ≡ bare (placed_rows o)
+pub rows_bare : (o : Option Station) → rows_of o ≡ bare (placed_rows o)
 rows_bare None = refl
 rows_bare (Some x) = refl
 

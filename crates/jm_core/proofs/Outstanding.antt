@@ -16,7 +16,7 @@ use Rattle.jm_header.specs.declared.content.Content.{Content}
 use Rattle.jm_machine.specs.declared.call.Who.{Who}
 use Rattle.jm_machine.specs.declared.call.Who.TheVariants.{Connection, Session}
 use Rattle.jm_machine.specs.declared.call.Request.{Request}
-use Rattle.jm_machine.specs.declared.call.Request.TheVariants.{Open, Start, Stop, CloseConnection, CreateSession, CloseSession, CreateConsumer, CloseConsumer, Receive, Acknowledge, Recover, Rollback}
+use Rattle.jm_machine.specs.declared.call.Request.TheVariants.{Open, Start, Stop, CloseConnection, CreateSession, CloseSession, CreateConsumer, CreateDurable, CreateShared, CreateSharedDurable, Unsubscribe, CloseConsumer, Receive, Acknowledge, Recover, Rollback}
 use Rattle.jm_machine.specs.declared.call.Call.{Call}
 use Rattle.jm_machine.specs.declared.call.Call.TheVariants.{Ask, Publish, Commit}
 use Rattle.jm_machine.specs.declared.state.Definition.{Definition}
@@ -27,9 +27,9 @@ use Rattle.jm_machine.specs.declared.state.RowState.TheVariants.{Waiting, Out}
 use Rattle.jm_machine.specs.declared.state.ConnectionState.{ConnectionState}
 use Rattle.jm_machine.specs.declared.state.SessionState.{SessionState}
 use Rattle.jm_machine.specs.declared.state.Station.{Station}
-use Rattle.jm_machine.specs.Life.{Life, open_mode, mode_of, is_started, is_new_session, close_sessions, life_after}
+use Rattle.jm_machine.specs.Life.{Life, client_of, open_mode, mode_of, is_started, is_new_session, close_sessions, life_after}
 use Rattle.jm_machine.specs.Rows.{bare, fresh, goes_out, has_lapsed, is_next, is_out, live, settles_at_once, sent_out, left_of, live_placed, change_placed, deliver_placed, deliver_chosen, is_next_chosen}
-use Rattle.jm_machine.specs.Machine.{State, Publisher, publisher_of, accepts, is_full, one_missed, brought, offered, with_message, with_rows, at_key, without, published, receive, consumer_of, key_at, made, selected_by, at_queue, at_queue_of, at_queues, queued, defined, of_number, unless, of_session, of_connection, settled_rows, returned_rows, settled, returned, closed, with_life, is_client, is_active, held, refusal, publish_refusal, commit_refusal, after, after_commit, moved, step}
+use Rattle.jm_machine.specs.Machine.{State, Publisher, publisher_of, accepts, is_full, one_missed, brought, offered, with_message, with_rows, at_key, without, published, receive, consumer_of, key_at, asked, definition_of, deleted, durable_of, is_same, joined, made, put, shared_of, standing_as, station_of, subscribed, selected_by, at_queue, at_queue_of, at_queues, queued, defined, of_number, unless, of_session, of_connection, settled_rows, returned_rows, settled, returned, closed, with_life, is_client, is_active, held, refusal, publish_refusal, commit_refusal, after, after_commit, moved, step}
 use Rattle.jm_machine.specs.Isolation.{Reached}
 use Rattle.jm_machine.specs.Isolation.Reached.{New, Stepped}
 use Rattle.jm_core.specs.Outstanding.{IsOutToOpen, AllOutToOpen, HoldsOutToOpen, QueuesOutToOpen, AreOutToOpen}
@@ -267,16 +267,28 @@ open_closed p who request state f h =
 open_kept : (new : Life) (state : State) → StaysOpen nobody state.life new → AreOutToOpen state → AreOutToOpen (record state { life = new })
 open_kept new state f h = record { stations = all_kept state.life new f state.stations h.stations; queues = λ name. rows_kept state.life new f (state.queues name) (h.queues name) }
 
+open_put : (k : Key) (d : Definition) (state : State) → AreOutToOpen state → AreOutToOpen (put k d state)
+open_put k d state h = record { stations = all_put state.life k d (without k state.stations) (all_filter state.life _ state.stations h.stations); queues = h.queues }
+
+-- a consumer that joins changes no row
+open_joined : (s : SessionId) (c : ℕ) (k : Key) (selector : Option (List ℕ)) (state : State) → AreOutToOpen state → AreOutToOpen (joined s c k selector state)
+open_joined s c k selector state h = record { stations = h.stations; queues = h.queues }
+
 open_made : (s : SessionId) (c : ℕ) (destination : Destination) (selector : Option (List ℕ)) (no_local : Bool) (state : State) → AreOutToOpen state → AreOutToOpen (made s c destination selector no_local state)
-open_made s c (Queue name) selector no_local state h = record { stations = h.stations; queues = h.queues }
-open_made s c (Topic name) selector no_local state h = record {
-  stations = all_put state.life (Own s c) (defined name selector no_local) (without (Own s c) state.stations) (all_filter state.life _ state.stations h.stations);
-  queues = h.queues;
-}
+open_made s c (Queue name) selector no_local state h = open_joined s c (OfQueue name) (standing_as selector) state h
+open_made s c (Topic name) selector no_local state h = open_joined s c (Own s c) None (put (Own s c) (defined name selector no_local false) state) (open_put (Own s c) (defined name selector no_local false) state h)
 
 open_if : (b : Bool) (x y : State) → AreOutToOpen x → AreOutToOpen y → AreOutToOpen (cond b x y)
 open_if true x y p q = p
 open_if false x y p q = q
+
+open_subscribed : (s : SessionId) (c : ℕ) (k : Key) (d : Definition) (state : State) → AreOutToOpen state → AreOutToOpen (subscribed s c k d state)
+open_subscribed s c k d state h =
+    let same = is_same (definition_of (station_of k state.stations)) d in
+    open_joined s c k None (cond same state (put k d state)) (open_if same state (put k d state) h (open_put k d state h))
+
+open_deleted : (k : Key) (state : State) → AreOutToOpen state → AreOutToOpen (deleted k state)
+open_deleted k state h = record { stations = all_filter state.life _ state.stations h.stations; queues = h.queues }
 
 open_moved : (o : Option Refusal) (x y : State) → (o ≡ None → AreOutToOpen x) → AreOutToOpen y → AreOutToOpen (moved o x y)
 open_moved None x y p q = p refl
@@ -308,6 +320,10 @@ open_after state (Connection c) request e h = open_same _ state h
 open_after state (Session s) (CreateSession mode) e h = open_kept (life_after state.life (Session s) (CreateSession mode)) state (stays_opened s mode state.life) h
 open_after state (Session s) CloseSession e h = open_closed (of_session s) (Session s) CloseSession state (stays_closed s state.life) h
 open_after state (Session s) (CreateConsumer c destination selector no_local) e h = open_made s c destination selector no_local state h
+open_after state (Session s) (CreateDurable c destination name selector no_local) e h = open_subscribed s c (durable_of (client_of state.life) s name) (asked destination selector no_local false) state h
+open_after state (Session s) (CreateShared c destination name selector) e h = open_subscribed s c (shared_of (client_of state.life) s name) (asked destination selector false true) state h
+open_after state (Session s) (CreateSharedDurable c destination name selector) e h = open_subscribed s c (durable_of (client_of state.life) s name) (asked destination selector false true) state h
+open_after state (Session s) (Unsubscribe name) e h = open_deleted (durable_of (client_of state.life) s name) state h
 open_after state (Session s) (Receive c now) e h = open_received_now state s c now e h
 open_after state (Session s) (CloseConsumer c) e h = open_ended (of_number s c) state h
 open_after state (Session s) Acknowledge e h = open_if (is_client (mode_of state.life s)) (settled (of_session s) state) state (open_settled (of_session s) state h) h

@@ -1,11 +1,11 @@
 -- What is planned, once it is made, is the machine's step.
-use Rattle.std.proofs.Common.{◌≡◌, ◌≤◌, ◌+◌, ◌∷◌, [], ℕ, Bool, true, false, cond, List, map, length, refl, ap, ◌∙◌, arith, Option, Some, None, Ok, Err}
+use Rattle.std.proofs.Common.{◌≡◌, ◌≤◌, ◌<◌, ◌+◌, ◌∷◌, [], ℕ, Bool, true, false, cond, List, map, length, refl, ap, sym, ◌∙◌, arith, Option, Some, None, Ok, Err}
 use Rattle.std.specs.Prelude.{◌&&◌, not, is_some, IfErr, MatchBool, OnErr, OnOk, Result, is_none, nat_le}
 use Rattle.std.proofs.lemmas.Bool.Decides.{nat_tests}
 use Rattle.std.proofs.lemmas.List.{length-map}
 use Rattle.jm_base.specs.declared.mode.Mode.{Mode}
 use Rattle.jm_base.specs.declared.refusal.Refusal.{Refusal}
-use Rattle.jm_base.specs.declared.refusal.Refusal.TheVariants.{Exhausted, IllegalState, InvalidClientId, Memory}
+use Rattle.jm_base.specs.declared.refusal.Refusal.TheVariants.{Exhausted, IllegalState, InvalidClientId, InvalidDestination, Memory, SubscriptionInUse}
 use Rattle.jm_dest.specs.declared.session.SessionId.{SessionId}
 use Rattle.jm_dest.specs.declared.destination.Destination.TheVariants.{Queue, Topic}
 use Rattle.jm_dest.specs.declared.key.Key.{Key}
@@ -21,20 +21,22 @@ use Rattle.jm_machine.specs.declared.call.Request.TheVariants as request
 use Rattle.jm_machine.specs.declared.state.PlacedRow.{PlacedRow}
 use Rattle.jm_machine.specs.declared.state.Station.{Station}
 use Rattle.jm_machine.specs.Life.{connection_of, is_client_taken, life_after, mode_of}
-use Rattle.jm_machine.specs.Machine.{State, after, after_commit, answer, at_queues, closed, consumer_of, first_cause, held, holding_at, key_at, selected_by, commit_refusal, has_places, is_client, is_stamped, is_transacted, is_untransacted, joined, may_use, moved, of_connection, of_number, of_session, places_end, publish_refusal, published, put, refusal, replied, reply, returned, settled, settled_rows, step, unless, with_life, with_rows}
+use Rattle.jm_machine.specs.Machine.{State, after, after_commit, answer, at_queues, closed, consumer_of, defined, deleted, first_cause, held, holding_at, is_free, key_at, may_begin, selected_by, standing_as, commit_refusal, has_places, is_client, is_stamped, is_transacted, is_untransacted, joined, may_use, moved, of_connection, of_number, of_session, places_end, publish_refusal, published, put, refusal, replied, reply, returned, settled, settled_rows, step, unless, with_life, with_rows}
 use Rattle.jm_machine.specs.Wants.{is_want, may_want}
+use Rattle.jm_selector.specs.Selectors.{selector_refusal}
 use Rattle.jm_session.specs.Known.{Known, open_cause}
+use Rattle.jm_session.specs.Sources.{Origin}
 use Rattle.jm_stations.specs.Stations.{Stations}
 use Rattle.jm_sub.specs.Subscriptions.{Subscription, Subscriptions}
 use Rattle.jm_core.specs.declared.publish.Publication.{Publication}
 use Rattle.jm_core.specs.declared.plan.Change.TheVariants as change
-use Rattle.jm_core.specs.Plans.{IsPlan, IsCommitting, IsCreating, IsCreatingOf, IsMissing, IsOpening, IsPublishing, IsRefused}
+use Rattle.jm_core.specs.Plans.{IsPlan, IsCommitting, IsCreating, IsDeleting, IsMissing, IsOpening, IsPublishing, IsRefused}
 use Rattle.jm_core.specs.Closing.{acknowledged_queues}
+use Rattle.jm_core.specs.Named.{put_decided}
 use Rattle.jm_core.specs.Provider.{Provider, state_of}
 use Rattle.jm_core.specs.Takings.{missed_at}
 use Rattle.jm_core.specs.Publications.{unprepared}
 use Rattle.jm_core.specs.Steps.{CommitFits, PublishFits, StepFits}
-use Rattle.jm_core.proofs.Fits.{create_made}
 
 -- what callers see, of these parts
 abbrev pub of_parts : ℕ → ℕ → Known → Subscriptions → Stations → Stations → Provider
@@ -135,16 +137,73 @@ pub missing_refused : (state : State) (s : SessionId) (c : ℕ) (r : Refusal) �
 unfolding reply refusal
 missing_refused state s c r e m = rw (e, m) refl
 
--- ---- a consumer
+-- ---- a consumer, and a subscription that has a name
 
-pub consumer_made : (p : Provider) (who : Who) (call : Call) (s : SessionId) (c : ℕ) (d : Subscription) (new : State) → IsCreating p who call s c d → new ≡ joined s c (Own s c) None (put (Own s c) d.definition (state_of p)) → StepFits (state_of p) who call (Ok Done) new
-consumer_made p who call s c d new h e =
-    let made = ap (λ (x : Subscription). joined s c (Own s c) None (put (Own s c) x.definition (state_of p))) h.decided in
-    rw (h.sender, h.asked) (create_made (state_of p) s c (Topic h.topic) h.selector h.no_local new h.begins h.valid (e ∙ made))
+pub consumer_made : (p : Provider) (who : Who) (call : Call) (s : SessionId) (c : ℕ) (source : Origin) (decision : Option (Key × Subscription)) (new : State) → IsCreating p who call s c source decision → new ≡ joined s c source.key source.selector (put_decided decision (state_of p)) →
+    StepFits (state_of p) who call (Ok Done) new
+unfolding reply step
+consumer_made p who call s c source decision new h e =
+    rw (h.sender, h.asked)
+    (go (refusal p.known.life p.known.consumers (held (state_of p) (Session s) h.request) (Session s) h.request) (answer p.known.life p.known.consumers (held (state_of p) (Session s) h.request) (Session s) h.request) h.allowed h.told)
+  where
+    go : (x : Option Refusal) (a : Answer) → x ≡ None → a ≡ Done → (Ok Done ≡ replied x a) × (new ≡ moved x (after (state_of p) (Session s) h.request) (state_of p))
+    go x a none done = rw (none, done) (refl, e ∙ sym h.left)
 
-pub consumer_made_of : (p : Provider) (who : Who) (call : Call) (s : SessionId) (c : ℕ) (queue : List ℕ) (selector : Option (List ℕ)) (new : State) → IsCreatingOf p who call s c queue selector → new ≡ joined s c (OfQueue queue) selector (state_of p) → StepFits (state_of p) who call (Ok Done) new
-consumer_made_of p who call s c queue selector new h e =
-    rw (h.sender, h.asked) (create_made (state_of p) s c (Queue queue) h.text h.no_local new h.begins h.valid (e ∙ ap (λ t. joined s c (OfQueue queue) t (state_of p)) h.read))
+-- of a topic, with a subscription of its own
+pub own_created : (p : Provider) (s : SessionId) (c : ℕ) (topic : List ℕ) (selector : Option (List ℕ)) (no_local : Bool) (d : Subscription) → may_begin p.known.life p.known.consumers s c ≡ true → selector_refusal selector ≡ None →
+    d ≡ record { key = Own s c; definition = defined topic selector no_local false } → 0 < p.known.spare → 0 < p.subscriptions.spare → 0 < p.held.key_room →
+    IsPlan p (Session s) (Ask (request.CreateConsumer c (Topic topic) selector no_local)) (change.CreateConsumer s c (record { key = Own s c; selector = None }) (Some (Own s c, d)))
+unfolding refusal answer after
+own_created p s c topic selector no_local d begins valid is room subs_room key_room = record {
+  request = request.CreateConsumer c (Topic topic) selector no_local;
+  sender = refl;
+  asked = refl;
+  allowed = rw (begins, valid) refl;
+  told = refl;
+  left = ap (λ (x : Subscription). joined s c (Own s c) None (put x.key x.definition (state_of p))) (sym is);
+  begins = begins;
+  own = refl;
+  room = room;
+  decided = (refl, ap (λ (x : Subscription). x.key) is, refl, subs_room, key_room);
+}
+
+-- of a queue
+pub queue_created : (p : Provider) (s : SessionId) (c : ℕ) (queue : List ℕ) (text selector : Option (List ℕ)) (no_local : Bool) → may_begin p.known.life p.known.consumers s c ≡ true → selector_refusal text ≡ None → selector ≡ standing_as text → 0 < p.known.spare →
+    IsPlan p (Session s) (Ask (request.CreateConsumer c (Queue queue) text no_local)) (change.CreateConsumer s c (record { key = OfQueue queue; selector = selector }) None)
+unfolding refusal answer after
+queue_created p s c queue text selector no_local begins valid read room = record {
+  request = request.CreateConsumer c (Queue queue) text no_local;
+  sender = refl;
+  asked = refl;
+  allowed = rw (begins, valid) refl;
+  told = refl;
+  left = ap (λ t. joined s c (OfQueue queue) t (state_of p)) (sym read);
+  begins = begins;
+  own = tt;
+  room = room;
+  decided = tt;
+}
+
+pub subscription_deleted : (p : Provider) (who : Who) (call : Call) (key : Key) (new : State) → IsDeleting p who call key → new ≡ deleted key (state_of p) → StepFits (state_of p) who call (Ok Done) new
+unfolding reply step refusal answer after
+subscription_deleted p who call key new h e = rw (h.sender, h.asked, h.opened, h.there, h.free) (refl, e ∙ ap (λ k. deleted k (state_of p)) h.named)
+
+-- why one is not deleted: the session is not open; else memory is wanted, or there is none, or it is not free
+pub delete_closed : (state : State) (s : SessionId) (name : List ℕ) → is_some (mode_of state.life s) ≡ false → IsRefused state (Session s) (Ask (request.Unsubscribe name)) IllegalState
+unfolding reply refusal
+delete_closed state s name e = rw e refl
+
+pub delete_wants : (state : State) (s : SessionId) (name : List ℕ) (r : Refusal) → is_some (mode_of state.life s) ≡ true → r ≡ Memory → IsRefused state (Session s) (Ask (request.Unsubscribe name)) r
+unfolding may_want
+delete_wants state s name r e m = rw (m, e) refl
+
+pub delete_missing : (state : State) (s : SessionId) (name : List ℕ) → is_some (mode_of state.life s) ≡ true → is_some (held state (Session s) (request.Unsubscribe name)).definition ≡ false → IsRefused state (Session s) (Ask (request.Unsubscribe name)) InvalidDestination
+unfolding reply refusal
+delete_missing state s name e f = rw (e, f) refl
+
+pub delete_in_use : (state : State) (s : SessionId) (name : List ℕ) → is_some (mode_of state.life s) ≡ true → is_some (held state (Session s) (request.Unsubscribe name)).definition ≡ true → is_free (held state (Session s) (request.Unsubscribe name)) ≡ false → IsRefused state (Session s) (Ask (request.Unsubscribe name)) SubscriptionInUse
+unfolding reply refusal
+delete_in_use state s name e f g = rw (e, f, g) refl
 
 -- ---- publications
 

@@ -1,6 +1,6 @@
 -- Publications that were prepared and made are the machine's.
 use Rattle.std.proofs.Common.{◌≡◌, ◌≤◌, ◌+◌, ℕ, List, [], ◌∷◌, ap, map, length, refl, sym, ◌∙◌}
-use Rattle.std.specs.Prelude.{IfOk, OnOk, Result, Ok, Err}
+use Rattle.std.specs.Prelude.{IfOk, Result, Ok, Err}
 use Rattle.std.specs.List.{All}
 use Rattle.std.proofs.lemmas.List.Elements.{All-nil, All-cons}
 use Rattle.jm_base.specs.declared.refusal.Refusal.{Refusal}
@@ -19,7 +19,7 @@ use Rattle.jm_core.specs.Queues.{published_queues}
 use Rattle.jm_core.specs.Provider.{Provider}
 use Rattle.jm_core.specs.State.{stations_of, IsSound}
 use Rattle.jm_core.specs.Steps.{published_stations}
-use Rattle.jm_core.proofs.Stations.{more_room, room_limited}
+use Rattle.jm_core.proofs.Stations.{more_room}
 use Rattle.jm_core.proofs.Publishing.{published_all, published_is}
 use Rattle.jm_core.proofs.Sound.{all_limited, sound_room, sound_published}
 use Rattle.jm_core.proofs.Fits.{state_from}
@@ -58,7 +58,7 @@ pub publication_seen : (opening limit : ℕ) (life : Life) (consumers : List Con
     state_from opening limit life consumers ss new after next ≡ published (state_from opening limit life consumers ss old queues place) ms
 publication_seen opening limit life consumers ss keys old mid new queues after place next xs ms h r sent is p q end =
     let number : length mid ≡ length ss = r.number ∙ h.number in
-    let made = (published_all limit life ss xs place mid new number (all_limited limit consumers ss keys old place h) (room_limited limit old mid r h.limited) sent p).0 in
+    let made = (published_all limit life ss xs place mid new number (all_limited limit consumers ss keys mid place (sound_room limit consumers ss keys old mid place h r)) sent p).0 in
     let seen : stations_of ss new ≡ published_stations limit life place ms (stations_of ss old) = made ∙ (λ i. published_stations limit life place (is i) (more_room ss old mid r i)) in
     let queued : after ≡ published_queues place ms queues = q ∙ ap (λ xs. published_queues place xs queues) is in
     (λ i. record { opening = opening; limit = limit; life = life; consumers = consumers; stations = seen i; queues = queued i; next_place = end i }) ∙ sym (published_is (state_from opening limit life consumers ss old queues place) ms)

@@ -1,5 +1,5 @@
 -- A publication by indexes is the machine's: it comes to the subscriptions that accept it.
-use Rattle.std.proofs.Common.{◌≡◌, ◌<◌, ◌≤◌, ◌+◌, ◌-◌, ◌==◌, ℕ, Bool, true, false, cond, List, [], ◌∷◌, ◌++◌, map, length, get_or, refl, ap, sym, subst, ◌∙◌, arith, Some, None, zero, suc, nat_eq, take, add-one}
+use Rattle.std.proofs.Common.{◌≡◌, ◌<◌, ◌≤◌, ◌+◌, ◌-◌, ◌==◌, ℕ, Bool, true, false, cond, List, [], ◌∷◌, ◌++◌, map, length, get_or, refl, ap, sym, subst, ◌∙◌, arith, Option, Some, None, zero, suc, nat_eq, take, add-one}
 use Rattle.std.specs.Prelude.{◌||◌, ◌&&◌, filter, position, nat_le, nat_lt, is_some}
 use Rattle.std.specs.List.{All, AllByRecursion, IsDistinct, position_or_len}
 use Rattle.std.proofs.lemmas.Bool.Decides.{nat_tests}
@@ -23,14 +23,14 @@ use Rattle.jm_stations.specs.Backlogs.{Backlog, IsPublished, HasMoreRoom, is_nam
 use Rattle.jm_stations.specs.Stations.{Stations, index_in}
 use Rattle.jm_stations.proofs.Keys.{key_refl}
 use Rattle.jm_sub.specs.Subscriptions.{Subscription, takes, accepting}
-use Rattle.jm_core.specs.State.{HasLimit, station, stations_of, keys_of}
+use Rattle.jm_core.specs.State.{AreLimited, limit_of, station, stations_of, keys_of}
 use Rattle.jm_core.specs.Steps.{published_stations}
 use Rattle.jm_core.specs.declared.publish.Publication.{Publication}
 use Rattle.jm_core.specs.declared.publish.Goal.{Goal}
 use Rattle.jm_core.specs.declared.publish.Goal.TheVariants as to
 use Rattle.jm_core.specs.Publications.{IsReserved, IsRouted, IsReady, ArePublished, HasMessageRoom, HasRoom, queue_indexes, station_indexes}
 use Rattle.jm_core.specs.Queues.{HaveMoreRoom, IsQueued, published_queues}
-use Rattle.jm_core.proofs.Stations.{found_at}
+use Rattle.jm_core.proofs.Stations.{found_at, limits_same}
 
 -- where a key stands, or how many keys there are
 abbrev place_in : List Key → Key → ℕ
@@ -150,13 +150,17 @@ none_routed life ss m name e = record { each = λ k d l. rw e refl }
 
 -- ---- what callers see of a publication
 
--- a key whose subscription has a limit
-abbrev pub IsLimited : Key → Type 0
-IsLimited k = is_limited k ≡ true
+-- what is held under a key is at its limit exactly where the key's subscription is
+limit_same : (limit : ℕ) (k : Key) (o : Option ℕ) (n : ℕ) → o ≡ limit_of limit k → is_at_limit o n ≡ is_full limit k n
+limit_same limit k o n e = ap (λ x. is_at_limit x n) e ∙ go (is_limited k)
+  where
+    go : (b : Bool) → is_at_limit (cond b (Some limit) None) n ≡ (b && nat_le limit n)
+    go true = refl
+    go false = refl
 
 -- a subscription misses a message exactly where what is held for it is at the limit
-brought_is : (limit : ℕ) (m : Content) (place : ℕ) (s : Subscription) (x : Backlog) → IsLimited s.key → HasLimit limit x → station s (added place m x) ≡ brought limit m place (station s x)
-brought_is limit m place s x l u = go (is_at_limit x.limit (length x.rows)) (is_full limit s.key (length x.rows)) (ap (λ o. is_at_limit o (length x.rows)) u ∙ sym (ap (λ b. b && nat_le limit (length x.rows)) l))
+brought_is : (limit : ℕ) (m : Content) (place : ℕ) (s : Subscription) (x : Backlog) → x.limit ≡ limit_of limit s.key → station s (added place m x) ≡ brought limit m place (station s x)
+brought_is limit m place s x e = go (is_at_limit x.limit (length x.rows)) (is_full limit s.key (length x.rows)) (limit_same limit s.key x.limit (length x.rows) e)
   where
     go : (a b : Bool) → a ≡ b →
         station s (cond a (record x { missed = one_missed x.missed }) (record x { rows = x.rows ++ record { place = place; row = fresh m } ∷ []; room = x.room - 1 }))
@@ -166,31 +170,29 @@ brought_is limit m place s x l u = go (is_at_limit x.limit (length x.rows)) (is_
     go true false e = absurd (cc)
     go false true e = absurd (cc)
 
-offered_each : (limit : ℕ) (p : Publisher) (m : Content) (place : ℕ) (ss : List Subscription) (old new : List Backlog) (named : ℕ → Bool) → length old ≡ length ss → length new ≡ length ss → All IsLimited (keys_of ss) → All (HasLimit limit) old →
+offered_each : (limit : ℕ) (p : Publisher) (m : Content) (place : ℕ) (ss : List Subscription) (old new : List Backlog) (named : ℕ → Bool) → length old ≡ length ss → length new ≡ length ss → AreLimited limit (keys_of ss) old →
     ((k : ℕ) (d : Subscription) → k < length ss → named k ≡ takes p m (get_or ss k d)) → ((k : ℕ) (d : Backlog) → k < length old → get_or new k d ≡ cond (named k) (added place m (get_or old k d)) (get_or old k d)) →
     stations_of ss new ≡ map (offered limit p m place) (stations_of ss old)
-offered_each limit p m place [] old new named n n' l u t each = refl
-offered_each limit p m place (s ∷ ss) [] new named n n' l u t each = absurd (omega arith)
-offered_each limit p m place (s ∷ ss) (x ∷ old) [] named n n' l u t each = absurd (omega arith)
-offered_each limit p m place (s ∷ ss) (x ∷ old) (y ∷ new) named n n' l u t each =
+offered_each limit p m place [] old new named n n' u t each = refl
+offered_each limit p m place (s ∷ ss) [] new named n n' u t each = absurd (omega arith)
+offered_each limit p m place (s ∷ ss) (x ∷ old) [] named n n' u t each = absurd (omega arith)
+offered_each limit p m place (s ∷ ss) (x ∷ old) (y ∷ new) named n n' u t each =
     let here : station s y ≡ offered limit p m place (station s x) = ap (station s) (each zero x (omega arith)) ∙ go (named zero) (accepts s.key s.definition p m) (t zero s (omega arith)) in
-    let rest = offered_each limit p m place ss old new (λ k. named (suc k)) (omega arith) (omega arith) (All-tail IsLimited s.key (keys_of ss) l) (All-tail (HasLimit limit) x old u) (λ k d l. t (suc k) d (omega arith)) (λ k d l. each (suc k) d (omega arith)) in
+    let rest = offered_each limit p m place ss old new (λ k. named (suc k)) (omega arith) (omega arith) u.1 (λ k d l. t (suc k) d (omega arith)) (λ k d l. each (suc k) d (omega arith)) in
     λ i. here i ∷ rest i
   where
     go : (b a : Bool) → b ≡ a → station s (cond b (added place m x) x) ≡ cond a (brought limit m place (station s x)) (station s x)
-    go true true e = brought_is limit m place s x (All-head IsLimited s.key (keys_of ss) l) (All-head (HasLimit limit) x old u)
+    go true true e = brought_is limit m place s x u.0
     go false false e = refl
     go true false e = absurd (cc)
     go false true e = absurd (cc)
 
-pub published_one : (limit : ℕ) (life : Life) (m : Content) (place : ℕ) (ss : List Subscription) (old new : List Backlog) (is : List ℕ) → length old ≡ length ss → All IsLimited (keys_of ss) → All (HasLimit limit) old → IsRouted life ss m is → IsPublished is place m old new →
+pub published_one : (limit : ℕ) (life : Life) (m : Content) (place : ℕ) (ss : List Subscription) (old new : List Backlog) (is : List ℕ) → length old ≡ length ss → AreLimited limit (keys_of ss) old → IsRouted life ss m is → IsPublished is place m old new →
     stations_of ss new ≡ map (offered limit (publisher_of life m) m place) (stations_of ss old)
-published_one limit life m place ss old new is n l u r h = offered_each limit (publisher_of life m) m place ss old new (is_named is) n (h.number ∙ n) l u r.each h.each
+published_one limit life m place ss old new is n u r h = offered_each limit (publisher_of life m) m place ss old new (is_named is) n (h.number ∙ n) u r.each h.each
 
-pub limited_one : (limit : ℕ) (m : Content) (place : ℕ) (old new : List Backlog) (is : List ℕ) → All (HasLimit limit) old → IsPublished is place m old new → All (HasLimit limit) new
-limited_one limit m place old new is u h = λ k d l.
-    let within : k < length old = omega (arith, h.number, l) in
-    ap (λ (b : Backlog). b.limit) (h.each k d within) ∙ go (is_named is k) (get_or old k d) ∙ u k d within
+pub limited_one : (limit : ℕ) (keys : List Key) (m : Content) (place : ℕ) (old new : List Backlog) (is : List ℕ) → AreLimited limit keys old → IsPublished is place m old new → AreLimited limit keys new
+limited_one limit keys m place old new is u h = limits_same limit keys old new h.number (λ k d l. ap (λ (b : Backlog). b.limit) (h.each k d l) ∙ go (is_named is k) (get_or old k d)) u
   where
     inside : (b : Bool) (x : Backlog) → (cond b (record x { missed = one_missed x.missed }) (record x { rows = x.rows ++ record { place = place; row = fresh m } ∷ []; room = x.room - 1 })).limit ≡ x.limit
     inside true x = refl
@@ -201,13 +203,13 @@ limited_one limit m place old new is u h = λ k d l.
     go false x = refl
 
 -- many in turn
-pub published_all : (limit : ℕ) (life : Life) (ss : List Subscription) (xs : List Publication) (place : ℕ) (old new : List Backlog) → length old ≡ length ss → All IsLimited (keys_of ss) → All (HasLimit limit) old → All (λ (x : Publication). IsRouted life ss x.message (station_indexes x.goal)) xs → ArePublished xs place old new →
-    (stations_of ss new ≡ published_stations limit life place (map (λ (x : Publication). x.message) xs) (stations_of ss old)) × (length new ≡ length ss) × All (HasLimit limit) new
-published_all limit life ss [] place old new n l u r h = (ap (stations_of ss) h, ap (λ (l : List Backlog). length l) h ∙ n, subst (All (HasLimit limit)) (sym h) u)
-published_all limit life ss (x ∷ xs) place old new n l u r h =
+pub published_all : (limit : ℕ) (life : Life) (ss : List Subscription) (xs : List Publication) (place : ℕ) (old new : List Backlog) → length old ≡ length ss → AreLimited limit (keys_of ss) old → All (λ (x : Publication). IsRouted life ss x.message (station_indexes x.goal)) xs → ArePublished xs place old new →
+    (stations_of ss new ≡ published_stations limit life place (map (λ (x : Publication). x.message) xs) (stations_of ss old)) × (length new ≡ length ss) × AreLimited limit (keys_of ss) new
+published_all limit life ss [] place old new n u r h = (ap (stations_of ss) h, ap (λ (l : List Backlog). length l) h ∙ n, subst (AreLimited limit (keys_of ss)) (sym h) u)
+published_all limit life ss (x ∷ xs) place old new n u r h =
     let routes = All-head (λ (x : Publication). IsRouted life ss x.message (station_indexes x.goal)) x xs r in
-    let one = published_one limit life x.message place ss old h.0 (station_indexes x.goal) n l u routes h.1 in
-    let rest = published_all limit life ss xs (place + 1) h.0 new (h.1.number ∙ n) l (limited_one limit x.message place old h.0 (station_indexes x.goal) u h.1) (All-tail (λ (x : Publication). IsRouted life ss x.message (station_indexes x.goal)) x xs r) h.2 in
+    let one = published_one limit life x.message place ss old h.0 (station_indexes x.goal) n u routes h.1 in
+    let rest = published_all limit life ss xs (place + 1) h.0 new (h.1.number ∙ n) (limited_one limit (keys_of ss) x.message place old h.0 (station_indexes x.goal) u h.1) (All-tail (λ (x : Publication). IsRouted life ss x.message (station_indexes x.goal)) x xs r) h.2 in
     (rest.0 ∙ ap (published_stations limit life (place + 1) (map (λ (x : Publication). x.message) xs)) one, rest.1, rest.2)
 
 -- the state after messages is that of its stations and queues, and as many places further

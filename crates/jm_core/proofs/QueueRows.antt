@@ -1,26 +1,23 @@
 -- What queues hold, through each change.
-use Rattle.std.proofs.Common.{◌≡◌, ◌<◌, ◌≤◌, ◌+◌, ◌==◌, ℕ, Bool, true, false, cond, List, [], ◌∷◌, ◌++◌, map, length, get_or, refl, ap, sym, subst, ◌∙◌, arith, Option, Some, None, zero, suc}
-use Rattle.std.specs.Prelude.{◌||◌, filter, position, nat_lt}
+use Rattle.std.proofs.Common.{◌≡◌, ◌<◌, ◌≤◌, ◌==◌, ℕ, Bool, true, false, cond, List, [], ◌∷◌, ◌++◌, map, length, get_or, refl, ap, sym, ◌∙◌, arith, Some, None, zero, suc}
+use Rattle.std.specs.Prelude.{◌||◌, position, nat_lt}
 use Rattle.std.specs.List.{All, IsDistinct, position_or_len}
 use Rattle.std.proofs.lemmas.Bool.Decides.{nat_tests}
 use Rattle.std.proofs.lemmas.List.{length-append, length-map}
-use Rattle.std.proofs.lemmas.List.Elements.{All-head, All-tail, All-cons, All-nil, All-push}
-use Rattle.std.proofs.lemmas.List.Sums.{sum_by-cons, sum_by_push}
-use Rattle.jm_dest.specs.declared.session.SessionId.{SessionId}
+use Rattle.std.proofs.lemmas.List.Elements.{All-head, All-tail, All-cons, All-nil}
 use Rattle.jm_dest.specs.declared.key.Key.{Key}
 use Rattle.jm_dest.specs.declared.key.Key.TheVariants.{Queue}
 use Rattle.jm_dest.specs.Keys.{key_eq}
 use Rattle.jm_dest.specs.Names.{text_eq}
 use Rattle.jm_header.specs.declared.content.Content.{Content}
 use Rattle.jm_machine.specs.declared.state.PlacedRow.{PlacedRow}
-use Rattle.jm_machine.specs.declared.state.Row.{Row}
 use Rattle.jm_machine.specs.Machine.{at_queue, at_queues}
 use Rattle.jm_machine.specs.Rows.{fresh}
-use Rattle.jm_stations.specs.Backlogs.{Backlog, HasMoreRoom, IsPublished, added, changed_at, empty, is_named, without_room}
+use Rattle.jm_stations.specs.Backlogs.{Backlog, HasMoreRoom, IsPublished, added, changed_at, empty, without_room}
 use Rattle.jm_stations.specs.Stations.{Stations, index_in}
 use Rattle.jm_stations.proofs.Keys.{key_refl, key_same}
 use Rattle.jm_core.specs.Publications.{IsReserved}
-use Rattle.jm_core.specs.Queues.{HasNoLimit, HaveMoreRoom, rows_at, rows_in}
+use Rattle.jm_core.specs.Queues.{HasNoLimit, HaveMoreRoom, rows_at}
 use Rattle.jm_core.proofs.Stations.{fails_all, found_at, found_none, with}
 
 -- ---- the same rows

@@ -1,9 +1,8 @@
 -- What readers and copies of the core show.
 use Rattle.std.proofs.Common.{◌≡◌, ◌<◌, ℕ, Bool, true, false, List, [], ◌∷◌, map, length, get_or, refl, ap, sym, subst, ◌∙◌, arith, Some, None, zero, suc}
 use Rattle.std.specs.Prelude.{position, slice_get, option_map}
-use Rattle.std.specs.List.{All, position_or_len}
+use Rattle.std.specs.List.{position_or_len}
 use Rattle.std.proofs.lemmas.List.{length-map}
-use Rattle.std.proofs.lemmas.List.Elements.{All-head, All-tail, All-cons}
 use Rattle.jm_dest.specs.declared.key.Key.{Key}
 use Rattle.jm_dest.specs.Keys.{key_eq}
 use Rattle.jm_machine.specs.declared.state.Consumer.{Consumer}
@@ -15,7 +14,7 @@ use Rattle.jm_stations.proofs.Keys.{key_same}
 use Rattle.jm_sub.specs.Subscriptions.{Subscription}
 use Rattle.jm_core.specs.Accepted.{HoldsAccepted}
 use Rattle.jm_core.specs.Kept.{IsNumberOfMessages}
-use Rattle.jm_core.specs.State.{HasLimit, station, stations_of, keys_of, IsSound}
+use Rattle.jm_core.specs.State.{AreLimited, station, stations_of, keys_of, IsSound}
 use Rattle.jm_core.proofs.Stations.{found_at, found_none, fails_all, key_missing, holders_same, length-keys}
 
 pub length-stations : (ss : List Subscription) (bs : List Backlog) → length bs ≡ length ss → length (stations_of ss bs) ≡ length ss
@@ -29,9 +28,10 @@ stations_copied [] bs = refl
 stations_copied (s ∷ ss) [] = refl
 stations_copied (s ∷ ss) (b ∷ bs) = ap (λ xs. station s b ∷ xs) (stations_copied ss bs)
 
-limited_copied : (limit : ℕ) (bs : List Backlog) → All (HasLimit limit) bs → All (HasLimit limit) (map without_room bs)
-limited_copied limit [] u = u
-limited_copied limit (b ∷ bs) u = All-cons (HasLimit limit) (without_room b) (map without_room bs) (All-head (HasLimit limit) b bs u) (limited_copied limit bs (All-tail (HasLimit limit) b bs u))
+limited_copied : (limit : ℕ) (keys : List Key) (bs : List Backlog) → AreLimited limit keys bs → AreLimited limit keys (map without_room bs)
+limited_copied limit [] bs u = tt
+limited_copied limit (k ∷ keys) [] u = tt
+limited_copied limit (k ∷ keys) (b ∷ bs) u = (u.0, limited_copied limit keys bs u.1)
 
 pub sound_copied : (limit : ℕ) (consumers : List Consumer) (ss : List Subscription) (keys : List Key) (bs : List Backlog) (place : ℕ) → IsSound limit consumers ss keys bs place → IsSound limit consumers ss keys (map without_room bs) place
 sound_copied limit consumers ss keys bs place h = record {
@@ -40,7 +40,7 @@ sound_copied limit consumers ss keys bs place h = record {
   once = h.once;
   made = h.made;
   own = h.own;
-  limited = limited_copied limit bs h.limited;
+  limited = limited_copied limit keys bs h.limited;
   accepted = subst HoldsAccepted (sym (stations_copied ss bs)) h.accepted;
   places = h.places;
 }

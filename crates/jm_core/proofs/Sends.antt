@@ -1,6 +1,6 @@
 -- What one call is to a run.
-use Rattle.std.proofs.Common.{◌≡◌, ◌⊎◌, ◌+◌, ◌<◌, ℕ, Bool, true, false, true≢false, cond, not, List, [], ◌∷◌, ◌++◌, length, refl, ap, sym, subst, ◌∙◌, inl, inr, arith, Option, Some, None, Result, Ok, Err}
-use Rattle.std.specs.Prelude.{◌&&◌, ◌==◌, is_some, is_ok, nat_lt, MatchBool}
+use Rattle.std.proofs.Common.{◌≡◌, ◌+◌, ◌<◌, ℕ, Bool, true, false, true≢false, cond, List, [], ◌∷◌, ◌++◌, length, refl, ap, sym, subst, ◌∙◌, inl, inr, arith, Option, Some, None, Result, Ok, Err}
+use Rattle.std.specs.Prelude.{◌&&◌, ◌==◌, is_some, nat_lt, MatchBool}
 use Rattle.std.proofs.lemmas.List.{append-nil}
 use Rattle.jm_base.specs.declared.mode.Mode.{Mode}
 use Rattle.jm_base.specs.declared.mode.Mode.TheVariants.{Auto, Client, Dups, Transacted}
@@ -27,15 +27,13 @@ use Rattle.jm_machine.specs.declared.answer.Answer.TheVariants.{Done, Sent}
 use Rattle.jm_machine.specs.Life.{mode_of}
 use Rattle.jm_machine.specs.Machine.{State, is_transacted, publish_refusal, replied, reply, step}
 use Rattle.jm_machine.specs.Wants.{is_want, may_want}
-use Rattle.jm_machine.specs.Entries.{drops}
 use Rattle.jm_machine.specs.Client.{Progress, after_commit_of, after_request, begun, is_in_transaction, one_more, with_kept, stamp_of, reply_to, progress_to, progress_wanting, call_may_want, CallOwed, RunOwed}
-use Rattle.jm_tx.specs.declared.buffer.Sent.{Sent as ToDo}
 use Rattle.jm_tx.specs.declared.buffer.Sent.TheVariants.{Kept, Publish as ToPublish}
 use Rattle.jm_tx.specs.declared.halves.Halves.{Halves}
-use Rattle.jm_tx.specs.Buffers.{is_transacted as waits, sent_as}
-use Rattle.jm_tx.specs.Halves.{sent_of, kept_of, room, none_sent, none_kept, with_messages, without_connection, IsAsBefore, RunSendFits}
+use Rattle.jm_tx.specs.Buffers.{is_transacted as waits}
+use Rattle.jm_tx.specs.Halves.{sent_of, kept_of, room, none_sent, none_kept, with_messages, IsAsBefore, RunSendFits}
 use Rattle.jm_core.specs.Steps.{StepFits, CommitFits}
-use Rattle.jm_core.specs.Runs.{progress, closes_connection, ends_transaction}
+use Rattle.jm_core.specs.Runs.{progress}
 
 -- Requests
 

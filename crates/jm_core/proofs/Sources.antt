@@ -1,5 +1,5 @@
 -- The consumer that a delivery from a queue is for, and no key of a subscription is that of a queue.
-use Rattle.std.proofs.Common.{◌≡◌, ℕ, Bool, true, false, cond, List, refl, ◌∙◌, sym, Option, Some, None}
+use Rattle.std.proofs.Common.{◌≡◌, ℕ, Bool, true, false, cond, List, refl, ◌∙◌, Option, Some, None}
 use Rattle.std.specs.List.{All}
 use Rattle.std.proofs.lemmas.List.Elements.{All-weaker}
 use Rattle.jm_dest.specs.declared.key.Key.{Key}
@@ -9,7 +9,7 @@ use Rattle.jm_machine.specs.declared.state.Consumer.{Consumer}
 use Rattle.jm_machine.specs.Life.{Life, is_started}
 use Rattle.jm_machine.specs.Machine.{consumer_of}
 use Rattle.jm_core.specs.declared.receive.Receiver.{Receiver}
-use Rattle.jm_core.specs.State.{IsOfConsumer}
+use Rattle.jm_core.specs.State.{IsOfSubscription}
 use Rattle.jm_core.specs.Takings.{source_of}
 
 -- the consumer that is found is the one that receives
@@ -28,11 +28,11 @@ source_missing {B} life consumers r x e f = go (is_started life r.session.connec
     go true o e f = absurd (let same : None ≡ Some x = f ∙ e in cc)
     go false o e f = absurd cc
 
-not_queue : (consumers : List Consumer) (name : List ℕ) (k : Key) → IsOfConsumer consumers k → key_eq k (Queue name) ≡ false
+not_queue : (consumers : List Consumer) (name : List ℕ) (k : Key) → IsOfSubscription consumers k → key_eq k (Queue name) ≡ false
 not_queue consumers name (Own s c) h = refl
 not_queue consumers name (Queue other) h = absurd h
-not_queue consumers name (SharedOwn client other) h = absurd h
-not_queue consumers name (Durable client other) h = absurd h
+not_queue consumers name (SharedOwn client other) h = refl
+not_queue consumers name (Durable client other) h = refl
 
-pub no_queue : (consumers : List Consumer) (name : List ℕ) (keys : List Key) → All (IsOfConsumer consumers) keys → All (λ x. key_eq x (Queue name) ≡ false) keys
-no_queue consumers name keys h = All-weaker (IsOfConsumer consumers) (λ x. key_eq x (Queue name) ≡ false) (not_queue consumers name) keys h
+pub no_queue : (consumers : List Consumer) (name : List ℕ) (keys : List Key) → All (IsOfSubscription consumers) keys → All (λ x. key_eq x (Queue name) ≡ false) keys
+no_queue consumers name keys h = All-weaker (IsOfSubscription consumers) (λ x. key_eq x (Queue name) ≡ false) (not_queue consumers name) keys h

@@ -1,6 +1,6 @@
 -- What callers see of the subscriptions with what is held for each, through each change.
 use Rattle.std.proofs.Common.{◌≡◌, ◌<◌, ◌≤◌, ◌==◌, ℕ, Bool, true, false, cond, List, [], ◌∷◌, ◌++◌, length, get_or, refl, ap, sym, ◌∙◌, arith, Option, Some, None, zero, suc}
-use Rattle.std.specs.Prelude.{◌+◌, ◌&&◌, ◌||◌, not, position, nat_lt, is_some}
+use Rattle.std.specs.Prelude.{◌+◌, ◌&&◌, ◌||◌, find, not, option_map, position, nat_lt, is_some}
 use Rattle.std.specs.List.{All, position_or_len}
 use Rattle.std.proofs.lemmas.Bool.Decides.{nat_tests}
 use Rattle.std.proofs.lemmas.List.Elements.{All-head, All-tail, All-nil, All-cons}
@@ -10,13 +10,13 @@ use Rattle.jm_dest.specs.declared.key.Key.{Key}
 use Rattle.jm_dest.specs.Keys.{key_eq}
 use Rattle.jm_machine.specs.declared.state.PlacedRow.{PlacedRow}
 use Rattle.jm_machine.specs.declared.state.Station.{Station}
-use Rattle.jm_machine.specs.Machine.{station_of, at_key, missed_of, with_rows, without}
+use Rattle.jm_machine.specs.Machine.{definition_of, station_of, at_key, missed_of, with_rows, without}
 use Rattle.jm_machine.specs.Rows.{settles_at_once}
 use Rattle.jm_machine.specs.Wants.{holders_of, placed_rows, is_copied}
 use Rattle.jm_stations.specs.Backlogs.{Backlog, HasMoreRoom, changed_at, holders_at, kept_message, copy_wanted, next_placed, placed_at}
 use Rattle.jm_sub.specs.Subscriptions as subs
 use Rattle.jm_sub.specs.Subscriptions.{Subscription}
-use Rattle.jm_core.specs.State.{HasLimit, station, stations_of, keys_of}
+use Rattle.jm_core.specs.State.{AreLimited, station, stations_of, keys_of}
 
 -- what an index that was looked for says
 pub found_at : {A : Type 0} (p : A → Bool) (xs : List A) (i : ℕ) → position p xs ≡ Some i → (position_or_len p xs ≡ i) × (i < length xs)
@@ -80,11 +80,16 @@ key_missing k g (s ∷ ss) (b ∷ bs) h =
     let r = key_missing k g ss bs (All-tail (λ x. key_eq x k ≡ false) s.key (keys_of ss) h) in
     (rw t (ap (λ ys. station s b ∷ ys) r.0), rw t r.1, rw t (ap (λ ys. station s b ∷ ys) r.2))
 
-pub subscription_missing : (k : Key) (ss : List Subscription) → All (λ x. key_eq x k ≡ false) (keys_of ss) → subs.without k ss ≡ ss
-subscription_missing k [] h = refl
-subscription_missing k (s ∷ ss) h =
-    let t : key_eq s.key k ≡ false = All-head (λ x. key_eq x k ≡ false) s.key (keys_of ss) h in
-    rw t (ap (λ ys. s ∷ ys) (subscription_missing k ss (All-tail (λ x. key_eq x k ≡ false) s.key (keys_of ss) h)))
+-- what the subscription of a key asks for
+pub definition_seen : (k : Key) (ss : List Subscription) (bs : List Backlog) → length bs ≡ length ss → subs.definition_at k ss ≡ definition_of (station_of k (stations_of ss bs))
+definition_seen k [] bs n = refl
+definition_seen k (s ∷ ss) [] n = absurd (omega (arith, n))
+definition_seen k (s ∷ ss) (b ∷ bs) n = go (key_eq s.key k) (definition_seen k ss bs (omega (arith, n)))
+  where
+    go : (t : Bool) → subs.definition_at k ss ≡ definition_of (station_of k (stations_of ss bs)) →
+        option_map (λ (s : Subscription). s.definition) (cond t (Some s) (find (λ (s : Subscription). key_eq s.key k) ss)) ≡ definition_of (cond t (Some (station s b)) (station_of k (stations_of ss bs)))
+    go true r = refl
+    go false r = r
 
 -- a subscription more
 pub stations_push : (ss : List Subscription) (bs : List Backlog) (s : Subscription) (b : Backlog) → length bs ≡ length ss → stations_of (ss ++ s ∷ []) (bs ++ b ∷ []) ≡ stations_of ss bs ++ station s b ∷ []
@@ -124,8 +129,16 @@ room_again xs ys zs h g = record {
       omega (arith, one, two);
 }
 
-pub room_limited : (limit : ℕ) (xs ys : List Backlog) → HasMoreRoom xs ys → All (HasLimit limit) xs → All (HasLimit limit) ys
-room_limited limit xs ys h u = λ k d l. let within : k < length xs = omega (arith, h.number, l) in ap (λ (b : Backlog). b.limit) (h.same k d within) ∙ u k d within
+-- the same limits are there where each is as before
+pub limits_same : (limit : ℕ) (keys : List Key) (old new : List Backlog) → length new ≡ length old → ((k : ℕ) (d : Backlog) → k < length old → (get_or new k d).limit ≡ (get_or old k d).limit) → AreLimited limit keys old → AreLimited limit keys new
+limits_same limit [] old new n same h = tt
+limits_same limit (k ∷ keys) [] [] n same h = tt
+limits_same limit (k ∷ keys) [] (y ∷ new) n same h = absurd (omega (arith, n))
+limits_same limit (k ∷ keys) (x ∷ old) [] n same h = tt
+limits_same limit (k ∷ keys) (x ∷ old) (y ∷ new) n same h = (same zero x (omega arith) ∙ h.0, limits_same limit keys old new (omega (arith, n)) (λ i d l. same (suc i) d (omega (arith, l))) h.1)
+
+pub room_limited : (limit : ℕ) (keys : List Key) (xs ys : List Backlog) → HasMoreRoom xs ys → AreLimited limit keys xs → AreLimited limit keys ys
+room_limited limit keys xs ys h u = limits_same limit keys xs ys h.number (λ k d l. ap (λ (b : Backlog). b.limit) (h.same k d l)) u
 
 -- a delivery
 pub length-changed : (i : ℕ) (f : Backlog → Backlog) (bs : List Backlog) → length (changed_at i f bs) ≡ length bs
@@ -133,10 +146,11 @@ length-changed i f [] = refl
 length-changed zero f (b ∷ bs) = refl
 length-changed (suc i) f (b ∷ bs) = ap suc (length-changed i f bs)
 
-pub changed_limited : (limit i : ℕ) (f : Backlog → Backlog) → ((b : Backlog) → (f b).limit ≡ b.limit) → (bs : List Backlog) → All (HasLimit limit) bs → All (HasLimit limit) (changed_at i f bs)
-changed_limited limit i f same [] u = u
-changed_limited limit zero f same (b ∷ bs) u = All-cons (HasLimit limit) (f b) bs (same b ∙ All-head (HasLimit limit) b bs u) (All-tail (HasLimit limit) b bs u)
-changed_limited limit (suc i) f same (b ∷ bs) u = All-cons (HasLimit limit) b (changed_at i f bs) (All-head (HasLimit limit) b bs u) (changed_limited limit i f same bs (All-tail (HasLimit limit) b bs u))
+pub changed_limited : (limit i : ℕ) (f : Backlog → Backlog) → ((b : Backlog) → (f b).limit ≡ b.limit) → (keys : List Key) (bs : List Backlog) → AreLimited limit keys bs → AreLimited limit keys (changed_at i f bs)
+changed_limited limit i f same [] bs u = tt
+changed_limited limit i f same (k ∷ keys) [] u = tt
+changed_limited limit zero f same (k ∷ keys) (b ∷ bs) u = (same b ∙ u.0, u.1)
+changed_limited limit (suc i) f same (k ∷ keys) (b ∷ bs) u = (u.0, changed_limited limit i f same keys bs u.1)
 
 -- the rows at a place
 pub holders_same : (place : ℕ) (ss : List Subscription) (bs : List Backlog) → length bs ≡ length ss → holders_at place bs ≡ holders_of place (stations_of ss bs)

@@ -15,16 +15,16 @@ use Rattle.jm_header.specs.declared.content.Content.{Content}
 use Rattle.jm_machine.specs.declared.call.Who.{Who}
 use Rattle.jm_machine.specs.declared.call.Who.TheVariants.{Connection, Session}
 use Rattle.jm_machine.specs.declared.call.Request.{Request}
-use Rattle.jm_machine.specs.declared.call.Request.TheVariants.{CloseConnection, CreateSession, CloseSession, CreateConsumer, CloseConsumer, Receive, Acknowledge, Recover, Rollback}
+use Rattle.jm_machine.specs.declared.call.Request.TheVariants.{CloseConnection, CreateSession, CloseSession, CreateConsumer, CreateDurable, CreateShared, CreateSharedDurable, Unsubscribe, CloseConsumer, Receive, Acknowledge, Recover, Rollback}
 use Rattle.jm_machine.specs.declared.call.Call.{Call}
 use Rattle.jm_machine.specs.declared.call.Call.TheVariants.{Ask, Publish, Commit}
 use Rattle.jm_machine.specs.declared.state.Definition.{Definition}
 use Rattle.jm_machine.specs.declared.state.PlacedRow.{PlacedRow}
 use Rattle.jm_machine.specs.declared.state.Row.{Row}
 use Rattle.jm_machine.specs.declared.state.Station.{Station}
-use Rattle.jm_machine.specs.Life.{mode_of, is_started}
+use Rattle.jm_machine.specs.Life.{client_of, mode_of, is_started}
 use Rattle.jm_machine.specs.Rows.{bare, fresh, has_lapsed, is_next, is_out, live, settles_at_once, sent_out, left_of, live_placed, change_placed, deliver_placed}
-use Rattle.jm_machine.specs.Machine.{State, Publisher, publisher_of, accepts, is_full, one_missed, brought, offered, with_message, with_rows, at_key, without, published, receive, consumer_of, key_at, made, selected_by, defined, of_session, of_connection, of_number, settled_rows, returned_row, returned_rows, settled, returned, closed, with_life, is_client, held, refusal, publish_refusal, commit_refusal, after, after_commit, moved, step}
+use Rattle.jm_machine.specs.Machine.{State, Publisher, publisher_of, accepts, is_full, one_missed, brought, offered, with_message, with_rows, at_key, without, published, receive, consumer_of, key_at, asked, definition_of, deleted, durable_of, is_same, made, put, selected_by, shared_of, station_of, subscribed, defined, of_session, of_connection, of_number, settled_rows, returned_row, returned_rows, settled, returned, closed, with_life, is_client, held, refusal, publish_refusal, commit_refusal, after, after_commit, moved, step}
 use Rattle.jm_machine.specs.Isolation.{Reached}
 use Rattle.jm_machine.specs.Isolation.Reached.{New, Stepped}
 use Rattle.jm_core.specs.Limits.{AllWithin, IsWithin}
@@ -140,13 +140,22 @@ within_closed p state h = all_filter state.limit _ state.stations h
 within_given : (p : SessionId → ℕ → Bool) (state : State) → HasLimits state → HasLimits (returned p state)
 within_given p state h = all_each state.limit (returned_rows p) (fewer_returned p) state.stations h
 
+within_put : (k : Key) (d : Definition) (state : State) → HasLimits state → HasLimits (put k d state)
+within_put k d state h = all_put state.limit k d (without k state.stations) (all_filter state.limit _ state.stations h)
+
 within_made : (s : SessionId) (c : ℕ) (destination : Destination) (selector : Option (List ℕ)) (no_local : Bool) (state : State) → HasLimits state → HasLimits (made s c destination selector no_local state)
 within_made s c (Queue name) selector no_local state h = h
-within_made s c (Topic name) selector no_local state h = all_put state.limit (Own s c) (defined name selector no_local) (without (Own s c) state.stations) (all_filter state.limit _ state.stations h)
+within_made s c (Topic name) selector no_local state h = within_put (Own s c) (defined name selector no_local false) state h
 
 within_if : (b : Bool) (x y : State) → HasLimits x → HasLimits y → HasLimits (cond b x y)
 within_if true x y p q = p
 within_if false x y p q = q
+
+within_subscribed : (s : SessionId) (c : ℕ) (k : Key) (d : Definition) (state : State) → HasLimits state → HasLimits (subscribed s c k d state)
+within_subscribed s c k d state h = within_if (is_same (definition_of (station_of k state.stations)) d) state (put k d state) h (within_put k d state h)
+
+within_deleted : (k : Key) (state : State) → HasLimits state → HasLimits (deleted k state)
+within_deleted k state h = all_filter state.limit _ state.stations h
 
 within_moved : (o : Option Refusal) (x y : State) → HasLimits x → HasLimits y → HasLimits (moved o x y)
 within_moved None x y p q = p
@@ -159,6 +168,10 @@ within_after state (Connection c) request h = h
 within_after state (Session s) (CreateSession mode) h = h
 within_after state (Session s) CloseSession h = within_closed (of_session s) (returned (of_session s) (with_life (Session s) CloseSession state)) (within_given (of_session s) (with_life (Session s) CloseSession state) h)
 within_after state (Session s) (CreateConsumer c destination selector no_local) h = within_made s c destination selector no_local state h
+within_after state (Session s) (CreateDurable c destination name selector no_local) h = within_subscribed s c (durable_of (client_of state.life) s name) (asked destination selector no_local false) state h
+within_after state (Session s) (CreateShared c destination name selector) h = within_subscribed s c (shared_of (client_of state.life) s name) (asked destination selector false true) state h
+within_after state (Session s) (CreateSharedDurable c destination name selector) h = within_subscribed s c (durable_of (client_of state.life) s name) (asked destination selector false true) state h
+within_after state (Session s) (Unsubscribe name) h = within_deleted (durable_of (client_of state.life) s name) state h
 within_after state (Session s) (Receive c now) h =
     within_if (is_started state.life s.connection) (receive (selected_by (consumer_of state.consumers s c)) (left_of (mode_of state.life s) s c) now (key_at (consumer_of state.consumers s c)) state) state
     (within_received (selected_by (consumer_of state.consumers s c)) (mode_of state.life s) s c now (key_at (consumer_of state.consumers s c)) state h) h

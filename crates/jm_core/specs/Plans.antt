@@ -1,30 +1,34 @@
 -- Plans: steps that are prepared. No cause stands against the step, and there is room for what it changes.
-use Rattle.std.specs.Prelude.{◌≡◌, ◌<◌, ◌&&◌, ℕ, Bool, true, false, IfSome, List, Option, Some, None, Result, Ok, Err, MatchBool, MatchResult, length, is_some}
+use Rattle.std.specs.Prelude.{◌≡◌, ◌<◌, ◌&&◌, ℕ, true, false, IfSome, List, Option, Some, None, Result, Ok, Err, MatchBool, MatchResult, length, is_some}
 use Rattle.jm_base.specs.declared.refusal.Refusal.{Refusal}
 use Rattle.jm_dest.specs.declared.session.SessionId.{SessionId}
-use Rattle.jm_dest.specs.declared.key.Key.TheVariants.{Own, Queue as OfQueue}
-use Rattle.jm_dest.specs.declared.destination.Destination.TheVariants.{Queue, Topic}
+use Rattle.jm_dest.specs.declared.key.Key.{Key}
+use Rattle.jm_dest.specs.declared.key.Key.TheVariants.{Queue as OfQueue}
 use Rattle.jm_header.specs.declared.content.Content.{Content}
 use Rattle.jm_machine.specs.declared.answer.Answer.{Answer}
+use Rattle.jm_machine.specs.declared.answer.Answer.TheVariants.{Done}
 use Rattle.jm_machine.specs.declared.call.Who.{Who}
 use Rattle.jm_machine.specs.declared.call.Who.TheVariants.{Connection, Session}
 use Rattle.jm_machine.specs.declared.call.Call.{Call}
 use Rattle.jm_machine.specs.declared.call.Call.TheVariants.{Ask, Publish, Commit}
-use Rattle.jm_machine.specs.declared.call.Request.TheVariants as request
+use Rattle.jm_machine.specs.declared.call.Request.{Request}
+use Rattle.jm_machine.specs.declared.call.Request.TheVariants as requests
 use Rattle.jm_machine.specs.declared.state.Consumer.{Consumer}
-use Rattle.jm_machine.specs.Life.{connection_of, is_client_taken, is_new_session, is_open_connection, mode_of}
-use Rattle.jm_machine.specs.Machine.{State, consumer_of, defined, is_stamped, is_transacted, is_untransacted, key_at, may_begin, may_close_consumer, may_close_session, reply, selected_by, standing_as}
-use Rattle.jm_selector.specs.Selectors.{selector_refusal}
+use Rattle.jm_machine.specs.Life.{client_of, connection_of, is_client_taken, is_new_session, is_open_connection, mode_of}
+use Rattle.jm_machine.specs.Machine.{State, after, answer, consumer_of, durable_of, held, is_free, is_stamped, is_transacted, is_untransacted, joined, key_at, may_begin, may_close_consumer, may_close_session, refusal, reply, selected_by}
 use Rattle.jm_machine.specs.Wants.{is_want, may_want}
 use Rattle.jm_session.specs.Known.{may_receive}
+use Rattle.jm_session.specs.Sources.{Origin}
 use Rattle.jm_sub.specs.Subscriptions.{Subscription}
 use Rattle.jm_core.specs.declared.publish.Publication.{Publication}
 use Rattle.jm_core.specs.declared.receive.Receiver.{Receiver}
 use Rattle.jm_core.specs.declared.receive.Taking.{Taking}
 use Rattle.jm_core.specs.declared.plan.Change.{Change}
 use Rattle.jm_core.specs.declared.plan.Change.TheVariants as change
+use Rattle.jm_core.specs.Named.{IsDecided, put_decided}
 use Rattle.jm_core.specs.Provider.{Provider, state_of}
 use Rattle.jm_core.specs.Publications.{ArePrepared}
+use Rattle.jm_core.specs.State.{IsOwn}
 use Rattle.jm_core.specs.Steps.{StepFits}
 use Rattle.jm_core.specs.Takings.{IsTaken, IsTakenFrom, is_queue, missed_at, source_of}
 
@@ -32,43 +36,43 @@ use Rattle.jm_core.specs.Takings.{IsTaken, IsTakenFrom, is_queue, missed_at, sou
 -- and there is room for it
 pub record IsOpening (p : Provider) (who : Who) (call : Call) (c : ℕ) (client : Option (List ℕ)) : Type 0 where
   pub sender : who ≡ Connection c
-  pub asked : call ≡ Ask (request.Open client)
+  pub asked : call ≡ Ask (requests.Open client)
   pub new : connection_of p.known.life.connections c ≡ None
   pub free : is_client_taken p.known.life client ≡ false
   pub room : 0 < p.known.spare
 
--- the call makes the session's consumer of a topic: the number is free, the decision is that of the topic, the selector,
--- which is read, and no_local, and there is room for the consumer, its subscription and its key
-pub record IsCreating (p : Provider) (who : Who) (call : Call) (s : SessionId) (c : ℕ) (decision : Subscription) : Type 0 where
-  pub topic : List ℕ
-  pub selector : Option (List ℕ)
-  pub no_local : Bool
+-- the call makes the session's consumer of that source: no cause stands against it, it is done, and it leaves the state in
+-- which the subscription that was decided, where one was, is put, and then the consumer joins; the number is free, a key
+-- that is a consumer's own is this one's, and there is room for the consumer
+pub record IsCreating (p : Provider) (who : Who) (call : Call) (s : SessionId) (c : ℕ) (source : Origin) (decision : Option (Key × Subscription)) : Type 0 where
+  pub request : Request
   pub sender : who ≡ Session s
-  pub asked : call ≡ Ask (request.CreateConsumer c (Topic topic) selector no_local)
-  pub decided : decision ≡ record { key = Own s c; definition = defined topic selector no_local }
-  pub valid : selector_refusal selector ≡ None
+  pub asked : call ≡ Ask request
+  pub allowed : refusal p.known.life p.known.consumers (held (state_of p) (Session s) request) (Session s) request ≡ None
+  pub told : answer p.known.life p.known.consumers (held (state_of p) (Session s) request) (Session s) request ≡ Done
+  pub left : after (state_of p) (Session s) request ≡ joined s c source.key source.selector (put_decided decision (state_of p))
   pub begins : may_begin p.known.life p.known.consumers s c ≡ true
+  pub own : IsOwn s c source.key
   pub room : 0 < p.known.spare
-  pub subs_room : 0 < p.subscriptions.spare
-  pub key_room : 0 < p.held.key_room
+  pub decided : IsDecided p source.key decision
 
--- the call makes the session's consumer of that queue: the number is free, the selector is read, and stands as it was read,
--- and there is room for the consumer
-pub record IsCreatingOf (p : Provider) (who : Who) (call : Call) (s : SessionId) (c : ℕ) (queue : List ℕ) (selector : Option (List ℕ)) : Type 0 where
-  pub text : Option (List ℕ)
-  pub no_local : Bool
-  pub sender : who ≡ Session s
-  pub asked : call ≡ Ask (request.CreateConsumer c (Queue queue) text no_local)
-  pub read : selector ≡ standing_as text
-  pub valid : selector_refusal text ≡ None
-  pub begins : may_begin p.known.life p.known.consumers s c ≡ true
-  pub room : 0 < p.known.spare
+-- the call deletes the durable subscription of the key, which its session means by the name: the session is open, and the
+-- subscription is there and free
+pub record IsDeleting (p : Provider) (who : Who) (call : Call) (key : Key) : Type 0 where
+  pub session : SessionId
+  pub name : List ℕ
+  pub sender : who ≡ Session session
+  pub asked : call ≡ Ask (requests.Unsubscribe name)
+  pub named : key ≡ durable_of (client_of p.known.life) session name
+  pub opened : is_some (mode_of p.known.life session) ≡ true
+  pub there : is_some (held (state_of p) (Session session) (requests.Unsubscribe name)).definition ≡ true
+  pub free : is_free (held (state_of p) (Session session) (requests.Unsubscribe name)) ≡ true
 
 -- the call is the receiver's, in the mode of its session: it receives at that moment, as it may, and takes what stands under
 -- the consumer's key, which is no queue's, with the copy that it wants
 pub record IsReceiving (p : Provider) (who : Who) (call : Call) (r : Receiver) (taking : Option Taking) : Type 0 where
   pub sender : who ≡ Session r.session
-  pub asked : call ≡ Ask (request.Receive r.consumer r.moment)
+  pub asked : call ≡ Ask (requests.Receive r.consumer r.moment)
   pub mode : mode_of p.known.life r.session ≡ Some r.mode
   pub allowed : may_receive p.known.life p.known.consumers r.session r.consumer ≡ true
   pub apart : is_queue (key_at (source_of p.known.life p.known.consumers r.session r.consumer)) ≡ false
@@ -80,7 +84,7 @@ pub record IsReceivingFrom (p : Provider) (who : Who) (call : Call) (r : Receive
   pub consumer : Consumer
   pub queue : List ℕ
   pub sender : who ≡ Session r.session
-  pub asked : call ≡ Ask (request.Receive r.consumer r.moment)
+  pub asked : call ≡ Ask (requests.Receive r.consumer r.moment)
   pub mode : mode_of p.known.life r.session ≡ Some r.mode
   pub allowed : may_receive p.known.life p.known.consumers r.session r.consumer ≡ true
   pub source : source_of p.known.life p.known.consumers r.session r.consumer ≡ Some consumer
@@ -92,7 +96,7 @@ pub record IsMissing (p : Provider) (who : Who) (call : Call) (n : ℕ) : Type 0
   pub session : SessionId
   pub consumer : ℕ
   pub sender : who ≡ Session session
-  pub asked : call ≡ Ask (request.Missed consumer)
+  pub asked : call ≡ Ask (requests.Missed consumer)
   pub allowed : may_receive p.known.life p.known.consumers session consumer ≡ true
   pub number : n ≡ missed_at (key_at (consumer_of p.known.consumers session consumer)) (state_of p).stations
 
@@ -119,27 +123,27 @@ pub record IsCommitting (p : Provider) (who : Who) (call : Call) (s : SessionId)
 abbrev pub IsPlan : Provider → Who → Call → Change → Type 0
 IsPlan p who call (change.Open c client) = IsOpening p who call c client
 IsPlan p who call (change.Start c) =
-    (who ≡ Connection c) × (call ≡ Ask request.Start) × (is_open_connection (connection_of p.known.life.connections c) ≡ true)
+    (who ≡ Connection c) × (call ≡ Ask requests.Start) × (is_open_connection (connection_of p.known.life.connections c) ≡ true)
 IsPlan p who call (change.Stop c) =
-    (who ≡ Connection c) × (call ≡ Ask request.Stop) × (is_open_connection (connection_of p.known.life.connections c) ≡ true)
+    (who ≡ Connection c) × (call ≡ Ask requests.Stop) × (is_open_connection (connection_of p.known.life.connections c) ≡ true)
 IsPlan p who call (change.CloseConnection c) =
-    (who ≡ Connection c) × (call ≡ Ask request.CloseConnection) × (is_some (connection_of p.known.life.connections c) ≡ true)
+    (who ≡ Connection c) × (call ≡ Ask requests.CloseConnection) × (is_some (connection_of p.known.life.connections c) ≡ true)
 IsPlan p who call (change.CreateSession s mode) =
-    (who ≡ Session s) × (call ≡ Ask (request.CreateSession mode)) × (is_new_session p.known.life s ≡ true) × (0 < p.known.spare)
+    (who ≡ Session s) × (call ≡ Ask (requests.CreateSession mode)) × (is_new_session p.known.life s ≡ true) × (0 < p.known.spare)
 IsPlan p who call (change.CloseSession s) =
-    (who ≡ Session s) × (call ≡ Ask request.CloseSession) × (may_close_session p.known.life s ≡ true)
-IsPlan p who call (change.CreateConsumer s c decision) = IsCreating p who call s c decision
-IsPlan p who call (change.CreateConsumerOf s c queue selector) = IsCreatingOf p who call s c queue selector
+    (who ≡ Session s) × (call ≡ Ask requests.CloseSession) × (may_close_session p.known.life s ≡ true)
+IsPlan p who call (change.CreateConsumer s c source decision) = IsCreating p who call s c source decision
+IsPlan p who call (change.Unsubscribe key) = IsDeleting p who call key
 IsPlan p who call (change.CloseConsumer s c) =
-    (who ≡ Session s) × (call ≡ Ask (request.CloseConsumer c)) × (may_close_consumer p.known.life p.known.consumers s c ≡ true)
+    (who ≡ Session s) × (call ≡ Ask (requests.CloseConsumer c)) × (may_close_consumer p.known.life p.known.consumers s c ≡ true)
 IsPlan p who call (change.Receive r taking) = IsReceiving p who call r taking
 IsPlan p who call (change.ReceiveFrom r taking) = IsReceivingFrom p who call r taking
 IsPlan p who call (change.Acknowledge s mode) =
-    (who ≡ Session s) × (call ≡ Ask request.Acknowledge) × (mode_of p.known.life s ≡ Some mode)
+    (who ≡ Session s) × (call ≡ Ask requests.Acknowledge) × (mode_of p.known.life s ≡ Some mode)
 IsPlan p who call (change.Recover s) =
-    (who ≡ Session s) × (call ≡ Ask request.Recover) × (is_untransacted (mode_of p.known.life s) ≡ true)
+    (who ≡ Session s) × (call ≡ Ask requests.Recover) × (is_untransacted (mode_of p.known.life s) ≡ true)
 IsPlan p who call (change.Rollback s) =
-    (who ≡ Session s) × (call ≡ Ask request.Rollback) × (is_transacted (mode_of p.known.life s) ≡ true)
+    (who ≡ Session s) × (call ≡ Ask requests.Rollback) × (is_transacted (mode_of p.known.life s) ≡ true)
 IsPlan p who call (change.Missed n) = IsMissing p who call n
 IsPlan p who call (change.Publish publications) = IsPublishing p who call publications.items
 IsPlan p who call (change.Commit s publications) = IsCommitting p who call s publications.items

@@ -3,15 +3,14 @@
 
 ghost use Rattle.std.specs.Prelude.{◌≡◌, ◌≤◌, map};
 ghost use Rattle.jm_machine.specs.Machine.{at_queues, of_session, settled_rows};
-ghost use Rattle.jm_stations.specs.Backlogs.{settled};
-ghost use Rattle.jm_sub.specs.Subscriptions.{without_own};
-ghost use Rattle.jm_core.specs.Closing.{acknowledged, acknowledged_queues, given_back, given_back_queues, kept_backlogs, kept_keys};
+ghost use Rattle.jm_stations.specs.Backlogs.{kept_under, settled};
+ghost use Rattle.jm_core.specs.Closing.{acknowledged, acknowledged_queues, given_back, given_back_queues, is_kept, kept_keys, kept_subscriptions};
 ghost use Rattle.jm_core.specs.Queues.{rows_in};
 
 use crate::queues::Queues;
 use jm_base::Mode;
 use jm_dest::SessionId;
-use jm_machine::Consumers;
+use jm_machine::{Attached, Consumers};
 use jm_stations::Stations;
 use jm_sub::Subs;
 
@@ -63,13 +62,20 @@ pub(crate) fn make_give_back(stations: &mut Stations, queues: &mut Queues, which
     queues.give_back(which);
 }
 
-/// Ends the consumers' own subscriptions, with all that is held for them. Queues hold what they held.
-pub(crate) fn make_end(subs: &mut Subs, stations: &mut Stations, which: &Consumers)
-    ensures subs { subs.new.list ≡ without_own which.now subs.old.list }
-    ensures keys { stations.new.keys ≡ kept_keys which.now stations.old.keys }
-    ensures list { stations.new.list ≡ kept_backlogs which.now stations.old.keys stations.old.list }
+/// Ends the subscriptions that end once these consumers are closed, where the numbers are of the active ones that are
+/// left, with all that is held for them. Queues hold what they held.
+pub(crate) fn make_end(
+    subs: &mut Subs,
+    stations: &mut Stations,
+    which: &Consumers,
+    attached: &Attached,
+)
+    ensures subs { subs.new.list ≡ kept_subscriptions (is_kept which.now attached.now) subs.old.list }
+    ensures keys { stations.new.keys ≡ kept_keys (is_kept which.now attached.now) stations.old.keys }
+    ensures list { stations.new.list ≡
+        kept_under (is_kept which.now attached.now) stations.old.keys stations.old.list }
     ensures next_place { stations.new.next_place ≡ stations.old.next_place }
 {
-    subs.close(which);
-    stations.close(which);
+    subs.close(which, attached);
+    stations.close(which, attached);
 }

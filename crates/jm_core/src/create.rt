@@ -1,17 +1,20 @@
-//! Makes consumers: of a topic each with an empty subscription of its own, of a queue with a selector.
+//! Makes consumers: of a topic each with an empty subscription of its own, of a queue with a selector, of a subscription
+//! that has a name with a new one where that was decided. Deletes subscriptions that have names.
 
-ghost use Rattle.std.specs.Prelude.{◌≡◌, ◌≢◌, ◌<◌, ◌++◌, [], ◌∷◌, true, false, IfOk, IfErr, OnOk, None, Some};
+ghost use Rattle.std.specs.Prelude.{◌≡◌, ◌≢◌, ◌<◌, ◌≤◌, ◌++◌, [], ◌∷◌, true, false, IfOk, IfErr, OnOk, None, Some};
 ghost use Rattle.jm_base.specs.declared.refusal.Refusal.TheVariants.{IllegalState, Memory};
 ghost use Rattle.jm_machine.specs.Machine as machine;
 ghost use Rattle.jm_selector.specs.Selectors.{selector_refusal};
-ghost use Rattle.jm_stations.specs.Backlogs.{empty};
-ghost use Rattle.jm_stations.specs.Stations.{index_in};
-ghost use Rattle.jm_sub.specs.Subscriptions.{put};
+ghost use Rattle.jm_stations.specs.Backlogs.{empty, kept_under};
+ghost use Rattle.jm_sub.specs.Subscriptions.{put, without};
+ghost use Rattle.jm_core.specs.Closing.{is_other, kept_keys};
+ghost use Rattle.jm_core.specs.Named as named;
+ghost use Rattle.jm_core.specs.State as spec;
 
 use jm_base::{Refusal, Str};
 use jm_dest::{ConsumerId, Key, Name, SessionId};
 use jm_selector::Selector;
-use jm_session::Sessions;
+use jm_session::{Sessions, Source};
 use jm_stations::Stations;
 use jm_sub::{Decision, Subs};
 use std::alloc::Global;
@@ -29,7 +32,7 @@ pub(crate) fn prepare_create(
 ) -> Result<Decision, Refusal>
     ensures begins { OnOk result (machine.may_begin sessions.old.life sessions.old.consumers session.now id ≡ true) }
     ensures decided { IfOk result (λ d.
-        d ≡ record { key = Key.Own session.now id; definition = machine.defined topic.now selector.now no_local }) }
+        d ≡ record { key = Key.Own session.now id; definition = machine.defined topic.now selector.now no_local false }) }
     ensures valid { OnOk result (selector_refusal selector.now ≡ None) }
     ensures room { OnOk result (0 < sessions.new.spare) }
     ensures subs_room { OnOk result (0 < subs.new.spare) }
@@ -51,36 +54,6 @@ pub(crate) fn prepare_create(
     sessions.reserve(1)?;
     stations.reserve_key()?;
     Ok(decision)
-}
-
-/// Makes the consumer with the subscription that was decided, under whose key nothing is held, of which there may be at
-/// most so many rows.
-pub(crate) fn make_create(
-    sessions: &mut Sessions,
-    subs: &mut Subs,
-    stations: &mut Stations,
-    session: &SessionId,
-    id: ConsumerId,
-    decision: Decision,
-    limit: u32,
-    alloc: Global,
-)
-    requires begins { machine.may_begin sessions.old.life sessions.old.consumers session.now id ≡ true }
-    requires new { index_in stations.old.keys (Key.Own session.now id) ≡ None }
-    requires room { 0 < sessions.old.spare }
-    requires subs_room { 0 < subs.old.spare }
-    requires key_room { 0 < stations.old.key_room }
-    ensures life { sessions.new.life ≡ sessions.old.life }
-    ensures consumers { sessions.new.consumers ≡
-        sessions.old.consumers ++ machine.new_consumer session.now id (Key.Own session.now id) None ∷ [] }
-    ensures subs { subs.new.list ≡ put decision subs.old.list }
-    ensures keys { stations.new.keys ≡ stations.old.keys ++ Key.Own session.now id ∷ [] }
-    ensures list { stations.new.list ≡ stations.old.list ++ empty (Some limit) ∷ [] }
-    ensures next_place { stations.new.next_place ≡ stations.old.next_place }
-{
-    subs.apply(decision);
-    stations.create(Key::Own(*session, id), Some(limit));
-    let _ = sessions.consumer(session, id, Key::Own(*session, id), Selector::none(alloc));
 }
 
 /// Finds why the consumer of a queue may not be made, and else reads its selector and makes room for it; the queue's name
@@ -115,19 +88,90 @@ pub(crate) fn prepare_create_of(
     Ok((queue, selector))
 }
 
-/// Makes the consumer of that queue, with that selector.
-pub(crate) fn make_create_of(
+/// How many rows may be held under the key, where there is a limit: under that of a durable subscription or of a queue
+/// there may be any number.
+fn limit_of(key: &Key, limit: u32) -> Option<u32>
+    ensures { result ≡ spec.limit_of limit key.now }
+{
+    match key {
+        Key::Own(_, _) | Key::SharedOwn(_, _) => Some(limit),
+        Key::Durable(_, _) | Key::Queue(_) => None,
+    }
+}
+
+/// Takes out what is held under the key, where something is. Takes no memory.
+fn remove_under(stations: &mut Stations, key: &Key)
+    ensures keys { stations.new.keys ≡ kept_keys (is_other key.now) stations.old.keys }
+    ensures list { stations.new.list ≡ kept_under (is_other key.now) stations.old.keys stations.old.list }
+    ensures next_place { stations.new.next_place ≡ stations.old.next_place }
+    ensures key_room { stations.old.key_room ≤ stations.new.key_room }
+{
+    // The length is what says that each key stands once.
+    let _number = stations.len();
+    match stations.index_of(key) {
+        None => {}
+        Some(index) => stations.remove(index),
+    }
+}
+
+/// Puts the subscription that was decided, and nothing under its key, in place of any other of the key. Takes no memory.
+fn make_put(subs: &mut Subs, stations: &mut Stations, key: Key, decision: Decision, limit: u32)
+    requires subs_room { 0 < subs.old.spare }
+    requires key_room { 0 < stations.old.key_room }
+    ensures subs { subs.new.list ≡ put decision subs.old.list }
+    ensures keys { stations.new.keys ≡ kept_keys (is_other key) stations.old.keys ++ key ∷ [] }
+    ensures list { stations.new.list ≡
+        kept_under (is_other key) stations.old.keys stations.old.list ++ empty (spec.limit_of limit key) ∷ [] }
+    ensures next_place { stations.new.next_place ≡ stations.old.next_place }
+{
+    remove_under(stations, &key);
+    let limit = limit_of(&key, limit);
+    stations.create(key, limit);
+    subs.apply(decision);
+}
+
+/// Puts the subscription that was decided, where one was. Takes no memory.
+pub(crate) fn make_decided(
+    subs: &mut Subs,
+    stations: &mut Stations,
+    decision: Option<(Key, Decision)>,
+    limit: u32,
+)
+    requires { named.IsRoomy decision subs.old stations.old }
+    ensures subs { subs.new.list ≡ named.subscriptions_with decision subs.old.list }
+    ensures keys { stations.new.keys ≡ named.keys_with decision stations.old.keys }
+    ensures list { stations.new.list ≡ named.list_with limit decision stations.old.keys stations.old.list }
+    ensures next_place { stations.new.next_place ≡ stations.old.next_place }
+{
+    match decision {
+        None => {}
+        Some((key, decision)) => make_put(subs, stations, key, decision, limit),
+    }
+}
+
+/// Makes the consumer of that source.
+pub(crate) fn make_consumer(
     sessions: &mut Sessions,
     session: &SessionId,
     id: ConsumerId,
-    queue: Name,
-    selector: Selector,
+    source: Source,
 )
     requires begins { machine.may_begin sessions.old.life sessions.old.consumers session.now id ≡ true }
     requires room { 0 < sessions.old.spare }
     ensures life { sessions.new.life ≡ sessions.old.life }
     ensures consumers { sessions.new.consumers ≡
-        sessions.old.consumers ++ machine.new_consumer session.now id (Key.Queue queue) selector ∷ [] }
+        sessions.old.consumers ++ machine.new_consumer session.now id source.key source.selector ∷ [] }
 {
-    let _ = sessions.consumer(session, id, Key::Queue(queue), selector);
+    let _ = sessions.consumer(session, id, source);
+}
+
+/// Deletes the subscription of the key, with what is held under it. Takes no memory.
+pub(crate) fn make_delete(subs: &mut Subs, stations: &mut Stations, key: &Key)
+    ensures subs { subs.new.list ≡ without key.now subs.old.list }
+    ensures keys { stations.new.keys ≡ kept_keys (is_other key.now) stations.old.keys }
+    ensures list { stations.new.list ≡ kept_under (is_other key.now) stations.old.keys stations.old.list }
+    ensures next_place { stations.new.next_place ≡ stations.old.next_place }
+{
+    subs.delete(key);
+    remove_under(stations, key);
 }

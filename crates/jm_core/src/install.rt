@@ -3,7 +3,7 @@
 ghost use Rattle.jm_core.specs.Plans.{InstallFits, IsPlanned};
 
 use crate::close::{make_acknowledge, make_end, make_give_back, make_settle};
-use crate::create::{make_create, make_create_of};
+use crate::create::{make_consumer, make_decided, make_delete};
 use crate::life::{
     make_close_connection, make_close_consumer, make_close_session, make_open, make_session,
     make_start, make_stop,
@@ -13,9 +13,9 @@ use crate::publish::{Publication, make_publications};
 use crate::receive::{Receiver, Taking, make_delivery, make_delivery_from};
 use crate::state::CoreState;
 use jm_base::Mode;
-use jm_dest::{ClientId, ConnectionId, ConsumerId, Name, SessionId};
+use jm_dest::{ClientId, ConnectionId, ConsumerId, Key, SessionId};
 use jm_machine::{Answer, Consumers};
-use jm_selector::Selector;
+use jm_session::Source;
 use jm_sub::Decision;
 
 impl CoreState {
@@ -31,12 +31,10 @@ impl CoreState {
             Change::CloseConnection(id) => self.install_close_connection(id),
             Change::CreateSession(id, mode) => self.install_session(&id, mode),
             Change::CloseSession(id) => self.install_close_session(&id),
-            Change::CreateConsumer(session, id, decision) => {
-                self.install_consumer(&session, id, decision)
+            Change::CreateConsumer(session, id, source, decision) => {
+                self.install_consumer(&session, id, source, decision)
             }
-            Change::CreateConsumerOf(session, id, queue, selector) => {
-                self.install_consumer_of(&session, id, queue, selector)
-            }
+            Change::Unsubscribe(key) => self.install_unsubscribe(&key),
             Change::CloseConsumer(session, id) => self.install_close_consumer(&session, id),
             Change::Receive(receiver, taking) => self.install_delivery(&receiver, taking),
             Change::ReceiveFrom(receiver, taking) => self.install_delivery_from(&receiver, taking),
@@ -80,7 +78,8 @@ impl CoreState {
         make_close_connection(&mut self.sessions, id);
         let which = Consumers::OfConnection(id);
         make_give_back(&mut self.stations, &mut self.queues, &which);
-        make_end(&mut self.subs, &mut self.stations, &which);
+        let attached = self.sessions.attached();
+        make_end(&mut self.subs, &mut self.stations, &which, attached);
         Answer::Done
     }
 
@@ -99,43 +98,32 @@ impl CoreState {
         make_close_session(&mut self.sessions, id);
         let which = Consumers::OfSession(*id);
         make_give_back(&mut self.stations, &mut self.queues, &which);
-        make_end(&mut self.subs, &mut self.stations, &which);
+        let attached = self.sessions.attached();
+        make_end(&mut self.subs, &mut self.stations, &which, attached);
         Answer::Done
     }
 
+    /// Makes the consumer, after the subscription that was decided, where one was.
     fn install_consumer(
         &mut self,
         session: &SessionId,
         id: ConsumerId,
-        decision: Decision,
+        source: Source,
+        decision: Option<(Key, Decision)>,
     ) -> Answer
-        requires { IsPlanned self.old (Change.CreateConsumer session.now id decision) }
-        ensures { InstallFits self.old (Change.CreateConsumer session.now id decision) result self.new }
+        requires { IsPlanned self.old (Change.CreateConsumer session.now id source decision) }
+        ensures { InstallFits self.old (Change.CreateConsumer session.now id source decision) result self.new }
     {
-        make_create(
-            &mut self.sessions,
-            &mut self.subs,
-            &mut self.stations,
-            session,
-            id,
-            decision,
-            self.limit,
-            self.alloc,
-        );
+        make_decided(&mut self.subs, &mut self.stations, decision, self.limit);
+        make_consumer(&mut self.sessions, session, id, source);
         Answer::Done
     }
 
-    fn install_consumer_of(
-        &mut self,
-        session: &SessionId,
-        id: ConsumerId,
-        queue: Name,
-        selector: Selector,
-    ) -> Answer
-        requires { IsPlanned self.old (Change.CreateConsumerOf session.now id queue selector) }
-        ensures { InstallFits self.old (Change.CreateConsumerOf session.now id queue selector) result self.new }
+    fn install_unsubscribe(&mut self, key: &Key) -> Answer
+        requires { IsPlanned self.old (Change.Unsubscribe key.now) }
+        ensures { InstallFits self.old (Change.Unsubscribe key.now) result self.new }
     {
-        make_create_of(&mut self.sessions, session, id, queue, selector);
+        make_delete(&mut self.subs, &mut self.stations, key);
         Answer::Done
     }
 
@@ -145,7 +133,8 @@ impl CoreState {
     {
         make_close_consumer(&mut self.sessions, session, id);
         let which = Consumers::One(*session, id);
-        make_end(&mut self.subs, &mut self.stations, &which);
+        let attached = self.sessions.attached();
+        make_end(&mut self.subs, &mut self.stations, &which, attached);
         Answer::Done
     }
 

@@ -7,6 +7,7 @@ mod close;
 mod create;
 mod install;
 mod life;
+mod named;
 mod plan;
 mod provider;
 mod publish;

@@ -9,17 +9,21 @@ ghost use Rattle.jm_core.specs.Takings.{source_of};
 
 use crate::create::{prepare_create, prepare_create_of};
 use crate::life::{prepare_open, prepare_session};
+use crate::named::Wanted;
 use crate::publish::Publication;
 use crate::receive::{
     Receiver, Taking, missed_key, missed_under, prepare_delivery, prepare_delivery_from, receiving,
 };
 use crate::state::CoreState;
 use jm_base::{Mode, Refusal, Str};
-use jm_dest::{ClientId, ConnectionId, ConsumerId, Destination, Key, Moment, Name, SessionId};
+use jm_dest::{
+    ClientId, ConnectionId, ConsumerId, Destination, Key, Moment, Name, SessionId, SubscriptionName,
+};
 use jm_header::Message;
 use jm_machine::{Call, Consumer, Request, Step, Who};
 use jm_selector::Selector;
-use jm_sub::Decision;
+use jm_session::Source;
+use jm_sub::{Decision, Sharing};
 use std::marker::Model;
 
 /// What a step changes, with all that was prepared for it.
@@ -32,9 +36,11 @@ pub(crate) enum Change {
     CloseConnection(ConnectionId),
     CreateSession(SessionId, Mode),
     CloseSession(SessionId),
-    CreateConsumer(SessionId, ConsumerId, Decision),
-    /// Of the queue of that name.
-    CreateConsumerOf(SessionId, ConsumerId, Name, Selector),
+    /// Where a subscription was decided, it takes the place of any other of its key first, of which a copy stands
+    /// beside it.
+    CreateConsumer(SessionId, ConsumerId, Source, Option<(Key, Decision)>),
+    /// The subscription of that key.
+    Unsubscribe(Key),
     CloseConsumer(SessionId, ConsumerId),
     /// What the receiver takes: nothing where the connection is stopped.
     Receive(Receiver, Option<Taking>),
@@ -134,6 +140,26 @@ impl CoreState {
                 selector,
                 no_local,
             } => self.plan_consumer(session, *consumer, destination, selector, *no_local),
+            Request::CreateDurable {
+                consumer,
+                destination,
+                name,
+                selector,
+                no_local,
+            } => self.plan_durable(session, *consumer, destination, name, selector, *no_local),
+            Request::CreateShared {
+                consumer,
+                destination,
+                name,
+                selector,
+            } => self.plan_shared(session, *consumer, destination, name, selector),
+            Request::CreateSharedDurable {
+                consumer,
+                destination,
+                name,
+                selector,
+            } => self.plan_shared_durable(session, *consumer, destination, name, selector),
+            Request::Unsubscribe { name } => self.plan_unsubscribe(session, name),
             Request::CloseConsumer { consumer } => self.plan_close_consumer(session, *consumer),
             Request::Receive { consumer, now } => self.plan_delivery(session, *consumer, *now),
             Request::Acknowledge => self.plan_acknowledge(session),
@@ -238,7 +264,8 @@ impl CoreState {
             queue,
             selector,
         )?;
-        Ok(Change::CreateConsumerOf(*session, id, queue, selector))
+        let source = Source::plain(Key::Queue(queue), selector);
+        Ok(Change::CreateConsumer(*session, id, source, None))
     }
 
     /// Plans a consumer of a topic, with a subscription of its own.
@@ -263,7 +290,76 @@ impl CoreState {
             selector,
             no_local,
         )?;
-        Ok(Change::CreateConsumer(*session, id, decision))
+        let source = Source::plain(Key::Own(*session, id), Selector::none(self.alloc));
+        let decided = Some((Key::Own(*session, id), decision));
+        Ok(Change::CreateConsumer(*session, id, source, decided))
+    }
+
+    /// Plans a consumer of an unshared durable subscription.
+    fn plan_durable(
+        &mut self,
+        session: &SessionId,
+        id: ConsumerId,
+        destination: &Destination,
+        name: &SubscriptionName,
+        selector: &Option<Str>,
+        no_local: bool,
+    ) -> Result<Change, Refusal>
+        ensures { PlanFits self.old (Who.Session session.now)
+            (Call.Ask (Request.CreateDurable id destination.now name.now selector.now no_local)) result self.new }
+    {
+        let wanted = Wanted {
+            destination,
+            name,
+            selector,
+            no_local,
+            sharing: Sharing::Unshared,
+        };
+        self.plan_named(session, id, &wanted)
+    }
+
+    /// Plans a consumer of a shared non-durable subscription.
+    fn plan_shared(
+        &mut self,
+        session: &SessionId,
+        id: ConsumerId,
+        destination: &Destination,
+        name: &SubscriptionName,
+        selector: &Option<Str>,
+    ) -> Result<Change, Refusal>
+        ensures { PlanFits self.old (Who.Session session.now)
+            (Call.Ask (Request.CreateShared id destination.now name.now selector.now)) result self.new }
+    {
+        let wanted = Wanted {
+            destination,
+            name,
+            selector,
+            no_local: false,
+            sharing: Sharing::Shared,
+        };
+        self.plan_named(session, id, &wanted)
+    }
+
+    /// Plans a consumer of a shared durable subscription.
+    fn plan_shared_durable(
+        &mut self,
+        session: &SessionId,
+        id: ConsumerId,
+        destination: &Destination,
+        name: &SubscriptionName,
+        selector: &Option<Str>,
+    ) -> Result<Change, Refusal>
+        ensures { PlanFits self.old (Who.Session session.now)
+            (Call.Ask (Request.CreateSharedDurable id destination.now name.now selector.now)) result self.new }
+    {
+        let wanted = Wanted {
+            destination,
+            name,
+            selector,
+            no_local: false,
+            sharing: Sharing::SharedDurable,
+        };
+        self.plan_named(session, id, &wanted)
     }
 
     #[tactic(auto, unfolding(jm_machine::specs::Machine::refusal, jm_machine::specs::Machine::reply))]

@@ -1,4 +1,5 @@
 ghost use Rattle.std.specs.Prelude.{◌≡◌, length, true, false, MatchResult, IfOk, IfErr, OnErr};
+ghost use Rattle.std.specs.Option.{option_copied};
 ghost use Rattle.jm_base.specs.declared.refusal.Refusal.TheVariants.{OutOfRange};
 ghost use Rattle.jm_machine.specs.Machine as machine;
 ghost use Rattle.jm_machine.specs.Client.{Progress, begun, RunOwed};
@@ -17,7 +18,8 @@ use crate::state::CoreState;
 use jm_base::Refusal;
 use jm_dest::{Key, Name, Number};
 use jm_machine::{
-    Answer, ClientCall, ConnectionState, Consumer, PlacedRow, Reply, SessionState, Station, Step,
+    Answer, ClientCall, ConnectionState, Consumer, Definition, PlacedRow, Reply, SessionState,
+    Station, Step,
 };
 use std::alloc::{AllocError, Global};
 use std::marker::Model;
@@ -165,6 +167,13 @@ impl Core {
         self.state.kept_by_queues()
     }
 
+    /// What the subscription of that key asks for, where there is one. It is found by its hash. Takes no memory.
+    pub fn definition_of(&self, key: &Key) -> Option<&Definition>
+        ensures { option_copied result ≡ machine.definition_of (machine.station_of key.now (state_of self.now).stations) }
+    {
+        self.state.definition_of(key)
+    }
+
     /// A copy of the subscription of that key with its rows, where there is one. `AllocError` where a request
     /// for memory was refused.
     pub fn station(&self, key: &Key) -> Result<Option<Station>, AllocError>
@@ -216,16 +225,22 @@ impl Core {
     /// - `IllegalState`: the connection, the session or the consumer is not in a state for the call. So it is with a
     ///   `Recover` in a transacted session and with a `Commit` or a `Rollback` in any other (Jakarta Messaging 3.1,
     ///   section 6.2), with a `Publish` in a transacted session, and with messages that this session did
-    ///   not stamp in this opening (ours).
+    ///   not stamp in this opening (ours), and with a `CreateDurable` on a connection that has no client identifier
+    ///   (section 8.3.3).
     /// - `InvalidClientId`: an open connection has the client identifier for which another is to be opened (Jakarta
     ///   Messaging 3.1, section 6.1.2).
+    /// - `InvalidDestination`: a subscription that has a name is asked for of a queue, or there is none to be deleted.
     /// - `InvalidSelector`: a new consumer's selector does not read.
+    /// - `SubscriptionInUse`: a subscription that has a name may not be had, or not be deleted, while a consumer of it is
+    ///   active or a row of it is out, or since its name is that of one that is shared in another way (Jakarta Messaging
+    ///   3.1, section 8.3).
     /// - `Exhausted`: places run out before all messages of a `Publish` or a `Commit` have one; none is published then,
     ///   and nothing settled (ours). The limit of rows refuses neither: a subscription at its limit misses the message.
     /// - `Memory`: a request for memory was refused. It comes only to a call that takes memory, and only where no other
-    ///   cause stands, or in place of `InvalidSelector`. Memory is taken to open a connection or a session, to make a
-    ///   consumer, to publish and to commit, and by a `Receive` that hands out a copy: in modes `Client` and
-    ///   `Transacted`, and of a message that another subscription holds too. No other call takes any.
+    ///   cause stands, or in place of a new consumer's `InvalidSelector` or `SubscriptionInUse`, or of why a subscription
+    ///   is not deleted in an open session. Memory is taken to open a connection or a session, to make a consumer, to
+    ///   delete a subscription, to publish and to commit, and by a `Receive` that hands out a copy: in modes `Client`
+    ///   and `Transacted`, and of a message that another subscription holds too. No other call takes any.
     pub fn step(&mut self, step: &Step) -> Result<Answer, Refusal>
         ensures { StepFits (state_of self.old) step.now.who step.now.call result (state_of self.new) }
     {

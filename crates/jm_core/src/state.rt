@@ -1,6 +1,7 @@
 //! What the core holds, and each call on it.
 
 ghost use Rattle.std.specs.Prelude.{◌≡◌, ◌+◌, ◌≤◌, ◌&&◌, [], ◌∷◌, true, false, nat_le, is_some, length, MatchResult, IfOk, IfErr, OnOk, OnErr, Some, None};
+ghost use Rattle.std.specs.Option.{option_copied};
 ghost use Rattle.jm_base.specs.declared.refusal.Refusal.TheVariants.{OutOfRange, Memory};
 ghost use Rattle.jm_machine.specs.Life as life;
 ghost use Rattle.jm_machine.specs.Machine as machine;
@@ -18,7 +19,8 @@ use jm_dest::{Key, Name, Number, SessionId};
 use jm_header::Message;
 use jm_machine::find::same_session;
 use jm_machine::{
-    Answer, Call, ConnectionState, Consumer, PlacedRow, Request, SessionState, Station, Who,
+    Answer, Call, ConnectionState, Consumer, Definition, PlacedRow, Request, SessionState, Station,
+    Who,
 };
 use jm_session::Sessions;
 use jm_stations::Stations;
@@ -186,6 +188,13 @@ impl CoreState {
         ensures { backlogs.IsNumberOfMessages result self.now.queues.list }
     {
         self.queues.kept()
+    }
+
+    /// What the subscription of the key asks for, where there is one.
+    pub(crate) fn definition_of(&self, key: &Key) -> Option<&Definition>
+        ensures { option_copied result ≡ machine.definition_of (machine.station_of key.now (state_of self.now).stations) }
+    {
+        self.subs.definition_of(key)
     }
 
     /// A copy of the subscription of the key with its rows, where there is one. `AllocError` where a request

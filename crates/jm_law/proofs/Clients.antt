@@ -3,7 +3,7 @@ use Rattle.std.proofs.Common.{◌≡◌, ◌⊎◌, ℕ, ◌+◌, Bool, true, fa
 use Rattle.std.specs.Prelude.{nat_lt, nat_le, ◌&&◌, is_some, Result, Ok, Err, MatchBool}
 use Rattle.std.proofs.lemmas.Bool.Decides.{nat_tests}
 use Rattle.jm_base.specs.declared.refusal.Refusal.{Refusal}
-use Rattle.jm_base.specs.declared.refusal.Refusal.TheVariants.{IllegalState, InvalidClientId, OutOfRange, Exhausted, Memory, Store}
+use Rattle.jm_base.specs.declared.refusal.Refusal.TheVariants.{IllegalState, InvalidDestination, InvalidClientId, SubscriptionInUse, OutOfRange, Exhausted, Memory, Store}
 use Rattle.jm_dest.specs.declared.key.Key.{Key}
 use Rattle.jm_dest.specs.declared.session.SessionId.{SessionId}
 use Rattle.jm_dest.specs.declared.destination.Destination.{Destination}
@@ -17,7 +17,7 @@ use Rattle.jm_tree.specs.declared.tree.Tree.{Tree}
 use Rattle.jm_machine.specs.declared.call.Who.{Who}
 use Rattle.jm_machine.specs.declared.call.Who.TheVariants.{Connection, Session}
 use Rattle.jm_machine.specs.declared.call.Request.{Request}
-use Rattle.jm_machine.specs.declared.call.Request.TheVariants.{Open, Start, Stop, CloseConnection, CreateSession, CloseSession, CreateConsumer, CloseConsumer, Receive, Acknowledge, Recover, Rollback, Missed as AskMissed}
+use Rattle.jm_machine.specs.declared.call.Request.TheVariants.{Open, Start, Stop, CloseConnection, CreateSession, CloseSession, CreateConsumer, CreateDurable, CreateShared, CreateSharedDurable, Unsubscribe, CloseConsumer, Receive, Acknowledge, Recover, Rollback, Missed as AskMissed}
 use Rattle.jm_machine.specs.declared.call.Call.{Call}
 use Rattle.jm_machine.specs.declared.call.Call.TheVariants.{Publish, Commit, Ask as AskStep}
 use Rattle.jm_machine.specs.declared.call.ClientCall.{ClientCall}
@@ -27,10 +27,11 @@ use Rattle.jm_machine.specs.declared.answer.Answer.TheVariants.{Done, Sent as Se
 use Rattle.jm_machine.specs.declared.entry.Entry.{Entry}
 use Rattle.jm_machine.specs.declared.entry.Entry.TheVariants.{Asked, Sent, Committed}
 use Rattle.jm_machine.specs.declared.state.Row.{Row}
-use Rattle.jm_machine.specs.Life.{session_of, mode_of, is_started}
+use Rattle.jm_machine.specs.declared.state.Definition.{Definition}
+use Rattle.jm_machine.specs.Life.{client_of, session_of, mode_of, is_started}
 use Rattle.jm_machine.specs.Rows.{left_of}
 use Rattle.jm_selector.specs.Selectors.{read_refusal, selector_read, selector_refusal}
-use Rattle.jm_machine.specs.Machine.{State, consumer_of, key_at, made, selected_by, with_message, published, of_session, settled, is_client, receive, held, Holding, unless, first_cause, is_transacted, is_untransacted, is_stamped, refusal, publish_refusal, commit_refusal, after, after_commit, answer, replied, moved, reply, step}
+use Rattle.jm_machine.specs.Machine.{State, consumer_of, key_at, made, selected_by, durable_of, shared_of, asked, is_same, subscribed, put, joined, definition_of, station_of, with_message, published, of_session, settled, is_client, receive, held, Holding, unless, first_cause, is_transacted, is_untransacted, is_stamped, refusal, publish_refusal, commit_refusal, after, after_commit, answer, replied, moved, reply, step}
 use Rattle.jm_machine.specs.declared.state.Consumer.{Consumer}
 use Rattle.jm_machine.specs.Life.{Life}
 use Rattle.jm_machine.specs.Wants.{is_want}
@@ -71,12 +72,18 @@ opening_made : (s : SessionId) (c : ℕ) (destination : Destination) (selector :
 opening_made s c (Queue name) selector no_local state = refl
 opening_made s c (Topic name) selector no_local state = refl
 
+opening_subscribed : (s : SessionId) (c : ℕ) (k : Key) (d : Definition) (state : State) → (subscribed s c k d state).opening ≡ state.opening
+opening_subscribed s c k d state = elim (is_same (definition_of (station_of k state.stations)) d) as (λ b. (joined s c k None (cond b state (put k d state))).opening ≡ state.opening) [ true ↦ refl | false ↦ refl ]
+
 opening_after : (state : State) (who : Who) (request : Request) → (after state who request).opening ≡ state.opening
 unfolding after
 opening_after state (Connection c) CloseConnection = refl
 opening_after state (Connection c) request = refl
 opening_after state (Session s) Acknowledge = opening_if (is_client (mode_of state.life s)) (settled (of_session s) state) state state.opening refl refl
 opening_after state (Session s) (CreateConsumer c destination selector no_local) = opening_made s c destination selector no_local state
+opening_after state (Session s) (CreateDurable c destination name selector no_local) = opening_subscribed s c (durable_of (client_of state.life) s name) (asked destination selector no_local false) state
+opening_after state (Session s) (CreateShared c destination name selector) = opening_subscribed s c (shared_of (client_of state.life) s name) (asked destination selector false true) state
+opening_after state (Session s) (CreateSharedDurable c destination name selector) = opening_subscribed s c (durable_of (client_of state.life) s name) (asked destination selector false true) state
 opening_after state (Session s) (Receive c now) =
     opening_if (is_started state.life s.connection) (receive (selected_by (consumer_of state.consumers s c)) (left_of (mode_of state.life s) s c) now (key_at (consumer_of state.consumers s c)) state) state state.opening
     (opening_receive (selected_by (consumer_of state.consumers s c)) (left_of (mode_of state.life s) s c) now (key_at (consumer_of state.consumers s c)) state) refl
@@ -151,6 +158,20 @@ first_not true (Ok t) = refl
 first_not true (Err f) = refl
 first_not false r = refl
 
+named_not : (a b c : Bool) (r : Result (Option Tree) SyntaxFault) →
+    are_from_outside (first_cause (unless a IllegalState) (first_cause (unless b InvalidDestination) (first_cause (read_refusal r) (unless c SubscriptionInUse)))) ≡ false
+named_not true true true (Ok t) = refl
+named_not true true false (Ok t) = refl
+named_not true true c (Err f) = refl
+named_not true false c r = refl
+named_not false b c r = refl
+
+deleted_not : (a b c : Bool) → are_from_outside (first_cause (unless a IllegalState) (first_cause (unless b InvalidDestination) (unless c SubscriptionInUse))) ≡ false
+deleted_not true true true = refl
+deleted_not true true false = refl
+deleted_not true false c = refl
+deleted_not false b c = refl
+
 not_from_outside : (life : Life) (consumers : List Consumer) (h : Holding) (who : Who) (request : Request) → are_from_outside (refusal life consumers h who request) ≡ false
 unfolding refusal selector_refusal
 not_from_outside life consumers h (Connection c) (Open client) = open_not _ _
@@ -160,6 +181,10 @@ not_from_outside life consumers h (Connection c) CloseConnection = unless_not _
 not_from_outside life consumers h (Session s) (CreateSession mode) = unless_not _
 not_from_outside life consumers h (Session s) CloseSession = unless_not _
 not_from_outside life consumers h (Session s) (CreateConsumer c destination selector no_local) = first_not _ (selector_read selector)
+not_from_outside life consumers h (Session s) (CreateDurable c destination name selector no_local) = named_not _ _ _ (selector_read selector)
+not_from_outside life consumers h (Session s) (CreateShared c destination name selector) = named_not _ _ _ (selector_read selector)
+not_from_outside life consumers h (Session s) (CreateSharedDurable c destination name selector) = named_not _ _ _ (selector_read selector)
+not_from_outside life consumers h (Session s) (Unsubscribe name) = deleted_not _ _ _
 not_from_outside life consumers h (Session s) (CloseConsumer c) = unless_not _
 not_from_outside life consumers h (Session s) (Receive c now) = unless_not _
 not_from_outside life consumers h (Session s) Acknowledge = unless_not _

@@ -1,15 +1,14 @@
 -- The consumers of all keys, seen at one key.
 use Rattle.std.proofs.Common.{◌≡◌, ℕ, Bool, true, false, cond, List, [], ◌∷◌, ◌++◌, refl, ap, subst, ◌∙◌, arith, map, sym, Option, Some, None}
-use Rattle.std.specs.Prelude.{filter}
+use Rattle.std.specs.Prelude.{filter, is_some, ◌&&◌}
 use Rattle.std.proofs.lemmas.Bool.Decides.{nat_tests}
 use Rattle.jm_dest.specs.declared.session.SessionId.{SessionId}
 use Rattle.jm_dest.specs.declared.key.Key.{Key}
 use Rattle.jm_dest.specs.declared.key.Key.TheVariants.{Own, SharedOwn, Durable, Queue as OfQueue}
 use Rattle.jm_dest.specs.Keys.{key_eq}
-use Rattle.jm_dest.specs.declared.destination.Destination.{Destination}
 use Rattle.jm_machine.specs.declared.call.Who.TheVariants.{Session}
 use Rattle.jm_machine.specs.declared.call.Request.{Request}
-use Rattle.jm_machine.specs.declared.call.Request.TheVariants.{CreateConsumer}
+use Rattle.jm_machine.specs.declared.call.Request.TheVariants.{CreateConsumer, CreateDurable, CreateShared, CreateSharedDurable, Unsubscribe}
 use Rattle.jm_machine.specs.declared.entry.Entry.{Entry}
 use Rattle.jm_machine.specs.declared.entry.Entry.TheVariants.{Asked}
 use Rattle.jm_machine.specs.declared.state.Consumer.{Consumer}
@@ -17,29 +16,47 @@ use Rattle.jm_machine.specs.declared.state.Row.{Row}
 use Rattle.jm_machine.specs.declared.state.RowState.{RowState}
 use Rattle.jm_machine.specs.declared.state.RowState.TheVariants.{Waiting, Out}
 use Rattle.jm_machine.specs.Owns.{is_own}
-use Rattle.jm_machine.specs.Machine.{has_number, consumer_of, is_active, key_at, key_made, closed_consumer, is_one_of, ends, State, station_of, rows_of}
-use Rattle.jm_machine.specs.Lone.{Scope, belongs}
+use Rattle.jm_machine.specs.Machine.{has_number, consumer_of, is_active, key_at, closed_consumer, is_one_of, ends, State, station_of, rows_of}
+use Rattle.jm_machine.specs.Lone.{Scope, belongs, names_key, deletes_key}
+use Rattle.jm_machine.specs.Life.{Life, client_of, mode_of}
+use Rattle.jm_machine.specs.Entries.{life_after_entry}
 use Rattle.jm_law.proofs.Lists.{filter_map_same}
 use Rattle.jm_law.proofs.Same.{session_same, key_same}
 
--- the key is no queue's, and the session of a consumer whose subscription has it is an own one
-pub record Fitting (S : Scope) : Type 0 where
-  pub topic : (name : List ℕ) → key_eq (OfQueue name) S.key ≡ false
-  pub own : (s : SessionId) (c : ℕ) (destination : Destination) → key_eq (key_made s c destination) S.key ≡ true → is_own S.sessions s ≡ true
+-- the key is that of a subscription which no two consumers share
+abbrev pub Unshared : Key → Type 0
+Unshared (OfQueue name) = ⊥
+Unshared (Own s c) = Unit {0}
+Unshared (SharedOwn client name) = ⊥
+Unshared (Durable client name) = Unit {0}
 
--- the number that a creating request names belongs to the key that it names
-abbrev pub FairRequest : Scope → SessionId → Request → Type 0
-FairRequest S s (CreateConsumer c destination selector no_local) = key_eq (key_made s c destination) S.key ≡ belongs S s c
-FairRequest S s _ = Unit {0}
+-- what a creating request of a session names: where the session is open the machine and the scope say the same, and so
+-- does the number of the consumer
+abbrev pub FairMade : Scope → Life → SessionId → ℕ → Request → Type 0
+FairMade S life s c request =
+    (is_some (mode_of life s) ≡ true → names_key S.key (client_of life) s request ≡ (is_own S.sessions s && names_key S.key S.clients s request))
+    × ((is_own S.sessions s && names_key S.key S.clients s request) ≡ belongs S s c)
 
--- and so of each entry
-abbrev pub FairEntry : Scope → Entry → Type 0
-FairEntry S (Asked (Session s) request told) = FairRequest S s request
-FairEntry S _ = Unit {0}
+-- the same, and it does not name the key
+abbrev pub FairShared : Scope → Life → SessionId → ℕ → Request → Type 0
+FairShared S life s c request = FairMade S life s c request × ((is_own S.sessions s && names_key S.key S.clients s request) ≡ false)
 
-abbrev pub FairAll : Scope → List Entry → Type 0
-FairAll S [] = Unit {0}
-FairAll S (e ∷ entries) = FairEntry S e × FairAll S entries
+abbrev pub FairRequest : Scope → Life → SessionId → Request → Type 0
+FairRequest S life s (CreateConsumer c destination selector no_local) = FairMade S life s c (CreateConsumer c destination selector no_local)
+FairRequest S life s (CreateDurable c destination name selector no_local) = FairMade S life s c (CreateDurable c destination name selector no_local)
+FairRequest S life s (CreateShared c destination name selector) = FairShared S life s c (CreateShared c destination name selector)
+FairRequest S life s (CreateSharedDurable c destination name selector) = FairShared S life s c (CreateSharedDurable c destination name selector)
+FairRequest S life s (Unsubscribe name) = is_some (mode_of life s) ≡ true → deletes_key S.key (client_of life) s name ≡ (is_own S.sessions s && deletes_key S.key S.clients s name)
+FairRequest S life s _ = Unit {0}
+
+-- and so of each entry, at the connections and sessions before it
+abbrev pub FairEntry : Scope → Life → Entry → Type 0
+FairEntry S life (Asked (Session s) request told) = FairRequest S life s request
+FairEntry S life _ = Unit {0}
+
+abbrev pub FairAll : Scope → Life → List Entry → Type 0
+FairAll S life [] = Unit {0}
+FairAll S life (e ∷ entries) = FairEntry S life e × FairAll S (life_after_entry life e) entries
 
 -- the key's consumers are those whose numbers belong to it
 abbrev pub Placed : Scope → List Consumer → Type 0
@@ -137,11 +154,11 @@ one_in : (p : SessionId → ℕ → Bool) (k : Key) (xs : List Consumer) → is_
 one_in p k [] = refl
 one_in p k (x ∷ xs) = grind (arith, nat_tests, one_in p k xs)
 
-pub ends_in : (p : SessionId → ℕ → Bool) (k : Key) (xs : List Consumer) → ends p (filter (λ x. key_eq x.key k) xs) k ≡ ends p xs k
-ends_in p (OfQueue name) xs = refl
-ends_in p (Own s c) xs = one_in p (Own s c) xs
-ends_in p (SharedOwn client name) xs = refl
-ends_in p (Durable client name) xs = refl
+pub ends_in : (p : SessionId → ℕ → Bool) (k : Key) → Unshared k → (xs : List Consumer) → ends p (filter (λ x. key_eq x.key k) xs) k ≡ ends p xs k
+ends_in p (OfQueue name) u xs = refl
+ends_in p (Own s c) u xs = one_in p (Own s c) xs
+ends_in p (SharedOwn client name) u xs = absurd u
+ends_in p (Durable client name) u xs = refl
 
 one_out : (S : Scope) (p : SessionId → ℕ → Bool) → Passes S p → (xs : List Consumer) → Placed S xs → is_one_of p xs S.key ≡ false
 one_out S p h [] q = refl
@@ -151,14 +168,14 @@ one_out S p h (x ∷ xs) q = go (key_eq x.key S.key) refl (one_out S p h xs q.1)
     go true e r = let i : p x.session x.id ≡ false = h x.session x.id (sym q.0 ∙ e) in grind (arith, nat_tests)
     go false e r = grind (arith, nat_tests)
 
-pub ends_out : (S : Scope) (p : SessionId → ℕ → Bool) → Passes S p → (xs : List Consumer) → Placed S xs → ends p xs S.key ≡ false
-ends_out S p h xs q = go S.key (one_out S p h xs q)
+pub ends_out : (S : Scope) (p : SessionId → ℕ → Bool) → Unshared S.key → Passes S p → (xs : List Consumer) → Placed S xs → ends p xs S.key ≡ false
+ends_out S p u h xs q = go S.key u (one_out S p h xs q)
   where
-    go : (k : Key) → is_one_of p xs k ≡ false → ends p xs k ≡ false
-    go (OfQueue name) i = refl
-    go (Own s c) i = i
-    go (SharedOwn client name) i = refl
-    go (Durable client name) i = refl
+    go : (k : Key) → Unshared k → is_one_of p xs k ≡ false → ends p xs k ≡ false
+    go (OfQueue name) u i = refl
+    go (Own s c) u i = i
+    go (SharedOwn client name) u i = absurd u
+    go (Durable client name) u i = refl
 
 -- rows that are out to own sessions alone
 abbrev pub OutBy : List SessionId → RowState → Type 0

@@ -279,4 +279,4 @@ legal_fits (e ∷ events) before state a l =
     (subst (λ (x : State). EntriesFit x (before_by before list) (expand events)) led.ends (legal_fits events (before_by before list) (step state e.step.who e.step.call) led.agrees l.1))
 
 pub isolation_of_events : IsolationOfEvents
-isolation_of_events opening events key l p = by_key opening (expand events) key p.unshared p.reached (legal_fits events [] opening (λ s h. refl) l)
+isolation_of_events opening events key l p = by_key opening (expand events) key p.unshared p.numbers p.reached (legal_fits events [] opening (λ s h. refl) l)

@@ -13,7 +13,7 @@ use Rattle.jm_header.specs.declared.content.Content.{Content}
 use Rattle.jm_machine.specs.declared.call.Who.{Who}
 use Rattle.jm_machine.specs.declared.call.Who.TheVariants.{Connection, Session}
 use Rattle.jm_machine.specs.declared.call.Request.{Request}
-use Rattle.jm_machine.specs.declared.call.Request.TheVariants.{CloseConnection, CloseSession, CreateConsumer, CloseConsumer, Receive, Acknowledge, Recover, Rollback}
+use Rattle.jm_machine.specs.declared.call.Request.TheVariants.{CloseConnection, CloseSession, CreateConsumer, CreateDurable, CreateShared, CreateSharedDurable, Unsubscribe, CloseConsumer, Receive, Acknowledge, Recover, Rollback}
 use Rattle.jm_machine.specs.declared.call.Call.{Call}
 use Rattle.jm_machine.specs.declared.call.Call.TheVariants.{Ask, Publish, Commit}
 use Rattle.jm_machine.specs.declared.state.Consumer.{Consumer}
@@ -23,9 +23,9 @@ use Rattle.jm_machine.specs.declared.state.Row.{Row}
 use Rattle.jm_machine.specs.declared.state.RowState.{RowState}
 use Rattle.jm_machine.specs.declared.state.RowState.TheVariants.{Waiting, Out}
 use Rattle.jm_machine.specs.declared.state.Station.{Station}
-use Rattle.jm_machine.specs.Life.{mode_of, is_started}
+use Rattle.jm_machine.specs.Life.{client_of, mode_of, is_started}
 use Rattle.jm_machine.specs.Rows.{bare, fresh, is_out, left_of, sent_out, settles_at_once, live_placed, change_placed, deliver_placed}
-use Rattle.jm_machine.specs.Machine.{State, Publisher, publisher_of, accepts, is_full, one_missed, brought, offered, with_message, published, with_rows, at_key, without, station_of, rows_of, consumer_of, key_at, defined, selected_by, of_session, of_connection, settled_rows, returned_rows, settled, returned, closed, with_life, is_client, receive, held, refusal, publish_refusal, commit_refusal, after, after_commit, moved, step}
+use Rattle.jm_machine.specs.Machine.{State, Publisher, publisher_of, accepts, is_full, one_missed, brought, offered, with_message, published, with_rows, at_key, without, station_of, rows_of, consumer_of, key_at, defined, selected_by, durable_of, shared_of, asked, is_same, subscribed, put, joined, definition_of, of_session, of_connection, settled_rows, returned_rows, settled, returned, closed, with_life, is_client, receive, held, refusal, publish_refusal, commit_refusal, after, after_commit, moved, step}
 use Rattle.jm_machine.specs.Isolation.{Reached}
 use Rattle.jm_machine.specs.Isolation.Reached.{New, Stepped}
 use Rattle.jm_law.proofs.Same.{key_same}
@@ -164,13 +164,24 @@ home_moved (Some r) x y p q = q
 home_shut : (p : SessionId → ℕ → Bool) (who : Who) (request : Request) (state : State) → Homed state → Homed (closed p (returned p (with_life who request state)))
 home_shut p who request state h = all_filter _ (map (with_rows (returned_rows p)) state.stations) (all_each (returned_rows p) (λ k. home_returned k p) state.stations h)
 
+home_subscribed : (s : SessionId) (c : ℕ) (k : Key) (d : Definition) (state : State) → Homed state → Homed (subscribed s c k d state)
+home_subscribed s c k d state h = go (is_same (definition_of (station_of k state.stations)) d)
+  where
+    go : (b : Bool) → Homed (joined s c k None (cond b state (put k d state)))
+    go true = h
+    go false = all_put k d (without k state.stations) (all_filter _ state.stations h)
+
 home_after : (state : State) (who : Who) (request : Request) → ((s : SessionId) (c : ℕ) → FitsOwn s c (consumer_of state.consumers s c)) → Homed state → Homed (after state who request)
 unfolding after
 home_after state (Connection c) CloseConnection k h = home_shut (of_connection c) (Connection c) CloseConnection state h
 home_after state (Connection c) request k h = h
 home_after state (Session s) CloseSession k h = home_shut (of_session s) (Session s) CloseSession state h
 home_after state (Session s) (CreateConsumer c (Queue name) selector no_local) k h = h
-home_after state (Session s) (CreateConsumer c (Topic name) selector no_local) k h = all_put (Own s c) (defined name selector no_local) (without (Own s c) state.stations) (all_filter _ state.stations h)
+home_after state (Session s) (CreateConsumer c (Topic name) selector no_local) k h = all_put (Own s c) (defined name selector no_local false) (without (Own s c) state.stations) (all_filter _ state.stations h)
+home_after state (Session s) (CreateDurable c destination name selector no_local) k h = home_subscribed s c (durable_of (client_of state.life) s name) (asked destination selector no_local false) state h
+home_after state (Session s) (CreateShared c destination name selector) k h = home_subscribed s c (shared_of (client_of state.life) s name) (asked destination selector false true) state h
+home_after state (Session s) (CreateSharedDurable c destination name selector) k h = home_subscribed s c (durable_of (client_of state.life) s name) (asked destination selector false true) state h
+home_after state (Session s) (Unsubscribe name) k h = all_filter _ state.stations h
 home_after state (Session s) (CloseConsumer c) k h = all_filter _ state.stations h
 home_after state (Session s) (Receive c now) k h =
     home_if (is_started state.life s.connection) (receive (selected_by (consumer_of state.consumers s c)) (left_of (mode_of state.life s) s c) now (key_at (consumer_of state.consumers s c)) state) state

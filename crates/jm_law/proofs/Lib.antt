@@ -14,3 +14,11 @@ pub mod Worlds
 pub mod EntrySteps
 pub mod Keyed
 pub mod Homed
+pub mod Opened
+pub mod Numbers
+pub mod Fair
+pub mod Places
+pub mod Queues
+pub mod OneConsumer
+pub mod Founded
+pub mod Subscribed

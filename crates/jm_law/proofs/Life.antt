@@ -11,7 +11,7 @@ use Rattle.jm_machine.specs.declared.call.Request.TheVariants.{Open, Start, Stop
 use Rattle.jm_machine.specs.declared.state.ConnectionState.{ConnectionState}
 use Rattle.jm_machine.specs.declared.state.SessionState.{SessionState}
 use Rattle.jm_machine.specs.Owns.{is_own, is_own_connection}
-use Rattle.jm_machine.specs.Life.{Life, connection_of, session_of, mode_of, is_started, is_new_session, with_started, closed_if, close_sessions, life_after, own_life}
+use Rattle.jm_machine.specs.Life.{Life, client_of, connection_of, session_of, mode_of, is_started, is_new_session, with_started, closed_if, close_sessions, life_after, own_life}
 use Rattle.jm_law.proofs.Lists.{find_filter, filter_map_same, filter_map_out, push_in, push_out, cond_map, cond_one}
 use Rattle.jm_machine.specs.Machine.{may_close_session}
 use Rattle.jm_law.proofs.Same.{session_same, own_connection}
@@ -30,6 +30,9 @@ own_mode sessions life s h = rw (own_session sessions life s h)
 
 pub own_started : (sessions : List SessionId) (life : Life) (s : SessionId) → is_own sessions s ≡ true → is_started (own_life sessions life) s.connection ≡ is_started life s.connection
 own_started sessions life s h = rw (own_connection_of sessions life s.connection (own_connection sessions s h))
+
+pub own_client : (sessions : List SessionId) (life : Life) (s : SessionId) → is_own sessions s ≡ true → client_of (own_life sessions life) s.connection ≡ client_of life s.connection
+own_client sessions life s h = rw (own_connection_of sessions life s.connection (own_connection sessions s h))
 
 pub own_new : (sessions : List SessionId) (life : Life) (s : SessionId) → is_own sessions s ≡ true → is_new_session (own_life sessions life) s ≡ is_new_session life s
 own_new sessions life s h = rw (own_connection_of sessions life s.connection (own_connection sessions s h), own_session sessions life s h)

@@ -12,7 +12,7 @@ use Rattle.jm_header.specs.declared.content.Content.{Content}
 use Rattle.jm_machine.specs.declared.call.Who.{Who}
 use Rattle.jm_machine.specs.declared.call.Who.TheVariants.{Connection, Session}
 use Rattle.jm_machine.specs.declared.call.Request.{Request}
-use Rattle.jm_machine.specs.declared.call.Request.TheVariants.{CloseConnection, CreateSession, CloseSession, CreateConsumer, CloseConsumer, Receive, Acknowledge, Recover, Rollback}
+use Rattle.jm_machine.specs.declared.call.Request.TheVariants.{CloseConnection, CreateSession, CloseSession, CreateConsumer, CreateDurable, CreateShared, CreateSharedDurable, Unsubscribe, CloseConsumer, Receive, Acknowledge, Recover, Rollback}
 use Rattle.jm_machine.specs.declared.call.Call.TheVariants.{Publish}
 use Rattle.jm_machine.specs.declared.entry.Entry.{Entry}
 use Rattle.jm_machine.specs.declared.entry.Entry.TheVariants.{Asked, Sent, Committed}
@@ -22,14 +22,17 @@ use Rattle.jm_machine.specs.declared.state.Row.{Row}
 use Rattle.jm_machine.specs.declared.state.RowState.TheVariants.{Waiting}
 use Rattle.jm_machine.specs.Owns.{is_own}
 use Rattle.jm_base.specs.declared.mode.Mode.{Mode}
-use Rattle.jm_machine.specs.Life.{Life, connection_of, session_of, is_closed_connection, mode_of, is_started, is_new_session, close_sessions, life_after}
+use Rattle.jm_machine.specs.Life.{Life, client_of, connection_of, session_of, is_closed_connection, mode_of, is_started, is_new_session, close_sessions, life_after}
 use Rattle.jm_machine.specs.declared.state.SessionState.{SessionState}
 use Rattle.jm_machine.specs.Rows.{fresh, given_back, is_next, is_out, live, change_first, deliver, left_of, sent_out, settles_at_once}
-use Rattle.jm_machine.specs.Machine.{State, Holding, consumer_of, key_at, with_message, published, receive, held, selected_by, standing_as, new_consumer, unless, is_full, one_missed, closed_consumer, ends, of_session, of_connection, of_number, settled, is_client, is_transacted, refusal, publish_refusal, commit_refusal, after, after_commit, answer, replied, reply, moved, step}
+use Rattle.jm_machine.specs.Machine.{State, Holding, consumer_of, key_at, with_message, published, receive, held, selected_by, standing_as, new_consumer, durable_of, shared_of, asked, is_same, subscribed, put, joined, definition_of, station_of, unless, is_full, one_missed, closed_consumer, ends, of_session, of_connection, of_number, settled, is_client, is_transacted, refusal, publish_refusal, commit_refusal, after, after_commit, answer, replied, reply, moved, step}
 use Rattle.jm_machine.specs.Entries.{pending, life_after_entry}
-use Rattle.jm_machine.specs.Lone.{Scope, Lone, Item, lone_of, lone_ended, lone_settled, lone_returned, lone_closed, lone_life, lone_receive, lone_did, lone_after, lone_end, lone_refusal, lone_replies, about, true_or_none, fed, feed, replies_in}
+use Rattle.jm_machine.specs.Lone.{Scope, Lone, Item, belongs, lone_of, lone_put, lone_ended, lone_settled, lone_returned, lone_closed, lone_life, lone_receive, lone_did, lone_after, lone_end, lone_refusal, lone_replies, about, true_or_none, fed, feed, replies_in}
 use Rattle.jm_machine.specs.Lone.Item.{Called, Settled, Came}
-use Rattle.jm_law.proofs.Consumers.{Fitting, FairRequest, FairEntry, FairAll, Placed, Sound, OutBy, OwnOut, placed_push, placed_closed}
+use Rattle.jm_law.proofs.Consumers.{Unshared, FairRequest, FairEntry, FairAll, Placed, Sound, OutBy, OwnOut, placed_push, placed_closed}
+use Rattle.jm_dest.specs.Keys.{key_eq}
+use Rattle.jm_machine.specs.declared.state.Definition.{Definition}
+use Rattle.jm_law.proofs.Projection.{refused, opened}
 use Rattle.jm_law.proofs.EntrySteps.{state_after_entry, Replied, EntriesFit}
 use Rattle.jm_law.proofs.Steps.{lone_replies-append, entry_step, entry_told}
 
@@ -46,6 +49,13 @@ committed_consumers state (Connection c) ms = refl
 committed_consumers state (Session s) ms = published_consumers (settled (of_session s) state) ms
 
 -- nor does a receive
+-- a consumer that subscribes joins the others, and changes nothing else of this
+pub subscribed_consumers : (s : SessionId) (c : ℕ) (k : Key) (d : Definition) (state : State) → (subscribed s c k d state).consumers ≡ state.consumers ++ new_consumer s c k None ∷ []
+subscribed_consumers s c k d state = elim (is_same (definition_of (station_of k state.stations)) d) as (λ b. (joined s c k None (cond b state (put k d state))).consumers ≡ state.consumers ++ new_consumer s c k None ∷ []) [ true ↦ refl | false ↦ refl ]
+
+pub subscribed_life : (s : SessionId) (c : ℕ) (k : Key) (d : Definition) (state : State) → (subscribed s c k d state).life ≡ state.life
+subscribed_life s c k d state = elim (is_same (definition_of (station_of k state.stations)) d) as (λ b. (joined s c k None (cond b state (put k d state))).life ≡ state.life) [ true ↦ refl | false ↦ refl ]
+
 pub received_consumers : (p : Content → Bool) (f : Row → List Row) (now : ℕ) (k : Option Key) (state : State) → (receive p f now k state).consumers ≡ state.consumers
 received_consumers p f now None state = refl
 received_consumers p f now (Some k) state = refl
@@ -54,21 +64,32 @@ placed_if : (S : Scope) (b : Bool) (x y : State) → Placed S x.consumers → Pl
 placed_if S true x y p q = p
 placed_if S false x y p q = q
 
-placed_moved : (S : Scope) (o : Option Refusal) (x y : State) → Placed S x.consumers → Placed S y.consumers → Placed S (moved o x y).consumers
-placed_moved S None x y p q = p
+placed_moved : (S : Scope) (o : Option Refusal) (x y : State) → (o ≡ None → Placed S x.consumers) → Placed S y.consumers → Placed S (moved o x y).consumers
+placed_moved S None x y p q = p refl
 placed_moved S (Some r) x y p q = q
 
-placed_after : (S : Scope) (state : State) (s : SessionId) (request : Request) → FairRequest S s request → Placed S state.consumers → Placed S (after state (Session s) request).consumers
+placed_subscribed : (S : Scope) (s : SessionId) (c : ℕ) (k : Key) (d : Definition) (state : State) → key_eq k S.key ≡ belongs S s c → Placed S state.consumers → Placed S (subscribed s c k d state).consumers
+placed_subscribed S s c k d state h p = subst (Placed S) (sym (subscribed_consumers s c k d state)) (placed_push S (new_consumer s c k None) h state.consumers p)
+
+placed_after : (S : Scope) (state : State) (s : SessionId) (request : Request) → FairRequest S state.life s request → refused state s request ≡ None → Placed S state.consumers → Placed S (after state (Session s) request).consumers
 unfolding after
-placed_after S state s (CreateConsumer c (Queue name) selector no_local) f p = placed_push S (new_consumer s c (OfQueue name) (standing_as selector)) f state.consumers p
-placed_after S state s (CreateConsumer c (Topic name) selector no_local) f p = placed_push S (new_consumer s c (Own s c) None) f state.consumers p
-placed_after S state s CloseSession f p = placed_closed S (of_session s) state.consumers p
-placed_after S state s (CloseConsumer c) f p = placed_closed S (of_number s c) state.consumers p
-placed_after S state s Acknowledge f p = placed_if S (is_client (mode_of state.life s)) (settled (of_session s) state) state p p
-placed_after S state s (Receive c now) f p =
+placed_after S state s (CreateConsumer c (Queue name) selector no_local) f m p =
+    placed_push S (new_consumer s c (OfQueue name) (standing_as selector)) (f.0 (opened state s (CreateConsumer c (Queue name) selector no_local) refl m) ∙ f.1) state.consumers p
+placed_after S state s (CreateConsumer c (Topic name) selector no_local) f m p =
+    placed_push S (new_consumer s c (Own s c) None) (f.0 (opened state s (CreateConsumer c (Topic name) selector no_local) refl m) ∙ f.1) state.consumers p
+placed_after S state s (CreateDurable c destination name selector no_local) f m p =
+    placed_subscribed S s c (durable_of (client_of state.life) s name) (asked destination selector no_local false) state (f.0 (opened state s (CreateDurable c destination name selector no_local) refl m) ∙ f.1) p
+placed_after S state s (CreateShared c destination name selector) f m p =
+    placed_subscribed S s c (shared_of (client_of state.life) s name) (asked destination selector false true) state (f.0.0 (opened state s (CreateShared c destination name selector) refl m) ∙ f.0.1) p
+placed_after S state s (CreateSharedDurable c destination name selector) f m p =
+    placed_subscribed S s c (durable_of (client_of state.life) s name) (asked destination selector false true) state (f.0.0 (opened state s (CreateSharedDurable c destination name selector) refl m) ∙ f.0.1) p
+placed_after S state s CloseSession f m p = placed_closed S (of_session s) state.consumers p
+placed_after S state s (CloseConsumer c) f m p = placed_closed S (of_number s c) state.consumers p
+placed_after S state s Acknowledge f m p = placed_if S (is_client (mode_of state.life s)) (settled (of_session s) state) state p p
+placed_after S state s (Receive c now) f m p =
     placed_if S (is_started state.life s.connection) (receive (selected_by (consumer_of state.consumers s c)) (left_of (mode_of state.life s) s c) now (key_at (consumer_of state.consumers s c)) state) state
     (subst (Placed S) (sym (received_consumers (selected_by (consumer_of state.consumers s c)) (left_of (mode_of state.life s) s c) now (key_at (consumer_of state.consumers s c)) state)) p) p
-placed_after S state s _ f p = p
+placed_after S state s _ f m p = p
 
 placed_connection : (S : Scope) (state : State) (c : ℕ) (request : Request) → Placed S state.consumers → Placed S (after state (Connection c) request).consumers
 unfolding after
@@ -76,19 +97,19 @@ placed_connection S state c CloseConnection p = placed_closed S (of_connection c
 placed_connection S state c request p = p
 
 -- each entry keeps which consumers are the key's
-placed_entry : (S : Scope) (state : State) (before : List Entry) (e : Entry) → FairEntry S e → Placed S state.consumers → Placed S (state_after_entry state before e).consumers
+placed_entry : (S : Scope) (state : State) (before : List Entry) (e : Entry) → FairEntry S state.life e → Placed S state.consumers → Placed S (state_after_entry state before e).consumers
 unfolding state_after_entry step
 placed_entry S state before (Asked (Session s) request r) f p =
-    placed_moved S (refusal state.life state.consumers (held state (Session s) request) (Session s) request) (after state (Session s) request) state (placed_after S state s request f p) p
+    placed_moved S (refusal state.life state.consumers (held state (Session s) request) (Session s) request) (after state (Session s) request) state (λ m. placed_after S state s request f m p) p
 placed_entry S state before (Asked (Connection c) request r) f p =
     placed_moved S (refusal state.life state.consumers (held state (Connection c) request) (Connection c) request) (after state (Connection c) request) state
-    (placed_connection S state c request p) p
+    (λ _. placed_connection S state c request p) p
 placed_entry S state before (Sent m) f p =
     placed_if S (is_transacted (mode_of state.life m.sender.session)) state (step state (Session m.sender.session) (Publish (m ∷ []))) p
-    (placed_moved S (publish_refusal state (Session m.sender.session) (m ∷ [])) (published state (m ∷ [])) state (subst (Placed S) (sym (published_consumers state (m ∷ []))) p) p)
+    (placed_moved S (publish_refusal state (Session m.sender.session) (m ∷ [])) (published state (m ∷ [])) state (λ _. subst (Placed S) (sym (published_consumers state (m ∷ []))) p) p)
 placed_entry S state before (Committed s) f p =
     placed_moved S (commit_refusal state (Session s) (pending s before)) (after_commit state (Session s) (pending s before)) state
-    (subst (Placed S) (sym (committed_consumers state (Session s) (pending s before))) p) p
+    (λ _. subst (Placed S) (sym (committed_consumers state (Session s) (pending s before))) p) p
 
 -- rows that are out to own sessions alone, after each item
 out_append : (sessions : List SessionId) (xs ys : List Row) → OwnOut sessions xs → OwnOut sessions ys → OwnOut sessions (xs ++ ys)
@@ -148,6 +169,9 @@ unfolding lone_did
 out_did S l s CloseSession n a = out_closed S.sessions S.key (of_session s) (lone_returned (of_session s) (lone_life (Session s) CloseSession l)) (out_returned S.sessions (of_session s) l.rows a)
 out_did S l s (CreateConsumer c (Queue name) selector no_local) n a = a
 out_did S l s (CreateConsumer c (Topic name) selector no_local) n a = tt
+out_did S l s (CreateDurable c destination name selector no_local) n a =
+    out_if S.sessions (is_same l.definition (asked destination selector no_local false)) l (lone_put (asked destination selector no_local false) l) a tt
+out_did S l s (Unsubscribe name) n a = tt
 out_did S l s (CloseConsumer c) n a = out_closed S.sessions S.key (of_number s c) l a
 out_did S l s (Receive c now) n a =
     out_if S.sessions (is_started l.life s.connection) (lone_receive (left_of (mode_of l.life s) s c) now l) l
@@ -178,7 +202,7 @@ out_end S l [] a = a
 out_end S l (i ∷ items) a = out_end S (lone_after S l i) items (out_after S l i a)
 
 -- each entry keeps what is kept at the key
-sound_entry : (S : Scope) (state : State) (before : List Entry) (e : Entry) → Fitting S → FairEntry S e → Sound S state → Replied state before e → Sound S (state_after_entry state before e)
+sound_entry : (S : Scope) (state : State) (before : List Entry) (e : Entry) → Unshared S.key → FairEntry S state.life e → Sound S state → Replied state before e → Sound S (state_after_entry state before e)
 unfolding lone_of
 sound_entry S state before e f g d h = record {
   placed = placed_entry S state before e g d.placed;
@@ -200,6 +224,9 @@ life_if false x y l p q = q
 pub after_life : (state : State) (s : SessionId) (request : Request) → (after state (Session s) request).life ≡ life_after state.life (Session s) request
 unfolding after life_after
 after_life state s (CreateSession mode) = refl
+after_life state s (CreateDurable c destination name selector no_local) = subscribed_life s c (durable_of (client_of state.life) s name) (asked destination selector no_local false) state
+after_life state s (CreateShared c destination name selector) = subscribed_life s c (shared_of (client_of state.life) s name) (asked destination selector false true) state
+after_life state s (CreateSharedDurable c destination name selector) = subscribed_life s c (durable_of (client_of state.life) s name) (asked destination selector false true) state
 after_life state s (CreateConsumer c (Queue name) selector no_local) = refl
 after_life state s (CreateConsumer c (Topic name) selector no_local) = refl
 after_life state s Acknowledge = life_if (is_client (mode_of state.life s)) (settled (of_session s) state) state state.life refl refl
@@ -260,7 +287,7 @@ unfolding after_commit
 committed_life state (Connection c) ms = refl
 committed_life state (Session s) ms = published_life (settled (of_session s) state) ms
 
-entry_life : (state : State) (before : List Entry) (e : Entry) → Replied state before e → (state_after_entry state before e).life ≡ life_after_entry state.life e
+pub entry_life : (state : State) (before : List Entry) (e : Entry) → Replied state before e → (state_after_entry state before e).life ≡ life_after_entry state.life e
 unfolding state_after_entry life_after_entry step reply
 entry_life state before (Asked (Session s) request told) h = session_life state s request (refusal state.life state.consumers (held state (Session s) request) (Session s) request) refl
 entry_life state before (Asked (Connection c) request told) h =
@@ -272,14 +299,14 @@ entry_life state before (Committed s) h =
     moved_life (commit_refusal state (Session s) (pending s before)) (after_commit state (Session s) (pending s before)) state (committed_life state (Session s) (pending s before))
 
 -- over a whole list of entries
-pub run_alone : (S : Scope) → Fitting S → (entries : List Entry) (place : ℕ) (before : List Entry) (state : State) → FairAll S entries → Sound S state → EntriesFit state before entries →
+pub run_alone : (S : Scope) → Unshared S.key → (entries : List Entry) (place : ℕ) (before : List Entry) (state : State) → FairAll S state.life entries → Sound S state → EntriesFit state before entries →
     replies_in S place entries ≡ lone_replies S (lone_of S state) (feed S place state.life before (lone_of S state) entries)
 unfolding feed
 run_alone S f [] place before state g p h = refl
 run_alone S f (e ∷ entries) place before state g p h =
     let items : List Item = fed S state.life before (lone_of S state) e in
     let next : State = state_after_entry state before e in
-    let rest = run_alone S f entries (place + 1) (e ∷ before) next g.1 (sound_entry S state before e f g.0 p h.0) h.1 in
+    let rest = run_alone S f entries (place + 1) (e ∷ before) next (subst (λ (l : Life). FairAll S l entries) (sym (entry_life state before e h.0)) g.1) (sound_entry S state before e f g.0 p h.0) h.1 in
     both_same (entry_told S state place before e f g.0 p.placed h.0)
     (rest
     ∙ ap (λ (x : Lone). lone_replies S x (feed S (place + 1) next.life (e ∷ before) x entries)) (entry_step S state before e f g.0 p h.0)

@@ -47,6 +47,15 @@ pub other-put : (k l : Key) (d : Definition) → key_eq l k ≡ false → (xs : 
 other-put k l d h [] = grind (arith, nat_tests)
 other-put k l d h (x ∷ xs) = grind (arith, nat_tests, apart k l x.key h, other-put k l d h xs)
 
+-- a subscription that is deleted, and another
+pub station-without : (k : Key) (xs : List Station) → station_of k (without k xs) ≡ None
+station-without k [] = refl
+station-without k (x ∷ xs) = grind (arith, nat_tests, station-without k xs)
+
+pub other-without : (k l : Key) → key_eq l k ≡ false → (xs : List Station) → station_of k (without l xs) ≡ station_of k xs
+other-without k l h [] = refl
+other-without k l h (x ∷ xs) = grind (arith, nat_tests, apart k l x.key h, other-without k l h xs)
+
 -- subscriptions that end
 abbrev left_by : (Key → Bool) → List Station → List Station
 left_by e xs = filter (λ x. not (e x.key)) xs

@@ -8,7 +8,7 @@ use Rattle.jm_dest.specs.Keys.{key_eq}
 use Rattle.jm_header.specs.declared.content.Content.{Content}
 use Rattle.jm_machine.specs.declared.call.Who.TheVariants.{Connection, Session}
 use Rattle.jm_machine.specs.declared.call.Request.{Request}
-use Rattle.jm_machine.specs.declared.call.Request.TheVariants.{CreateConsumer, CloseConsumer, Receive, Missed}
+use Rattle.jm_machine.specs.declared.call.Request.TheVariants.{CreateConsumer, CreateDurable, CreateShared, CreateSharedDurable, Unsubscribe, CloseConsumer, Receive, Missed}
 use Rattle.jm_machine.specs.declared.call.Call.TheVariants.{Ask, Publish}
 use Rattle.jm_machine.specs.declared.answer.Answer.{Answer}
 use Rattle.jm_machine.specs.declared.answer.Answer.TheVariants.{Done}
@@ -21,7 +21,7 @@ use Rattle.jm_machine.specs.declared.state.Consumer.{Consumer}
 use Rattle.jm_machine.specs.Owns.{is_own, is_own_connection}
 use Rattle.jm_machine.specs.Life.{Life, mode_of, own_life}
 use Rattle.jm_machine.specs.Rows.{fresh}
-use Rattle.jm_machine.specs.Machine.{State, station_of, definition_of, rows_of, with_rows, Publisher, publisher_of, accepts, is_full, one_missed, key_made, brought, offered, with_message, published, held, of_session, settled, is_transacted, is_stamped, refusal, publish_refusal, commit_refusal, answer, after, after_commit, replied, moved, reply, step}
+use Rattle.jm_machine.specs.Machine.{State, station_of, definition_of, rows_of, with_rows, Publisher, publisher_of, accepts, is_full, one_missed, brought, offered, with_message, published, held, of_session, settled, is_transacted, is_stamped, refusal, publish_refusal, commit_refusal, answer, after, after_commit, replied, moved, reply, step}
 use Rattle.jm_machine.specs.Entries.{pending, committed}
 use Rattle.jm_machine.specs.Lone.{Scope, Lone, Item, lone_of, lone_settled, lone_did, about, true_or_none, is_true, is_answered, lone_refusal, lone_brought, lone_after, lone_told, lone_replies, lone_end, is_own_call, lone_accepts, came, accepted, fed, at_place, placed, told}
 use Rattle.jm_machine.specs.Lone.Item.{Called, Settled, Came}
@@ -31,7 +31,7 @@ use Rattle.jm_law.proofs.Life.{own_mode}
 use Rattle.jm_law.proofs.Same.{key_same}
 use Rattle.jm_law.proofs.Lists.{append_assoc, into_cond, moved_map, moved_one}
 use Rattle.jm_law.proofs.Stations.{mapped, station_of-map, bare-append, bare-length}
-use Rattle.jm_law.proofs.Consumers.{Fitting, FairRequest, FairEntry, Placed, Sound}
+use Rattle.jm_law.proofs.Consumers.{Unshared, FairRequest, FairEntry, Placed, Sound}
 use Rattle.jm_law.proofs.EntrySteps.{state_after_entry, Replied}
 use Rattle.jm_law.proofs.Projection.{lone_at, three, refused, own_refusal, own_reply, own_after, Elsewhere, other_after, connection_own, connection_other, project_settled, settled_other, other_session}
 
@@ -142,41 +142,45 @@ elsewhere S s None h = cc
 elsewhere S s (Some b) h = h
 
 pub elsewhere_other : (S : Scope) (s : SessionId) (request : Request) → is_own S.sessions s ≡ false → Elsewhere S s (about S s request)
-elsewhere_other S s (CreateConsumer c destination selector no_local) n = not_belongs S s (key_eq (key_made s c destination) S.key) n
+elsewhere_other S s (CreateConsumer c destination selector no_local) n = not_belongs S s _ n
+elsewhere_other S s (CreateDurable c destination name selector no_local) n = not_belongs S s _ n
+elsewhere_other S s (CreateShared c destination name selector) n = not_belongs S s _ n
+elsewhere_other S s (CreateSharedDurable c destination name selector) n = not_belongs S s _ n
+elsewhere_other S s (Unsubscribe name) n = not_belongs S s _ n
 elsewhere_other S s (CloseConsumer c) n = not_belongs S s (S.numbers s c) n
 elsewhere_other S s (Receive c now) n = not_belongs S s (S.numbers s c) n
 elsewhere_other S s (Missed c) n = not_belongs S s (S.numbers s c) n
 elsewhere_other S s _ n = n
 
-step_case : (S : Scope) (state : State) (s : SessionId) (request : Request) → is_own S.sessions s ≡ true → Fitting S → FairRequest S s request → Sound S state → (v : Bool) → true_or_none (about S s request) ≡ v →
+step_case : (S : Scope) (state : State) (s : SessionId) (request : Request) → is_own S.sessions s ≡ true → Unshared S.key → FairRequest S state.life s request → Sound S state → (v : Bool) → true_or_none (about S s request) ≡ v →
     lone_of S (step state (Session s) (Ask request)) ≡ cond (v && is_none (lone_refusal (lone_of S state) (Session s) request)) (lone_did S.key (lone_of S state) (Session s) request) (lone_of S state)
 unfolding step
 step_case S state s request o f g p true h =
-    rw (own_refusal S state s request o g p.placed h) (moved_map (lone_of S) (refused state s request) (after state (Session s) request) state _ _ (λ m. own_after S state s request f o p.placed h m) refl)
+    rw (own_refusal S state s request f o g p.placed h) (moved_map (lone_of S) (refused state s request) (after state (Session s) request) state _ _ (λ m. own_after S state s request f g o p.placed h m) refl)
 step_case S state s request o f g p false h =
-    moved_one (lone_of S) (refused state s request) (after state (Session s) request) state (lone_of S state) (λ m. other_after S state s request f p (elsewhere S s (about S s request) h)) refl
+    moved_one (lone_of S) (refused state s request) (after state (Session s) request) state (lone_of S state) (λ m. other_after S state s request f g p (elsewhere S s (about S s request) h) m) refl
 
-step_own : (S : Scope) (state : State) (s : SessionId) (request : Request) → is_own S.sessions s ≡ true → Fitting S → FairRequest S s request → Sound S state →
+step_own : (S : Scope) (state : State) (s : SessionId) (request : Request) → is_own S.sessions s ≡ true → Unshared S.key → FairRequest S state.life s request → Sound S state →
     lone_of S (step state (Session s) (Ask request)) ≡ lone_after S (lone_of S state) (Called (Session s) request)
 step_own S state s request o f g p = step_case S state s request o f g p (true_or_none (about S s request)) refl
 
-step_other : (S : Scope) (state : State) (s : SessionId) (request : Request) → is_own S.sessions s ≡ false → Fitting S → Sound S state →
+step_other : (S : Scope) (state : State) (s : SessionId) (request : Request) → is_own S.sessions s ≡ false → Unshared S.key → FairRequest S state.life s request → Sound S state →
     lone_of S (step state (Session s) (Ask request)) ≡ lone_of S state
 unfolding step
-step_other S state s request n f p =
-    moved_one (lone_of S) (refused state s request) (after state (Session s) request) state (lone_of S state) (λ m. other_after S state s request f p (elsewhere_other S s request n)) refl
+step_other S state s request n f g p =
+    moved_one (lone_of S) (refused state s request) (after state (Session s) request) state (lone_of S state) (λ m. other_after S state s request f g p (elsewhere_other S s request n) m) refl
 
 one_item : (S : Scope) (l : Lone) (b : Bool) (i : Item) → lone_end S l (cond b (i ∷ []) [] ++ []) ≡ cond b (lone_after S l i) l
 one_item S l true i = refl
 one_item S l false i = refl
 
 -- a connection's request, of which the accepted ones are fed
-connection_case : (S : Scope) (state : State) (c : ℕ) (request : Request) (r : Option Refusal) (a : Answer) (o : Bool) → is_own_connection S.sessions c ≡ o → Sound S state →
+connection_case : (S : Scope) (state : State) (c : ℕ) (request : Request) (r : Option Refusal) (a : Answer) (o : Bool) → Unshared S.key → is_own_connection S.sessions c ≡ o → Sound S state →
     lone_of S (moved r (after state (Connection c) request) state) ≡ lone_end S (lone_of S state) (cond (o && is_ok (replied r a)) (Called (Connection c) request ∷ []) [] ++ [])
-connection_case S state c request None a true e d = connection_own S state c request e
-connection_case S state c request None a false e d = connection_other S state c request e d
-connection_case S state c request (Some r) a true e d = refl
-connection_case S state c request (Some r) a false e d = refl
+connection_case S state c request None a true u e d = connection_own S state c request u e
+connection_case S state c request None a false u e d = connection_other S state c request u e d
+connection_case S state c request (Some r) a true u e d = refl
+connection_case S state c request (Some r) a false u e d = refl
 
 -- a publication that is accepted
 published_ok : (o : Option Refusal) → replied o Done ≡ Ok Done → o ≡ None
@@ -224,15 +228,15 @@ committed_case S state s ms p h =
     ∙ settled_case S state s p (committed_by state s ms h) (is_own S.sessions s) refl (came (accepted S.key (lone_of S state).definition state.life ms))
 
 -- the machine's step at an entry is what the entry feeds
-pub entry_step : (S : Scope) (state : State) (before : List Entry) (e : Entry) → Fitting S → FairEntry S e → Sound S state → Replied state before e →
+pub entry_step : (S : Scope) (state : State) (before : List Entry) (e : Entry) → Unshared S.key → FairEntry S state.life e → Sound S state → Replied state before e →
     lone_of S (state_after_entry state before e) ≡ lone_end S (lone_of S state) (fed S state.life before (lone_of S state) e)
 unfolding state_after_entry after_commit committed step reply
 entry_step S state before (Asked (Session s) request r) f g p h =
-    into_cond (is_own S.sessions s) _ _ _ (λ o. step_own S state s request o f g p) (λ n. step_other S state s request n f p)
+    into_cond (is_own S.sessions s) _ _ _ (λ o. step_own S state s request o f g p) (λ n. step_other S state s request n f g p)
     ∙ sym (one_item S (lone_of S state) (is_own S.sessions s) (Called (Session s) request))
 entry_step S state before (Asked (Connection c) request r) f g p h =
     rw h (connection_case S state c request (refusal state.life state.consumers (held state (Connection c) request) (Connection c) request)
-    (answer state.life state.consumers (held state (Connection c) request) (Connection c) request) (is_own_connection S.sessions c) refl p)
+    (answer state.life state.consumers (held state (Connection c) request) (Connection c) request) (is_own_connection S.sessions c) f refl p)
 entry_step S state before (Sent m) f g p h = sent_case S state m (is_transacted (mode_of state.life m.sender.session)) h
 entry_step S state before (Committed s) f g p h =
     let none : commit_refusal state (Session s) (pending s before) ≡ None = published_ok (commit_refusal state (Session s) (pending s before)) h in
@@ -253,7 +257,7 @@ unfolding is_answered
 connection_told S l place c request true = refl
 connection_told S l place c request false = refl
 
-told_case : (S : Scope) (state : State) (place : ℕ) (s : SessionId) (request : Request) (o a : Bool) → Fitting S → is_own S.sessions s ≡ o → is_true (about S s request) ≡ a → FairRequest S s request → Placed S state.consumers →
+told_case : (S : Scope) (state : State) (place : ℕ) (s : SessionId) (request : Request) (o a : Bool) → Unshared S.key → is_own S.sessions s ≡ o → is_true (about S s request) ≡ a → FairRequest S state.life s request → Placed S state.consumers →
     placed place (cond a (Some (reply state (Session s) (Ask request))) None) ≡ lone_replies S (lone_of S state) (at_place place (cond o (Called (Session s) request ∷ []) [] ++ []))
 unfolding is_answered
 told_case S state place s request true true f e b g p = rw (b, own_reply S state s request f e g p b)
@@ -266,7 +270,7 @@ commit_told S l place s true ms = lone_replies-came S (lone_after S l (Settled s
 commit_told S l place s false ms = lone_replies-came S l place ms
 
 -- the reply to a call of the key's, as an entry has it, is what its subscription answers alone
-pub entry_told : (S : Scope) (state : State) (place : ℕ) (before : List Entry) (e : Entry) → Fitting S → FairEntry S e → Placed S state.consumers → Replied state before e →
+pub entry_told : (S : Scope) (state : State) (place : ℕ) (before : List Entry) (e : Entry) → Unshared S.key → FairEntry S state.life e → Placed S state.consumers → Replied state before e →
     placed place (told S e) ≡ lone_replies S (lone_of S state) (at_place place (fed S state.life before (lone_of S state) e))
 unfolding committed is_answered
 entry_told S state place before (Asked (Session s) request r) f g p h = rw h (told_case S state place s request (is_own S.sessions s) (is_true (about S s request)) f refl refl g p)

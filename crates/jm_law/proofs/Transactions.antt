@@ -58,13 +58,13 @@ plain_life life (Session t) (CreateSession mode) s h =
 plain_life life (Session t) CloseSession s h = plain_close (λ u. session_eq u t) s life.sessions ∙ h
 plain_life life _ _ s h = h
 
-plain_connection : (state : State) (c : ℕ) (request : Request) → (after state (Connection c) request).life ≡ life_after state.life (Connection c) request
+pub connection_life : (state : State) (c : ℕ) (request : Request) → (after state (Connection c) request).life ≡ life_after state.life (Connection c) request
 unfolding after
-plain_connection state c CloseConnection = refl
-plain_connection state c request = refl
+connection_life state c CloseConnection = refl
+connection_life state c request = refl
 
 plain_after : (state : State) (who : Who) (request : Request) (s : SessionId) → is_plain (session_of state.life.sessions s) ≡ true → is_plain (session_of (after state who request).life.sessions s) ≡ true
-plain_after state (Connection c) request s h = ap (λ (l : Life). is_plain (session_of l.sessions s)) (plain_connection state c request) ∙ plain_life state.life (Connection c) request s h
+plain_after state (Connection c) request s h = ap (λ (l : Life). is_plain (session_of l.sessions s)) (connection_life state c request) ∙ plain_life state.life (Connection c) request s h
 plain_after state (Session t) request s h = ap (λ (l : Life). is_plain (session_of l.sessions s)) (after_life state t request) ∙ plain_life state.life (Session t) request s h
 
 plain_moved : (o : Option Refusal) (x y : State) (s : SessionId) → is_plain (session_of x.life.sessions s) ≡ true → is_plain (session_of y.life.sessions s) ≡ true → is_plain (session_of (moved o x y).life.sessions s) ≡ true

@@ -22,9 +22,9 @@ use Rattle.jm_machine.specs.Machine.{State, consumer_of}
 use Rattle.jm_machine.specs.Entries.{entries_of, life_after_entry, committed}
 use Rattle.jm_machine.specs.Lone.{Scope, Lone, Item, number_made, is_number, creates, is_made_for, numbers_of, scope_of, lone_of, lone_after, lone_end, lone_told, placed, lone_replies, came, accepted, fed, at_place, feed}
 use Rattle.jm_machine.specs.Lone.Item.{Called, Settled, Came}
-use Rattle.jm_machine.specs.Isolation.{is_unshared, alone, starts_with, feed_of, in_order, TwoWorlds}
+use Rattle.jm_machine.specs.Isolation.{keeps_number, is_unshared, alone, starts_with, feed_of, in_order, SameScope, TwoWorlds}
 use Rattle.jm_law.proofs.Same.{session_same, session_refl}
-use Rattle.jm_law.proofs.Keyed.{keeps, OwnKept, own_kept, made_own}
+use Rattle.jm_law.proofs.Numbers.{keeps, made_kept, and_both}
 use Rattle.jm_law.proofs.Unshared.{by_key}
 use Rattle.jm_law.proofs.Clients.{all_fit}
 
@@ -127,12 +127,12 @@ found_among t d (x ∷ xs) k = grind (arith, nat_tests, found_among t d xs)
 abbrev is_seen : SessionId → ℕ → Lone → List Item → Bool
 is_seen t d l items = is_some (consumer_of l.consumers t d) || list_any (item_creates t d) items
 
-made_seen : (t : SessionId) (d : ℕ) (opening : State) (entries : List Entry) → OwnKept t d opening entries →
+made_seen : (t : SessionId) (d : ℕ) (opening : State) (entries : List Entry) → keeps_number (Own t d) opening entries t d ≡ true →
     is_made_for (Own t d) opening entries t d ≡ is_seen t d (starts_with (Own t d) opening entries) (in_order (feed_of (Own t d) opening entries))
 unfolding lone_of
 made_seen t d opening entries u =
-    made_own t d opening entries u
-    ∙ ap (λ v. v || list_any (creates t d) entries) (sym (found_among t d opening.consumers u.consumers))
+    made_kept (Own t d) opening entries t d u
+    ∙ ap (λ v. v || list_any (creates t d) entries) (sym (found_among t d opening.consumers (and_both _ _ u).0))
     ∙ ap (λ v. is_some (consumer_of (filter (λ x. key_eq x.key (Own t d)) opening.consumers) t d) || v)
     (sym (feed_creates (scope_of (Own t d) opening entries) t d (own_self t) entries 0 opening.life [] (starts_with (Own t d) opening entries)))
   where
@@ -154,32 +154,38 @@ numbers_same t d one other calls others h s c = go (session_eq s t) refl (c == d
     go false e b f = refl
 
 abbrev scope_by : SessionId → ℕ → (SessionId → ℕ → Bool) → Scope
-scope_by t d numbers = record { key = Own t d; sessions = t ∷ []; numbers = numbers }
+scope_by t d numbers = record { key = Own t d; sessions = t ∷ []; clients = λ c. None; numbers = numbers }
 
-own_worlds : (t : SessionId) (d : ℕ) (one other : State) (calls others : List Entry) → OwnKept t d one calls → OwnKept t d other others →
+own_scope : (t : SessionId) (d : ℕ) (one other : State) (calls others : List Entry) → keeps_number (Own t d) one calls t d ≡ true → keeps_number (Own t d) other others t d ≡ true →
     starts_with (Own t d) one calls ≡ starts_with (Own t d) other others →
     in_order (feed_of (Own t d) one calls) ≡ in_order (feed_of (Own t d) other others) →
-    in_order (alone (Own t d) one calls) ≡ in_order (alone (Own t d) other others)
-own_worlds t d one other calls others p q e f =
+    scope_of (Own t d) one calls ≡ scope_of (Own t d) other others
+own_scope t d one other calls others p q e f =
     let made : is_made_for (Own t d) one calls t d ≡ is_made_for (Own t d) other others t d = made_seen t d one calls p ∙ (λ i. is_seen t d (e i) (f i)) ∙ sym (made_seen t d other others q) in
-    let same : scope_of (Own t d) one calls ≡ scope_of (Own t d) other others = λ i. scope_by t d (λ s c. numbers_same t d one other calls others made s c i) in
-    answers_bare (scope_of (Own t d) one calls) (starts_with (Own t d) one calls) (feed_of (Own t d) one calls)
-    ∙ (λ i. answers_to (same i) (e i) (f i))
-    ∙ sym (answers_bare (scope_of (Own t d) other others) (starts_with (Own t d) other others) (feed_of (Own t d) other others))
+    λ i. scope_by t d (λ s c. numbers_same t d one other calls others made s c i)
 
-worlds : (key : Key) (one other : State) (calls others : List Entry) → is_unshared key one calls ≡ true → is_unshared key other others ≡ true →
+same_scope : (key : Key) (one other : State) (calls others : List Entry) → is_unshared key one calls ≡ true → is_unshared key other others ≡ true → SameScope key (scope_of key one calls) (scope_of key other others) →
+    starts_with key one calls ≡ starts_with key other others →
+    in_order (feed_of key one calls) ≡ in_order (feed_of key other others) →
+    scope_of key one calls ≡ scope_of key other others
+same_scope (OfQueue name) one other calls others p q s e f = cc
+same_scope (Own t d) one other calls others p q s e f = own_scope t d one other calls others p q e f
+same_scope (SharedOwn client name) one other calls others p q s e f = cc
+same_scope (Durable client name) one other calls others p q s e f = s
+
+worlds : (key : Key) (one other : State) (calls others : List Entry) → scope_of key one calls ≡ scope_of key other others →
     starts_with key one calls ≡ starts_with key other others →
     in_order (feed_of key one calls) ≡ in_order (feed_of key other others) →
     in_order (alone key one calls) ≡ in_order (alone key other others)
-worlds (OfQueue name) one other calls others p q e f = cc
-worlds (Own t d) one other calls others p q e f = own_worlds t d one other calls others (own_kept t d one calls p) (own_kept t d other others q) e f
-worlds (SharedOwn client name) one other calls others p q e f = cc
-worlds (Durable client name) one other calls others p q e f = cc
+worlds key one other calls others same e f =
+    answers_bare (scope_of key one calls) (starts_with key one calls) (feed_of key one calls)
+    ∙ (λ i. answers_to (same i) (e i) (f i))
+    ∙ sym (answers_bare (scope_of key other others) (starts_with key other others) (feed_of key other others))
 
 pub two_worlds : TwoWorlds
-two_worlds one other calls others replies told end finish key f p g q e h =
+two_worlds one other calls others replies told end finish key f p g q s e h =
     let first : List Entry = entries_of one.opening calls replies in
     let second : List Entry = entries_of other.opening others told in
-    ap (λ (xs : List (ℕ × Result Answer Refusal)). in_order xs) (by_key one first key p.unshared p.reached (all_fit one calls replies end f))
-    ∙ worlds key one other first second p.unshared q.unshared e h
-    ∙ sym (ap (λ (xs : List (ℕ × Result Answer Refusal)). in_order xs) (by_key other second key q.unshared q.reached (all_fit other others told finish g)))
+    ap (λ (xs : List (ℕ × Result Answer Refusal)). in_order xs) (by_key one first key p.unshared p.numbers p.reached (all_fit one calls replies end f))
+    ∙ worlds key one other first second (same_scope key one other first second p.unshared q.unshared s e h) e h
+    ∙ sym (ap (λ (xs : List (ℕ × Result Answer Refusal)). in_order xs) (by_key other second key q.unshared q.numbers q.reached (all_fit other others told finish g)))

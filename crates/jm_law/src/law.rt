@@ -1,11 +1,15 @@
 ghost use Rattle.jm_machine.specs.Isolation.{Isolation, IsolationOfEvents, RunsFit, RunsReach, TwoWorlds};
+ghost use Rattle.jm_machine.specs.Places.{OnePlaceEach};
+ghost use Rattle.jm_machine.specs.Queues.{QueueKeeps};
+ghost use Rattle.jm_law.specs.OneConsumer.{OneConsumerEach};
+ghost use Rattle.jm_law.specs.Subscriptions.{SubscriptionKeeps};
 
 /// The law of isolation, proved; the function itself does nothing.
 ///
 /// Take any state that the provider reaches, any list of calls of any sessions, and any replies that fit
 /// it: each the machine's, or a want of memory that leaves the state as it was. Then the replies to the
 /// calls of an unshared topic subscription, each at its place, are those that this subscription answers
-/// alone, fed with the calls of its own session, with the accepted calls of that session's connection,
+/// alone, fed with the calls of its own sessions, with the accepted calls of those sessions' connections,
 /// and with the committed publications that it accepts. Nothing else in the run has any part in them.
 pub fn law_isolation()
     ensures { Isolation }
@@ -23,9 +27,10 @@ pub fn law_isolation_of_events()
 /// The law of two worlds, proved; the function itself does nothing.
 ///
 /// Take two lists of calls, each from a state that the provider reaches, with replies that fit, and an unshared topic
-/// subscription that starts with the same in both and is fed the same. Then its sessions get the same replies to its calls,
-/// in the same order. So whatever others send in transactions that are open at the end or rolled back, what the
-/// subscription does not accept, and all that concerns other consumers alone, changes none of them.
+/// subscription that starts with the same in both and is fed the same; to a durable one the same belongs in both. Then
+/// its sessions get the same replies to its calls, in the same order. So whatever others send in transactions that are
+/// open at the end or rolled back, what the subscription does not accept, and all that concerns other consumers alone,
+/// changes none of them.
 pub fn law_two_worlds()
     ensures { TwoWorlds }
 {}
@@ -44,4 +49,38 @@ pub fn law_reached()
 /// that lead on hold of it.
 pub fn law_runs_fit()
     ensures { RunsFit }
+{}
+
+/// The law of one place, proved; the function itself does nothing.
+///
+/// In each state that the provider reaches a message stands at most once in each queue and in each subscription, a
+/// shared one too. So it waits there, or is out to one session through one consumer, and to no second one.
+pub fn law_one_place()
+    ensures { OnePlaceEach }
+{}
+
+/// The law of a queue, proved; the function itself does nothing.
+///
+/// Over each list of steps from a new core, each message that came to a queue is in exactly one place: it is held
+/// there, waiting or out to one session, or it was settled once, by an acknowledgement, a commit or a receipt that
+/// settles at once, or it was dropped once as expired. None is lost, and none comes twice.
+pub fn law_queue()
+    ensures { QueueKeeps }
+{}
+
+/// The law of one consumer, proved; the function itself does nothing.
+///
+/// In each state that the provider reaches an unshared durable subscription has at most one active consumer (Jakarta
+/// Messaging 3.1, section 8.3.3).
+pub fn law_one_consumer()
+    ensures { OneConsumerEach }
+{}
+
+/// The law of a subscription, proved; the function itself does nothing.
+///
+/// Over each list of steps from a new core, each message that came to a subscription, a shared one too, is in exactly one
+/// place: it is held there, waiting or out to one session, or it was settled once, or it was dropped once as expired, or it
+/// went once with the subscription, which ended or was replaced. None is lost, and none comes twice.
+pub fn law_subscription()
+    ensures { SubscriptionKeeps }
 {}

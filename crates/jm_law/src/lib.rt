@@ -3,4 +3,7 @@
 
 mod law;
 
-pub use law::{law_isolation, law_isolation_of_events, law_reached, law_runs_fit, law_two_worlds};
+pub use law::{
+    law_isolation, law_isolation_of_events, law_one_consumer, law_one_place, law_queue,
+    law_reached, law_runs_fit, law_subscription, law_two_worlds,
+};

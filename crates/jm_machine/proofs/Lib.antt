@@ -2,3 +2,5 @@ pub mod Same
 pub mod SelectorExamples
 pub mod Reaches
 pub mod Order
+pub mod Keys
+pub mod Counts

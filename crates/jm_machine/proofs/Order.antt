@@ -14,16 +14,16 @@ use Rattle.jm_header.specs.declared.content.Content.{Content}
 use Rattle.jm_machine.specs.declared.call.Who.{Who}
 use Rattle.jm_machine.specs.declared.call.Who.TheVariants.{Connection, Session}
 use Rattle.jm_machine.specs.declared.call.Request.{Request}
-use Rattle.jm_machine.specs.declared.call.Request.TheVariants.{CloseConnection, CreateSession, CloseSession, CreateConsumer, CloseConsumer, Receive, Acknowledge, Recover, Rollback}
+use Rattle.jm_machine.specs.declared.call.Request.TheVariants.{CloseConnection, CreateSession, CloseSession, CreateConsumer, CreateDurable, CreateShared, CreateSharedDurable, Unsubscribe, CloseConsumer, Receive, Acknowledge, Recover, Rollback}
 use Rattle.jm_machine.specs.declared.call.Call.{Call}
 use Rattle.jm_machine.specs.declared.call.Call.TheVariants.{Ask, Publish, Commit}
 use Rattle.jm_machine.specs.declared.state.Definition.{Definition}
 use Rattle.jm_machine.specs.declared.state.PlacedRow.{PlacedRow}
 use Rattle.jm_machine.specs.declared.state.Row.{Row}
 use Rattle.jm_machine.specs.declared.state.Station.{Station}
-use Rattle.jm_machine.specs.Life.{mode_of, is_started}
+use Rattle.jm_machine.specs.Life.{client_of, mode_of, is_started}
 use Rattle.jm_machine.specs.Rows.{AllAbove, InOrder, fresh, settles_at_once, sent_out, left_of, live_placed, change_placed, deliver_placed, deliver_chosen}
-use Rattle.jm_machine.specs.Machine.{State, Publisher, publisher_of, accepts, is_full, one_missed, brought, offered, with_message, with_rows, at_key, at_queue, at_queue_of, queued, without, published, AllInOrder, receive, consumer_of, key_at, made, selected_by, defined, of_session, of_connection, of_number, settled_rows, returned_rows, settled, returned, closed, with_life, is_client, held, refusal, publish_refusal, commit_refusal, after, after_commit, moved, step}
+use Rattle.jm_machine.specs.Machine.{State, durable_of, shared_of, asked, is_same, subscribed, put, joined, definition_of, station_of, Publisher, publisher_of, accepts, is_full, one_missed, brought, offered, with_message, with_rows, at_key, at_queue, at_queue_of, queued, without, published, AllInOrder, receive, consumer_of, key_at, made, selected_by, defined, of_session, of_connection, of_number, settled_rows, returned_rows, settled, returned, closed, with_life, is_client, held, refusal, publish_refusal, commit_refusal, after, after_commit, moved, step}
 use Rattle.jm_machine.specs.Isolation.{Reached}
 use Rattle.jm_machine.specs.Isolation.Reached.{New, Stepped}
 
@@ -182,7 +182,14 @@ order_given p state h = all_each state.next_place (returned_rows p) (order_retur
 
 order_made : (s : SessionId) (c : ℕ) (destination : Destination) (selector : Option (List ℕ)) (no_local : Bool) (state : State) → HasOrder state → HasOrder (made s c destination selector no_local state)
 order_made s c (Queue name) selector no_local state h = h
-order_made s c (Topic name) selector no_local state h = all_put state.next_place (Own s c) (defined name selector no_local) (without (Own s c) state.stations) (all_filter state.next_place _ state.stations h)
+order_made s c (Topic name) selector no_local state h = all_put state.next_place (Own s c) (defined name selector no_local false) (without (Own s c) state.stations) (all_filter state.next_place _ state.stations h)
+
+order_subscribed : (s : SessionId) (c : ℕ) (k : Key) (d : Definition) (state : State) → HasOrder state → HasOrder (subscribed s c k d state)
+order_subscribed s c k d state h = go (is_same (definition_of (station_of k state.stations)) d)
+  where
+    go : (b : Bool) → HasOrder (joined s c k None (cond b state (put k d state)))
+    go true = h
+    go false = all_put state.next_place k d (without k state.stations) (all_filter state.next_place _ state.stations h)
 
 order_if : (b : Bool) (x y : State) → HasOrder x → HasOrder y → HasOrder (cond b x y)
 order_if true x y p q = p
@@ -199,6 +206,10 @@ order_after state (Connection c) request h = h
 order_after state (Session s) (CreateSession mode) h = h
 order_after state (Session s) CloseSession h = order_closed (of_session s) (returned (of_session s) (with_life (Session s) CloseSession state)) (order_given (of_session s) (with_life (Session s) CloseSession state) h)
 order_after state (Session s) (CreateConsumer c destination selector no_local) h = order_made s c destination selector no_local state h
+order_after state (Session s) (CreateDurable c destination name selector no_local) h = order_subscribed s c (durable_of (client_of state.life) s name) (asked destination selector no_local false) state h
+order_after state (Session s) (CreateShared c destination name selector) h = order_subscribed s c (shared_of (client_of state.life) s name) (asked destination selector false true) state h
+order_after state (Session s) (CreateSharedDurable c destination name selector) h = order_subscribed s c (durable_of (client_of state.life) s name) (asked destination selector false true) state h
+order_after state (Session s) (Unsubscribe name) h = all_filter state.next_place _ state.stations h
 order_after state (Session s) (Receive c now) h =
     order_if (is_started state.life s.connection) (receive (selected_by (consumer_of state.consumers s c)) (left_of (mode_of state.life s) s c) now (key_at (consumer_of state.consumers s c)) state) state
     (order_received (selected_by (consumer_of state.consumers s c)) (mode_of state.life s) s c now (key_at (consumer_of state.consumers s c)) state h) h
@@ -272,6 +283,13 @@ queues_made : (s : SessionId) (c : ℕ) (destination : Destination) (selector : 
 queues_made s c (Queue name) selector no_local state h = h
 queues_made s c (Topic name) selector no_local state h = h
 
+queues_subscribed : (s : SessionId) (c : ℕ) (k : Key) (d : Definition) (state : State) → QueuesInOrder state → QueuesInOrder (subscribed s c k d state)
+queues_subscribed s c k d state h = go (is_same (definition_of (station_of k state.stations)) d)
+  where
+    go : (b : Bool) → QueuesInOrder (joined s c k None (cond b state (put k d state)))
+    go true = h
+    go false = h
+
 queues_if : (b : Bool) (x y : State) → QueuesInOrder x → QueuesInOrder y → QueuesInOrder (cond b x y)
 queues_if true x y p q = p
 queues_if false x y p q = q
@@ -287,6 +305,9 @@ queues_after state (Connection c) request h = h
 queues_after state (Session s) (CreateSession mode) h = h
 queues_after state (Session s) CloseSession h = queues_given (of_session s) (with_life (Session s) CloseSession state) h
 queues_after state (Session s) (CreateConsumer c destination selector no_local) h = queues_made s c destination selector no_local state h
+queues_after state (Session s) (CreateDurable c destination name selector no_local) h = queues_subscribed s c (durable_of (client_of state.life) s name) (asked destination selector no_local false) state h
+queues_after state (Session s) (CreateShared c destination name selector) h = queues_subscribed s c (shared_of (client_of state.life) s name) (asked destination selector false true) state h
+queues_after state (Session s) (CreateSharedDurable c destination name selector) h = queues_subscribed s c (durable_of (client_of state.life) s name) (asked destination selector false true) state h
 queues_after state (Session s) (Receive c now) h =
     queues_if (is_started state.life s.connection) (receive (selected_by (consumer_of state.consumers s c)) (left_of (mode_of state.life s) s c) now (key_at (consumer_of state.consumers s c)) state) state
     (queues_received (selected_by (consumer_of state.consumers s c)) (mode_of state.life s) s c now (key_at (consumer_of state.consumers s c)) state h) h

@@ -15,6 +15,7 @@ use Rattle.jm_machine.specs.declared.call.Call.TheVariants.{Ask, Publish, Commit
 use Rattle.jm_machine.specs.declared.call.ClientCall.{ClientCall}
 use Rattle.jm_machine.specs.declared.call.ClientCall.TheVariants.{Ask as Asks, Send, CommitSession}
 use Rattle.jm_machine.specs.declared.call.Request.{Request}
+use Rattle.jm_machine.specs.declared.call.Request.TheVariants.{Open, Start, Stop, CloseConnection, CreateSession, CloseSession, CreateConsumer, CreateDurable, CreateShared, CreateSharedDurable, Unsubscribe, CloseConsumer, Receive, Acknowledge, Recover, Rollback, Missed as AskMissed}
 use Rattle.jm_machine.specs.declared.call.Step.{Step}
 use Rattle.jm_machine.specs.declared.call.Who.{Who}
 use Rattle.jm_machine.specs.contracts.answer.AnswerPartialEq.TheImpl as answer_eq
@@ -71,7 +72,23 @@ pub who_same : (a b : Who) → Decides ((who_eq.ghosts).eq a b) (a ≡ b)
 who_same a b = (λ e. search rules, λ e. search rules)
 
 pub request_same : (a b : Request) → Decides ((request_eq.ghosts).eq a b) (a ≡ b)
-request_same a b = (λ e. search rules, λ e. search rules)
+request_same (Open client) b = (λ e. search rules, λ e. search rules)
+request_same Start b = (λ e. search rules, λ e. search rules)
+request_same Stop b = (λ e. search rules, λ e. search rules)
+request_same CloseConnection b = (λ e. search rules, λ e. search rules)
+request_same (CreateSession mode) b = (λ e. search rules, λ e. search rules)
+request_same CloseSession b = (λ e. search rules, λ e. search rules)
+request_same (CreateConsumer c destination selector no_local) b = (λ e. search rules, λ e. search rules)
+request_same (CreateDurable c destination name selector no_local) b = (λ e. search rules, λ e. search rules)
+request_same (CreateShared c destination name selector) b = (λ e. search rules, λ e. search rules)
+request_same (CreateSharedDurable c destination name selector) b = (λ e. search rules, λ e. search rules)
+request_same (Unsubscribe name) b = (λ e. search rules, λ e. search rules)
+request_same (CloseConsumer c) b = (λ e. search rules, λ e. search rules)
+request_same (Receive c now) b = (λ e. search rules, λ e. search rules)
+request_same Acknowledge b = (λ e. search rules, λ e. search rules)
+request_same Recover b = (λ e. search rules, λ e. search rules)
+request_same Rollback b = (λ e. search rules, λ e. search rules)
+request_same (AskMissed c) b = (λ e. search rules, λ e. search rules)
 
 pub call_same : (a b : Call) → Decides ((call_eq.ghosts).eq a b) (a ≡ b)
 call_same (Ask a) (Ask b) = Decides-like _ (λ e. ap Ask e) (λ e. cc) (request_same a b)

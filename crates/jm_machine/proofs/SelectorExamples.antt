@@ -126,11 +126,11 @@ unfolding selector_refusal
 positive_allowed = ap read_refusal positive_read
 
 abbrev positive_definition : Definition
-positive_definition = record { topic = topic; selector = Some positive; no_local = false }
+positive_definition = record { topic = topic; selector = Some positive; no_local = false; shared = false }
 
-positive_defined : defined topic (Some positive) false ≡ positive_definition
+positive_defined : defined topic (Some positive) false false ≡ positive_definition
 unfolding defined
-positive_defined = ap (λ (r : Result (Option Tree) SyntaxFault). record { topic = topic; selector = standing (Some positive) r; no_local = false }) positive_read
+positive_defined = ap (λ (r : Result (Option Tree) SyntaxFault). record { topic = topic; selector = standing (Some positive) r; no_local = false; shared = false }) positive_read
 
 -- a message of the publisher
 abbrev sent : Settings → ℕ → Content
@@ -220,7 +220,7 @@ made = ap (λ (o : Option Refusal). replied o Done) positive_allowed
 makes : progress_to begins (selecting 1 positive) ≡ holding positive_definition [] 0
 unfolding refusal after_call step progress_to
 makes =
-    ap (λ (o : Option Refusal). record begins { state = moved o (record (holding (defined topic (Some positive) false) [] 0).state { opening = 1 }) begins.state }) positive_allowed
+    ap (λ (o : Option Refusal). record begins { state = moved o (record (holding (defined topic (Some positive) false false) [] 0).state { opening = 1 }) begins.state }) positive_allowed
     ∙ ap (λ (d : Definition). holding d [] 0) positive_defined
 
 -- what a send leaves, by whether it is accepted

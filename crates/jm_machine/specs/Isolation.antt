@@ -1,5 +1,5 @@
 -- The law of isolation: to its own sessions a subscription answers what it would answer alone.
-use Rattle.std.specs.Prelude.{◌≡◌, ℕ, ◌&&◌, ◌||◌, not, Bool, true, false, List, [], ◌∷◌, map, Result}
+use Rattle.std.specs.Prelude.{◌≡◌, ℕ, ◌&&◌, ◌||◌, not, Bool, true, false, List, [], ◌∷◌, map, Option, Some, None, Result}
 use Rattle.std.specs.List.{list_all}
 use Rattle.jm_base.specs.declared.refusal.Refusal.{Refusal}
 use Rattle.jm_dest.specs.declared.key.Key.{Key}
@@ -10,12 +10,17 @@ use Rattle.jm_machine.specs.declared.call.Who.{Who}
 use Rattle.jm_machine.specs.declared.call.Call.{Call}
 use Rattle.jm_machine.specs.declared.call.ClientCall.{ClientCall}
 use Rattle.jm_machine.specs.declared.answer.Answer.{Answer}
+use Rattle.jm_machine.specs.declared.call.Who.TheVariants.{Session}
+use Rattle.jm_machine.specs.declared.call.Request.TheVariants.{CreateSharedDurable}
+use Rattle.jm_machine.specs.declared.state.Consumer.{Consumer}
+use Rattle.jm_machine.specs.declared.state.Definition.{Definition}
 use Rattle.jm_machine.specs.declared.entry.Entry.{Entry}
+use Rattle.jm_machine.specs.declared.entry.Entry.TheVariants.{Asked}
 use Rattle.jm_machine.specs.declared.entry.Event.{Event}
-use Rattle.jm_machine.specs.Machine.{State, new_core, has_number, reply, step}
+use Rattle.jm_machine.specs.Machine.{State, new_core, station_of, definition_of, durable_of, has_number, reply, step}
 use Rattle.jm_machine.specs.Client.{Progress, begun, RepliesFit, RunOwed}
 use Rattle.jm_machine.specs.Entries.{entries_of, expand}
-use Rattle.jm_machine.specs.Lone.{Lone, Item, creates, entry_names, scope_of, lone_of, lone_replies, feed, replies_in}
+use Rattle.jm_machine.specs.Lone.{Scope, Lone, Item, clients_in, names_key, number_made, creates, entry_names, scope_of, lone_of, lone_replies, feed, replies_in}
 
 -- the states that the provider reaches: from a new core, by steps of any kind
 pub data Reached : State → Type 0 where
@@ -23,21 +28,61 @@ pub data Reached : State → Type 0 where
   Stepped : (state : State) → (who : Who) → (call : Call) → Reached state → Reached (step state who call)
 
 -- a creating call that names the number names the key
-abbrev pub names_no_other : Key → SessionId → ℕ → Entry → Bool
-names_no_other key s c e = not (creates s c e) || entry_names key e
+abbrev pub names_no_other : Key → (ℕ → Option (List ℕ)) → SessionId → ℕ → Entry → Bool
+names_no_other key clients s c e = not (creates s c e) || entry_names key clients e
 
--- the key is that of an unshared topic subscription, and its consumer's number names nothing else, in the opening or by a
--- creating call, whether that was accepted or not
+-- the number names nothing but the key, in the opening or by a creating call, whether that was accepted or not
+abbrev pub keeps_number : Key → State → List Entry → SessionId → ℕ → Bool
+keeps_number key opening entries s c =
+    list_all (λ x. not (has_number s c x) || key_eq x.key key) opening.consumers && list_all (names_no_other key (clients_in opening entries) s c) entries
+
+-- so does a number that may be absent
+abbrev pub keeps_made : Key → State → List Entry → SessionId → Option ℕ → Bool
+keeps_made key opening entries s None = true
+keeps_made key opening entries s (Some c) = keeps_number key opening entries s c
+
+-- where an entry is a creating call that names the key, its number names nothing else
+abbrev pub keeps_named : Key → State → List Entry → Entry → Bool
+keeps_named key opening entries (Asked (Session s) request told) = not (names_key key (clients_in opening entries) s request) || keeps_made key opening entries s (number_made request)
+keeps_named key opening entries _ = true
+
+-- where a consumer of the opening is the key's, its number names nothing else
+abbrev pub keeps_consumer : Key → State → List Entry → Consumer → Bool
+keeps_consumer key opening entries x = not (key_eq x.key key) || keeps_number key opening entries x.session x.id
+
+-- there is a subscription, and it is shared
+abbrev pub is_shared : Option Definition → Bool
+is_shared None = false
+is_shared (Some d) = d.shared
+
+-- the entry does not ask for a shared durable subscription of the key
+abbrev pub asks_no_shared : Key → (ℕ → Option (List ℕ)) → Entry → Bool
+asks_no_shared key clients (Asked (Session s) (CreateSharedDurable c destination name selector) told) = not (key_eq (durable_of clients s name) key)
+asks_no_shared key clients _ = true
+
+-- the key is that of an unshared topic subscription: a consumer's own, whose number names nothing else; or a durable one of
+-- a client, that is not shared in the opening, and that no call asks for as a shared one
 abbrev pub is_unshared : Key → State → List Entry → Bool
 is_unshared (OfQueue name) opening entries = false
-is_unshared (Own s c) opening entries =
-    list_all (λ x. not (has_number s c x) || key_eq x.key (Own s c)) opening.consumers && list_all (names_no_other (Own s c) s c) entries
+is_unshared (Own s c) opening entries = keeps_number (Own s c) opening entries s c
 is_unshared (SharedOwn client name) opening entries = false
-is_unshared (Durable client name) opening entries = false
+is_unshared (Durable None name) opening entries = false
+is_unshared (Durable (Some client) name) opening entries =
+    not (is_shared (definition_of (station_of (Durable (Some client) name) opening.stations))) && list_all (asks_no_shared (Durable (Some client) name) (clients_in opening entries)) entries
+
+-- the numbers with which the key's consumers are made, or were in the opening, name nothing else; of a consumer's own key
+-- that is said already
+abbrev pub keeps_numbers : Key → State → List Entry → Bool
+keeps_numbers (OfQueue name) opening entries = true
+keeps_numbers (Own s c) opening entries = true
+keeps_numbers (SharedOwn client name) opening entries = true
+keeps_numbers (Durable client name) opening entries =
+    list_all (keeps_consumer (Durable client name) opening entries) opening.consumers && list_all (keeps_named (Durable client name) opening entries) entries
 
 -- the premises of the law at a key, for what a list of calls or events leaves in the record
 pub record Premises (key : Key) (opening : State) (entries : List Entry) : Type 0 where
   pub unshared : is_unshared key opening entries ≡ true
+  pub numbers : keeps_numbers key opening entries ≡ true
   pub reached : Reached opening
 
 -- the replies to the key's calls in the record of a run, each with its place in it
@@ -72,6 +117,7 @@ IsolationFrom opening =
     (calls : List ClientCall) (replies : List (Result Answer Refusal)) (end : Progress) (key : Key) →
     RepliesFit (begun opening) calls replies end →
     is_unshared key opening (entries_of opening.opening calls replies) ≡ true →
+    keeps_numbers key opening (entries_of opening.opening calls replies) ≡ true →
     answered key opening (entries_of opening.opening calls replies) ≡ alone key opening (entries_of opening.opening calls replies)
 
 -- Replies that fit a list of calls lead from a state that the provider reaches to one that it reaches, so
@@ -104,6 +150,13 @@ IsolationOfEvents =
 abbrev pub in_order : {A : Type 0} → List (ℕ × A) → List A
 in_order things = map (λ x. x.1) things
 
+-- what belongs to the key is the same in two worlds: of a durable one; of a consumer's own key it is seen from the feeds
+abbrev pub SameScope : Key → Scope → Scope → Type 0
+SameScope (OfQueue name) one other = Unit {0}
+SameScope (Own s c) one other = Unit {0}
+SameScope (SharedOwn client name) one other = Unit {0}
+SameScope (Durable client name) one other = one ≡ other
+
 -- Two worlds: where two lists of calls feed the key's subscription alike, whatever else is in them, from openings that
 -- agree on what it starts with, its sessions get the same replies in the same order. So what others send in transactions
 -- that are not committed, what it does not accept, and all that concerns others alone, changes nothing.
@@ -112,6 +165,7 @@ TwoWorlds =
     (one other : State) (calls others : List ClientCall) (replies told : List (Result Answer Refusal)) (end finish : Progress) (key : Key) →
     RepliesFit (begun one) calls replies end → Premises key one (entries_of one.opening calls replies) →
     RepliesFit (begun other) others told finish → Premises key other (entries_of other.opening others told) →
+    SameScope key (scope_of key one (entries_of one.opening calls replies)) (scope_of key other (entries_of other.opening others told)) →
     starts_with key one (entries_of one.opening calls replies) ≡ starts_with key other (entries_of other.opening others told) →
     in_order (feed_of key one (entries_of one.opening calls replies)) ≡ in_order (feed_of key other (entries_of other.opening others told)) →
     in_order (answered key one (entries_of one.opening calls replies)) ≡ in_order (answered key other (entries_of other.opening others told))

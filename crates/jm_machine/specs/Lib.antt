@@ -2,9 +2,13 @@ pub mod Owns
 pub mod Life
 pub mod Rows
 pub mod Machine
+pub mod Attached
 pub mod Wants
 pub mod Entries
 pub mod Client
 pub mod Lone
 pub mod Isolation
 pub mod Examples
+pub mod SubscriptionExamples
+pub mod Places
+pub mod Queues

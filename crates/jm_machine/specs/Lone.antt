@@ -12,35 +12,110 @@ use Rattle.jm_header.specs.declared.content.Content.{Content}
 use Rattle.jm_machine.specs.declared.call.Who.{Who}
 use Rattle.jm_machine.specs.declared.call.Who.TheVariants.{Connection, Session}
 use Rattle.jm_machine.specs.declared.call.Request.{Request}
-use Rattle.jm_machine.specs.declared.call.Request.TheVariants.{CloseConnection, CreateSession, CloseSession, CreateConsumer, CloseConsumer, Receive, Acknowledge, Recover, Rollback, Missed}
+use Rattle.jm_machine.specs.declared.call.Request.TheVariants.{Open, CloseConnection, CreateSession, CloseSession, CreateConsumer, CreateDurable, CreateShared, CreateSharedDurable, Unsubscribe, CloseConsumer, Receive, Acknowledge, Recover, Rollback, Missed}
 use Rattle.jm_machine.specs.declared.answer.Answer.{Answer}
 use Rattle.jm_machine.specs.declared.entry.Entry.{Entry}
 use Rattle.jm_machine.specs.declared.entry.Entry.TheVariants.{Asked, Sent, Committed}
 use Rattle.jm_machine.specs.declared.state.Row.{Row}
+use Rattle.jm_machine.specs.declared.state.RowState.{RowState}
+use Rattle.jm_machine.specs.declared.state.RowState.TheVariants.{Waiting, Out}
+use Rattle.jm_machine.specs.declared.state.ConnectionState.{ConnectionState}
 use Rattle.jm_machine.specs.declared.state.Consumer.{Consumer}
 use Rattle.jm_machine.specs.declared.state.Definition.{Definition}
 use Rattle.jm_machine.specs.Owns.{is_own, is_own_connection}
-use Rattle.jm_machine.specs.Life.{Life, mode_of, is_started, life_after, own_life}
+use Rattle.jm_machine.specs.Life.{Life, connection_of, mode_of, is_started, life_after, own_life}
 use Rattle.jm_machine.specs.Rows.{fresh, left_of, is_out, given_back, deliver}
-use Rattle.jm_machine.specs.Machine.{State, station_of, definition_of, missed_of, rows_of, Publisher, publisher_of, accepts, is_full, one_missed, consumer_of, key_made, new_consumer, defined, of_session, of_connection, of_number, closed_consumer, ends, is_client, is_transacted, Holding, refusal, reply_by}
+use Rattle.jm_machine.specs.Machine.{State, station_of, definition_of, missed_of, rows_of, Publisher, publisher_of, accepts, is_full, one_missed, consumer_of, durable_of, key_created, is_same, asked, new_consumer, defined, of_session, of_connection, of_number, closed_consumer, ends, is_client, is_transacted, Holding, refusal, reply_by}
 use Rattle.jm_machine.specs.Entries.{life_after_entry, committed}
 
--- what belongs to an unshared topic subscription: its key, its own sessions, and its consumers' numbers
+-- what belongs to an unshared topic subscription: its key, its own sessions, the clients of their connections, and its
+-- consumers' numbers
 pub record Scope : Type 0 where
   pub key : Key
   pub sessions : List SessionId
+  pub clients : ℕ → Option (List ℕ)
   pub numbers : SessionId → ℕ → Bool
 
--- the own sessions of a key: of a consumer's subscription the consumer's session
-abbrev pub own_sessions : Key → List SessionId
-own_sessions (OfQueue name) = []
-own_sessions (Own s c) = s ∷ []
-own_sessions (SharedOwn client name) = []
-own_sessions (Durable client name) = []
+-- the client with which a connection is opened in a list of entries
+abbrev pub client_opened : List Entry → ℕ → Option (List ℕ)
+client_opened [] c = None
+client_opened (Asked (Connection d) (Open client) told ∷ entries) c = if (d == c) && is_ok told then client else client_opened entries c
+client_opened (e ∷ entries) c = client_opened entries c
+
+-- the client of a connection that was opened before, where it is open; else the one with which it is opened later
+abbrev pub client_or : Option ConnectionState → Option (List ℕ) → Option (List ℕ)
+client_or None later = later
+client_or (Some x) later = if x.is_open then x.client else None
+
+-- the client with which a connection is open in the opening, or is opened in the list
+abbrev pub clients_in : State → List Entry → ℕ → Option (List ℕ)
+clients_in opening entries c = client_or (connection_of opening.life.connections c) (client_opened entries c)
+
+-- a key that may be absent is there, and is that one
+abbrev pub is_key : Key → Option Key → Bool
+is_key key None = false
+is_key key (Some other) = key_eq other key
+
+-- a session's creating request names the key by its own words, the connections having these clients
+abbrev pub names_key : Key → (ℕ → Option (List ℕ)) → SessionId → Request → Bool
+names_key key clients s request = is_key key (key_created clients s request)
+
+-- a session's request to delete a durable subscription names the key
+abbrev pub deletes_key : Key → (ℕ → Option (List ℕ)) → SessionId → List ℕ → Bool
+deletes_key key clients s name = key_eq (durable_of clients s name) key
+
+-- the request asks for the unshared durable subscription of the key, or to delete it
+abbrev pub asks_for : Key → (ℕ → Option (List ℕ)) → SessionId → Request → Bool
+asks_for key clients s (CreateDurable c destination name selector no_local) = names_key key clients s (CreateDurable c destination name selector no_local)
+asks_for key clients s (Unsubscribe name) = deletes_key key clients s name
+asks_for key clients s _ = false
+
+-- the sessions that ask so
+abbrev pub askers : Key → (ℕ → Option (List ℕ)) → List Entry → List SessionId
+askers key clients [] = []
+askers key clients (Asked (Session s) request told ∷ entries) = if asks_for key clients s request then s ∷ askers key clients entries else askers key clients entries
+askers key clients (e ∷ entries) = askers key clients entries
+
+-- the sessions of the key's consumers
+abbrev pub consuming : Key → List Consumer → List SessionId
+consuming key consumers = map (λ x. x.session) (filter (λ x. key_eq x.key key) consumers)
+
+-- the session to which a row is out
+abbrev pub out_to : RowState → List SessionId
+out_to Waiting = []
+out_to (Out s c) = s ∷ []
+
+-- the sessions to which rows are out
+abbrev pub holding_rows : List Row → List SessionId
+holding_rows [] = []
+holding_rows (r ∷ rows) = out_to r.state ++ holding_rows rows
+
+-- the own sessions of a key: of a consumer's subscription the consumer's session; of a durable one those that in the
+-- opening have a consumer or a row of it, and those that in the list ask for it
+abbrev pub own_sessions : Key → State → List Entry → List SessionId
+own_sessions (OfQueue name) opening entries = []
+own_sessions (Own s c) opening entries = s ∷ []
+own_sessions (SharedOwn client name) opening entries = []
+own_sessions (Durable client name) opening entries =
+    consuming (Durable client name) opening.consumers ++ (holding_rows (rows_of (station_of (Durable client name) opening.stations)) ++ askers (Durable client name) (clients_in opening entries) entries)
+
+-- the clients of own connections
+abbrev pub own_clients : List SessionId → (ℕ → Option (List ℕ)) → ℕ → Option (List ℕ)
+own_clients sessions clients c = if is_own_connection sessions c then clients c else None
+
+-- the clients by which a key is named: of a durable one those of own connections; of a consumer's own key none
+abbrev pub clients_of : Key → State → List Entry → ℕ → Option (List ℕ)
+clients_of (OfQueue name) opening entries c = None
+clients_of (Own t d) opening entries c = None
+clients_of (SharedOwn client name) opening entries c = None
+clients_of (Durable client name) opening entries c = own_clients (own_sessions (Durable client name) opening entries) (clients_in opening entries) c
 
 -- the number that a creating request gives to its consumer
 abbrev pub number_made : Request → Option ℕ
 number_made (CreateConsumer c destination selector no_local) = Some c
+number_made (CreateDurable c destination name selector no_local) = Some c
+number_made (CreateShared c destination name selector) = Some c
+number_made (CreateSharedDurable c destination name selector) = Some c
 number_made _ = None
 
 -- a number that may be absent is there, and is that one
@@ -53,20 +128,15 @@ abbrev pub creates : SessionId → ℕ → Entry → Bool
 creates s c (Asked (Session t) request told) = session_eq t s && is_number c (number_made request)
 creates s c _ = false
 
--- a session's creating request names the key by its own words
-abbrev pub names_key : Key → SessionId → Request → Bool
-names_key key s (CreateConsumer c destination selector no_local) = key_eq (key_made s c destination) key
-names_key key s _ = false
-
 -- the entry is a creating call that names the key
-abbrev pub entry_names : Key → Entry → Bool
-entry_names key (Asked (Session s) request told) = names_key key s request
-entry_names key _ = false
+abbrev pub entry_names : Key → (ℕ → Option (List ℕ)) → Entry → Bool
+entry_names key clients (Asked (Session s) request told) = names_key key clients s request
+entry_names key clients _ = false
 
 -- of the creating calls that name the number the first names the key; of none nothing is said
-abbrev pub first_named : Key → List Entry → SessionId → ℕ → Bool
-first_named key [] s c = false
-first_named key (e ∷ entries) s c = if creates s c e then entry_names key e else first_named key entries s c
+abbrev pub first_named : Key → (ℕ → Option (List ℕ)) → List Entry → SessionId → ℕ → Bool
+first_named key clients [] s c = false
+first_named key clients (e ∷ entries) s c = if creates s c e then entry_names key clients e else first_named key clients entries s c
 
 -- the consumer of the opening, where there is one, else what is said of the entries, names the key
 abbrev pub named_by : Key → Option Consumer → Bool → Bool
@@ -76,19 +146,24 @@ named_by key (Some x) later = key_eq x.key key
 -- the number was made for the key: by its consumer in the opening, else by the first creating call among
 -- the entries that names it
 abbrev pub is_made_for : Key → State → List Entry → SessionId → ℕ → Bool
-is_made_for key opening entries s c = named_by key (consumer_of opening.consumers s c) (first_named key entries s c)
+is_made_for key opening entries s c = named_by key (consumer_of opening.consumers s c) (first_named key (clients_in opening entries) entries s c)
 
--- the consumers' numbers that belong to a key: those that were made for it; of a consumer's own key that
+-- the consumers' numbers that belong to a key: those of own sessions that were made for it; of a consumer's own key that
 -- consumer's alone
 abbrev pub numbers_of : Key → State → List Entry → SessionId → ℕ → Bool
 numbers_of (OfQueue name) opening entries s c = false
 numbers_of (Own t d) opening entries s c = session_eq s t && (c == d) && is_made_for (Own t d) opening entries s c
 numbers_of (SharedOwn client name) opening entries s c = false
-numbers_of (Durable client name) opening entries s c = false
+numbers_of (Durable client name) opening entries s c = is_own (own_sessions (Durable client name) opening entries) s && is_made_for (Durable client name) opening entries s c
 
 -- what belongs to the key, in an opening and a list of entries
 abbrev pub scope_of : Key → State → List Entry → Scope
-scope_of key opening entries = record { key = key; sessions = own_sessions key; numbers = numbers_of key opening entries }
+scope_of key opening entries = record {
+  key = key;
+  sessions = own_sessions key opening entries;
+  clients = clients_of key opening entries;
+  numbers = numbers_of key opening entries;
+}
 
 -- what one subscription holds: the limit of its rows, its own connections and sessions, its consumers, its
 -- definition, how many publications it missed, and its rows
@@ -150,7 +225,11 @@ lone_joined s c key lone = record lone { consumers = lone.consumers ++ new_consu
 -- a consumer of the topic is made, with a new subscription; one of a queue is no consumer of a subscription
 abbrev pub lone_made : Key → SessionId → ℕ → Destination → Option (List ℕ) → Bool → Lone → Lone
 lone_made key s c (Queue name) selector no_local lone = lone
-lone_made key s c (Topic name) selector no_local lone = lone_joined s c key (lone_put (defined name selector no_local) lone)
+lone_made key s c (Topic name) selector no_local lone = lone_joined s c key (lone_put (defined name selector no_local false) lone)
+
+-- a consumer attaches to it where it asks for the same; else it is made anew
+abbrev pub lone_subscribed : SessionId → ℕ → Key → Definition → Lone → Lone
+lone_subscribed s c key d lone = lone_joined s c key (if is_same lone.definition d then lone else lone_put d lone)
 
 -- a consumer receives
 abbrev pub lone_receive : (Row → List Row) → ℕ → Lone → Lone
@@ -163,6 +242,8 @@ lone_did key lone (Connection c) request = lone_life (Connection c) request lone
 lone_did key lone (Session s) (CreateSession mode) = lone_life (Session s) (CreateSession mode) lone
 lone_did key lone (Session s) CloseSession = lone_closed key (of_session s) (lone_returned (of_session s) (lone_life (Session s) CloseSession lone))
 lone_did key lone (Session s) (CreateConsumer c destination selector no_local) = lone_made key s c destination selector no_local lone
+lone_did key lone (Session s) (CreateDurable c destination name selector no_local) = lone_subscribed s c key (asked destination selector no_local false) lone
+lone_did key lone (Session s) (Unsubscribe name) = lone_ended lone
 lone_did key lone (Session s) (Receive c now) = if is_started lone.life s.connection then lone_receive (left_of (mode_of lone.life s) s c) now lone else lone
 lone_did key lone (Session s) (CloseConsumer c) = lone_closed key (of_number s c) lone
 lone_did key lone (Session s) Acknowledge = if is_client (mode_of lone.life s) then lone_settled (of_session s) lone else lone
@@ -174,10 +255,14 @@ lone_did key lone (Session s) _ = lone
 abbrev pub belongs : Scope → SessionId → ℕ → Bool
 belongs scope s c = is_own scope.sessions s && scope.numbers s c
 
--- whether a request that creates a consumer names the key by its own words, and whether one that names a
--- consumer names one of the key's; of any other request nothing
+-- whether a request that creates a consumer, or deletes a subscription, names the key by its own words, and whether one
+-- that names a consumer names one of the key's; of any other request nothing
 abbrev pub about : Scope → SessionId → Request → Option Bool
-about scope s (CreateConsumer c destination selector no_local) = Some (is_own scope.sessions s && names_key scope.key s (CreateConsumer c destination selector no_local))
+about scope s (CreateConsumer c destination selector no_local) = Some (is_own scope.sessions s && names_key scope.key scope.clients s (CreateConsumer c destination selector no_local))
+about scope s (CreateDurable c destination name selector no_local) = Some (is_own scope.sessions s && names_key scope.key scope.clients s (CreateDurable c destination name selector no_local))
+about scope s (CreateShared c destination name selector) = Some (is_own scope.sessions s && names_key scope.key scope.clients s (CreateShared c destination name selector))
+about scope s (CreateSharedDurable c destination name selector) = Some (is_own scope.sessions s && names_key scope.key scope.clients s (CreateSharedDurable c destination name selector))
+about scope s (Unsubscribe name) = Some (is_own scope.sessions s && deletes_key scope.key scope.clients s name)
 about scope s (CloseConsumer c) = Some (belongs scope s c)
 about scope s (Receive c now) = Some (belongs scope s c)
 about scope s (Missed c) = Some (belongs scope s c)
@@ -193,7 +278,7 @@ abbrev pub is_true : Option Bool → Bool
 is_true None = false
 is_true (Some b) = b
 
--- the reply to a request is the subscription's: it creates it or names one of its consumers
+-- the reply to a request is the subscription's: it creates or deletes it, or names one of its consumers
 unfoldable pub is_answered : Scope → Who → Request → Bool
 is_answered scope (Connection c) request = false
 is_answered scope (Session s) request = is_true (about scope s request)

@@ -4,7 +4,7 @@ use Rattle.std.specs.List.{list_all, list_any}
 use Rattle.jm_base.specs.declared.mode.Mode.{Mode}
 use Rattle.jm_base.specs.declared.mode.Mode.TheVariants.{Auto, Client, Dups, Transacted}
 use Rattle.jm_base.specs.declared.refusal.Refusal.{Refusal}
-use Rattle.jm_base.specs.declared.refusal.Refusal.TheVariants.{IllegalState, InvalidClientId, Exhausted}
+use Rattle.jm_base.specs.declared.refusal.Refusal.TheVariants.{IllegalState, InvalidDestination, InvalidClientId, SubscriptionInUse, Exhausted}
 use Rattle.jm_dest.specs.declared.session.SessionId.{SessionId}
 use Rattle.jm_dest.specs.declared.destination.Destination.{Destination}
 use Rattle.jm_dest.specs.declared.destination.Destination.TheVariants.{Queue, Topic}
@@ -17,7 +17,7 @@ use Rattle.jm_header.specs.declared.content.Content.{Content}
 use Rattle.jm_machine.specs.declared.call.Who.{Who}
 use Rattle.jm_machine.specs.declared.call.Who.TheVariants.{Connection, Session}
 use Rattle.jm_machine.specs.declared.call.Request.{Request}
-use Rattle.jm_machine.specs.declared.call.Request.TheVariants.{Open, Start, Stop, CloseConnection, CreateSession, CloseSession, CreateConsumer, CloseConsumer, Receive, Acknowledge, Recover, Rollback, Missed}
+use Rattle.jm_machine.specs.declared.call.Request.TheVariants.{Open, Start, Stop, CloseConnection, CreateSession, CloseSession, CreateConsumer, CreateDurable, CreateShared, CreateSharedDurable, Unsubscribe, CloseConsumer, Receive, Acknowledge, Recover, Rollback, Missed}
 use Rattle.jm_machine.specs.declared.call.Call.{Call}
 use Rattle.jm_machine.specs.declared.call.Call.TheVariants.{Ask, Publish, Commit}
 use Rattle.jm_machine.specs.declared.consumers.Consumers.{Consumers}
@@ -223,8 +223,8 @@ abbrev pub standing_as : Option (List ℕ) → Option (List ℕ)
 standing_as selector = standing selector (selector_read selector)
 
 -- what a topic's subscription asks for
-unfoldable pub defined : List ℕ → Option (List ℕ) → Bool → Definition
-defined topic selector no_local = record { topic = topic; selector = standing_as selector; no_local = no_local }
+unfoldable pub defined : List ℕ → Option (List ℕ) → Bool → Bool → Definition
+defined topic selector no_local shared = record { topic = topic; selector = standing_as selector; no_local = no_local; shared = shared }
 
 -- an empty subscription of the key, in place of any other
 abbrev pub put : Key → Definition → State → State
@@ -237,7 +237,58 @@ joined s c key selector state = record state { consumers = state.consumers ++ ne
 -- a consumer of the destination is made: of a topic with a subscription of its own, to which no_local applies alone
 abbrev pub made : SessionId → ℕ → Destination → Option (List ℕ) → Bool → State → State
 made s c (Queue name) selector no_local state = joined s c (OfQueue name) (standing_as selector) state
-made s c (Topic name) selector no_local state = joined s c (Own s c) None (put (Own s c) (defined name selector no_local) state)
+made s c (Topic name) selector no_local state = joined s c (Own s c) None (put (Own s c) (defined name selector no_local false) state)
+
+-- Subscriptions that have names
+
+-- the key of the durable subscription that a session means by the name: that of its connection's client
+abbrev pub durable_of : (ℕ → Option (List ℕ)) → SessionId → List ℕ → Key
+durable_of clients s name = Durable (clients s.connection) name
+
+-- the key of the shared non-durable one
+abbrev pub shared_of : (ℕ → Option (List ℕ)) → SessionId → List ℕ → Key
+shared_of clients s name = SharedOwn (clients s.connection) name
+
+-- the key that a creating request names, the connections having these clients; none where it creates no consumer
+abbrev pub key_created : (ℕ → Option (List ℕ)) → SessionId → Request → Option Key
+key_created clients s (CreateConsumer c destination selector no_local) = Some (key_made s c destination)
+key_created clients s (CreateDurable c destination name selector no_local) = Some (durable_of clients s name)
+key_created clients s (CreateShared c destination name selector) = Some (shared_of clients s name)
+key_created clients s (CreateSharedDurable c destination name selector) = Some (durable_of clients s name)
+key_created clients s _ = None
+
+-- two marks are the same
+abbrev pub same_mark : Bool → Bool → Bool
+same_mark a b = if a then b else not b
+
+-- two selectors as they stand are the same
+abbrev pub same_selector : Option (List ℕ) → Option (List ℕ) → Bool
+same_selector None None = true
+same_selector None (Some b) = false
+same_selector (Some a) None = false
+same_selector (Some a) (Some b) = text_eq a b
+
+-- two subscriptions ask for the same
+abbrev pub same_definition : Definition → Definition → Bool
+same_definition a b = text_eq a.topic b.topic && same_selector a.selector b.selector && same_mark a.no_local b.no_local && same_mark a.shared b.shared
+
+-- there is a subscription, and it asks for that
+abbrev pub is_same : Option Definition → Definition → Bool
+is_same None d = false
+is_same (Some x) d = same_definition x d
+
+-- there is no subscription, or it is shared as that one is
+abbrev pub is_same_kind : Option Definition → Definition → Bool
+is_same_kind None d = true
+is_same_kind (Some x) d = same_mark x.shared d.shared
+
+-- a consumer attaches to the subscription where it asks for the same; else a new one takes the place of any other
+abbrev pub subscribed : SessionId → ℕ → Key → Definition → State → State
+subscribed s c key d state = joined s c key None (if is_same (definition_of (station_of key state.stations)) d then state else put key d state)
+
+-- the subscription is deleted, with its rows
+abbrev pub deleted : Key → State → State
+deleted key state = record state { stations = without key state.stations }
 
 -- Acknowledgement and closing
 
@@ -300,11 +351,16 @@ closed_consumer p x = if p x.session x.id then record x { is_active = false } el
 abbrev pub is_one_of : (SessionId → ℕ → Bool) → List Consumer → Key → Bool
 is_one_of p consumers key = list_any (λ x. key_eq x.key key && p x.session x.id) consumers
 
--- the subscription of the key ends as consumers that pass close: a consumer's own ends with it
+-- a consumer of the key is active, and is not among those that pass
+abbrev pub is_left : (SessionId → ℕ → Bool) → List Consumer → Key → Bool
+is_left p consumers key = list_any (λ x. key_eq x.key key && (x.is_active && not (p x.session x.id))) consumers
+
+-- the subscription of the key ends as consumers that pass close: a consumer's own ends with it, and a shared one that is
+-- not durable with its last active one
 abbrev pub ends : (SessionId → ℕ → Bool) → List Consumer → Key → Bool
 ends p consumers (OfQueue name) = false
 ends p consumers (Own s c) = is_one_of p consumers (Own s c)
-ends p consumers (SharedOwn client name) = false
+ends p consumers (SharedOwn client name) = not (is_left p consumers (SharedOwn client name))
 ends p consumers (Durable client name) = false
 
 -- the consumers that pass close; what is out through them stays out to their sessions, where no subscription ends
@@ -353,6 +409,10 @@ holding_at p (Some key) state = holding_of p key state
 -- none
 abbrev pub key_named : Life → List Consumer → Who → Request → Option Key
 key_named life consumers (Session s) (CreateConsumer c destination selector no_local) = Some (key_made s c destination)
+key_named life consumers (Session s) (CreateDurable c destination name selector no_local) = Some (durable_of (client_of life) s name)
+key_named life consumers (Session s) (CreateShared c destination name selector) = Some (shared_of (client_of life) s name)
+key_named life consumers (Session s) (CreateSharedDurable c destination name selector) = Some (durable_of (client_of life) s name)
+key_named life consumers (Session s) (Unsubscribe name) = Some (durable_of (client_of life) s name)
 key_named life consumers (Session s) (Receive c now) = key_at (consumer_of consumers s c)
 key_named life consumers (Session s) (Missed c) = key_at (consumer_of consumers s c)
 key_named life consumers _ _ = None
@@ -382,6 +442,46 @@ first_cause (Some r) later = Some r
 abbrev pub may_begin : Life → List Consumer → SessionId → ℕ → Bool
 may_begin life consumers s c = is_some (mode_of life s) && not (is_some (consumer_of consumers s c))
 
+-- a consumer of a topic is asked for
+abbrev pub is_of_topic : Destination → Bool
+is_of_topic (Queue name) = false
+is_of_topic (Topic name) = true
+
+-- the name of a destination
+abbrev pub name_of : Destination → List ℕ
+name_of (Queue name) = name
+name_of (Topic name) = name
+
+-- what a subscription of the destination asks for
+abbrev pub asked : Destination → Option (List ℕ) → Bool → Bool → Definition
+asked destination selector no_local shared = defined (name_of destination) selector no_local shared
+
+-- no consumer of the key is active
+abbrev pub is_idle : Holding → Bool
+is_idle holding = not (list_any (λ x. x.is_active) holding.consumers)
+
+-- no row of the key is out, to whichever session
+abbrev pub is_home : Holding → Bool
+is_home holding = not (list_any (λ r. is_out (λ s c. true) r) holding.rows)
+
+-- no consumer of the key is active, and no row out
+abbrev pub is_free : Holding → Bool
+is_free holding = is_idle holding && is_home holding
+
+-- an unshared durable subscription may be had: its name is that of no shared one, no consumer is active, and where it asks
+-- for another thing no row is out
+abbrev pub may_resume : Option Definition → Bool → Bool → Definition → Bool
+may_resume held idle home d = is_same_kind held d && (idle && (is_same held d || home))
+
+-- a shared durable subscription may be had: its name is that of no unshared one, and where it asks for another thing no
+-- consumer is active and no row out
+abbrev pub may_join : Option Definition → Bool → Bool → Definition → Bool
+may_join held idle home d = is_same_kind held d && (is_same held d || (idle && home))
+
+-- a shared subscription that is not durable may be had: there is none, or it asks for the same
+abbrev pub may_share : Option Definition → Bool → Bool → Definition → Bool
+may_share held idle home d = not (is_some held) || is_same held d
+
 -- a session may be closed: it was opened, or its connection is closed; closing it again does nothing
 abbrev pub may_close_session : Life → SessionId → Bool
 may_close_session life s = is_some (session_of life.sessions s) || is_closed_connection (connection_of life.connections s.connection)
@@ -409,6 +509,10 @@ abbrev pub is_untransacted : Option Mode → Bool
 is_untransacted None = false
 is_untransacted (Some mode) = not (is_transacted (Some mode))
 
+-- why a subscription of the destination is refused, after the causes that are seen before
+abbrev pub subscription_refusal : Destination → Option (List ℕ) → Bool → Option Refusal
+subscription_refusal destination selector may = first_cause (unless (is_of_topic destination) InvalidDestination) (first_cause (selector_refusal selector) (unless may SubscriptionInUse))
+
 -- why a request is refused, by the connections and sessions, the consumers, and what is held of the key
 -- that it names; none where it is not
 unfoldable pub refusal : Life → List Consumer → Holding → Who → Request → Option Refusal
@@ -419,6 +523,12 @@ refusal life consumers holding (Connection c) CloseConnection = unless (is_some 
 refusal life consumers holding (Session s) (CreateSession mode) = unless (is_new_session life s) IllegalState
 refusal life consumers holding (Session s) CloseSession = unless (may_close_session life s) IllegalState
 refusal life consumers holding (Session s) (CreateConsumer c destination selector no_local) = first_cause (unless (may_begin life consumers s c) IllegalState) (selector_refusal selector)
+refusal life consumers holding (Session s) (CreateDurable c destination name selector no_local) =
+    first_cause (unless (may_begin life consumers s c && is_some (client_of life s.connection)) IllegalState) (subscription_refusal destination selector (may_resume holding.definition (is_idle holding) (is_home holding) (asked destination selector no_local false)))
+refusal life consumers holding (Session s) (CreateShared c destination name selector) = first_cause (unless (may_begin life consumers s c) IllegalState) (subscription_refusal destination selector (may_share holding.definition (is_idle holding) (is_home holding) (asked destination selector false true)))
+refusal life consumers holding (Session s) (CreateSharedDurable c destination name selector) = first_cause (unless (may_begin life consumers s c) IllegalState) (subscription_refusal destination selector (may_join holding.definition (is_idle holding) (is_home holding) (asked destination selector false true)))
+refusal life consumers holding (Session s) (Unsubscribe name) =
+    first_cause (unless (is_some (mode_of life s)) IllegalState) (first_cause (unless (is_some holding.definition) InvalidDestination) (unless (is_free holding) SubscriptionInUse))
 refusal life consumers holding (Session s) (CloseConsumer c) = unless (may_close_consumer life consumers s c) IllegalState
 refusal life consumers holding (Session s) (Receive c now) = unless (may_use life consumers s c) IllegalState
 refusal life consumers holding (Session s) Acknowledge = unless (is_some (mode_of life s)) IllegalState
@@ -485,6 +595,10 @@ after state (Connection c) request = with_life (Connection c) request state
 after state (Session s) (CreateSession mode) = with_life (Session s) (CreateSession mode) state
 after state (Session s) CloseSession = closed (of_session s) (returned (of_session s) (with_life (Session s) CloseSession state))
 after state (Session s) (CreateConsumer c destination selector no_local) = made s c destination selector no_local state
+after state (Session s) (CreateDurable c destination name selector no_local) = subscribed s c (durable_of (client_of state.life) s name) (asked destination selector no_local false) state
+after state (Session s) (CreateShared c destination name selector) = subscribed s c (shared_of (client_of state.life) s name) (asked destination selector false true) state
+after state (Session s) (CreateSharedDurable c destination name selector) = subscribed s c (durable_of (client_of state.life) s name) (asked destination selector false true) state
+after state (Session s) (Unsubscribe name) = deleted (durable_of (client_of state.life) s name) state
 after state (Session s) (Receive c now) =
     if is_started state.life s.connection
     then receive (selected_by (consumer_of state.consumers s c)) (left_of (mode_of state.life s) s c) now (key_at (consumer_of state.consumers s c)) state

@@ -9,15 +9,15 @@ use Rattle.jm_header.specs.declared.content.Content.{Content}
 use Rattle.jm_machine.specs.declared.call.Who.{Who}
 use Rattle.jm_machine.specs.declared.call.Who.TheVariants.{Connection, Session}
 use Rattle.jm_machine.specs.declared.call.Request.{Request}
-use Rattle.jm_machine.specs.declared.call.Request.TheVariants.{Open, CreateSession, CreateConsumer, Receive}
+use Rattle.jm_machine.specs.declared.call.Request.TheVariants.{Open, CreateSession, CreateConsumer, CreateDurable, CreateShared, CreateSharedDurable, Unsubscribe, Receive}
 use Rattle.jm_machine.specs.declared.call.Call.{Call}
 use Rattle.jm_machine.specs.declared.call.Call.TheVariants.{Ask, Publish, Commit}
 use Rattle.jm_machine.specs.declared.answer.Answer.{Answer}
 use Rattle.jm_machine.specs.declared.state.PlacedRow.{PlacedRow}
 use Rattle.jm_machine.specs.declared.state.Station.{Station}
-use Rattle.jm_machine.specs.Life.{connection_of, is_client_taken, is_new_session, is_started, mode_of}
+use Rattle.jm_machine.specs.Life.{client_of, connection_of, is_client_taken, is_new_session, is_started, mode_of}
 use Rattle.jm_machine.specs.Rows.{bare, is_next, is_next_chosen, live, live_placed, settles_at_once}
-use Rattle.jm_machine.specs.Machine.{State, consumer_of, key_at, may_begin, publish_refusal, commit_refusal, selected_by, station_of}
+use Rattle.jm_machine.specs.Machine.{State, is_of_topic, consumer_of, key_at, may_begin, publish_refusal, commit_refusal, selected_by, station_of}
 
 -- a reply that says that memory was wanted
 abbrev pub is_want : Result Answer Refusal → Bool
@@ -60,12 +60,16 @@ is_next_copied mode now p (Some (Durable client name)) state = is_copied mode st
 
 -- a request takes memory where it opens a connection or a session, or makes a consumer, and none of the causes
 -- stands that are seen before: a consumer's selector is parsed, so a want of memory may come in place of its
--- refusal. A receive takes memory where it hands out a copy of a message that is still held after it. To start and
+-- refusal, and of each later one. To delete a subscription takes memory in an open session, to look for its name. A receive takes memory where it hands out a copy of a message that is still held after it. To start and
 -- to stop, to close, to acknowledge, to recover and to roll back takes none
 abbrev pub takes_memory : State → Who → Request → Bool
 takes_memory state (Connection c) (Open client) = not (is_some (connection_of state.life.connections c)) && not (is_client_taken state.life client)
 takes_memory state (Session s) (CreateSession mode) = is_new_session state.life s
 takes_memory state (Session s) (CreateConsumer c destination selector no_local) = may_begin state.life state.consumers s c
+takes_memory state (Session s) (CreateDurable c destination name selector no_local) = may_begin state.life state.consumers s c && is_some (client_of state.life s.connection) && is_of_topic destination
+takes_memory state (Session s) (CreateShared c destination name selector) = may_begin state.life state.consumers s c && is_of_topic destination
+takes_memory state (Session s) (CreateSharedDurable c destination name selector) = may_begin state.life state.consumers s c && is_of_topic destination
+takes_memory state (Session s) (Unsubscribe name) = is_some (mode_of state.life s)
 takes_memory state (Session s) (Receive c now) =
     is_some (mode_of state.life s) && is_started state.life s.connection && is_next_copied (mode_of state.life s) now (selected_by (consumer_of state.consumers s c)) (key_at (consumer_of state.consumers s c)) state
 takes_memory state _ _ = false

@@ -2,7 +2,9 @@ ghost use Rattle.std.specs.Prelude.{◌≡◌, ◌↔◌, IfOk, IsTrue};
 
 use crate::state::copy_client;
 use jm_base::{List, Mode, Str};
-use jm_dest::{ClientId, ConnectionId, ConsumerId, Destination, Moment, SessionId};
+use jm_dest::{
+    ClientId, ConnectionId, ConsumerId, Destination, Moment, SessionId, SubscriptionName,
+};
 use jm_header::{Draft, Message};
 use jm_selector::copy_text;
 use std::alloc::{AllocError, Global};
@@ -45,8 +47,41 @@ pub enum Request {
         selector: Option<Str>,
         no_local: bool,
     },
-    /// Closes the consumer. A subscription of its own ends, with all that is held for it; what a queue's consumer
-    /// received stays with the session.
+    /// Makes a consumer of the unshared durable subscription that has that name and the connection's client identifier,
+    /// which has no other active one (Jakarta Messaging 3.1, section 8.3.3). A subscription that asks for the same stands
+    /// as it is; another, of which nothing is out, is deleted with its rows, and a new one made. Where `no_local` is set,
+    /// what connections with its client identifier publish does not come to it.
+    CreateDurable {
+        consumer: ConsumerId,
+        destination: Destination,
+        name: SubscriptionName,
+        selector: Option<Str>,
+        no_local: bool,
+    },
+    /// Makes a consumer of the shared non-durable subscription that has that name and the connection's client identifier,
+    /// or none where the connection has none (Jakarta Messaging 3.1, section 8.3.2). It ends with its last consumer.
+    CreateShared {
+        consumer: ConsumerId,
+        destination: Destination,
+        name: SubscriptionName,
+        selector: Option<Str>,
+    },
+    /// Makes a consumer of the shared durable subscription that has that name and the connection's client identifier, or
+    /// none where the connection has none (Jakarta Messaging 3.1, section 8.3.4). A subscription that asks for another
+    /// thing, that has no active consumer and of which nothing is out, is deleted with its rows, and a new one made.
+    CreateSharedDurable {
+        consumer: ConsumerId,
+        destination: Destination,
+        name: SubscriptionName,
+        selector: Option<Str>,
+    },
+    /// Deletes the durable subscription that has that name and the connection's client identifier, or none where the
+    /// connection has none, with its rows; it has no active consumer, and nothing is out of it.
+    Unsubscribe {
+        name: SubscriptionName,
+    },
+    /// Closes the consumer. A subscription of its own ends, and a shared non-durable one with its last consumer, each with
+    /// all that is held for it; what another's consumer received stays with the session.
     CloseConsumer {
         consumer: ConsumerId,
     },
@@ -149,6 +184,42 @@ impl Request {
                 selector: copy_text(selector)?,
                 no_local: *no_local,
             }),
+            Request::CreateDurable {
+                consumer,
+                destination,
+                name,
+                selector,
+                no_local,
+            } => Ok(Request::CreateDurable {
+                consumer: *consumer,
+                destination: destination.copy()?,
+                name: name.copy()?,
+                selector: copy_text(selector)?,
+                no_local: *no_local,
+            }),
+            Request::CreateShared {
+                consumer,
+                destination,
+                name,
+                selector,
+            } => Ok(Request::CreateShared {
+                consumer: *consumer,
+                destination: destination.copy()?,
+                name: name.copy()?,
+                selector: copy_text(selector)?,
+            }),
+            Request::CreateSharedDurable {
+                consumer,
+                destination,
+                name,
+                selector,
+            } => Ok(Request::CreateSharedDurable {
+                consumer: *consumer,
+                destination: destination.copy()?,
+                name: name.copy()?,
+                selector: copy_text(selector)?,
+            }),
+            Request::Unsubscribe { name } => Ok(Request::Unsubscribe { name: name.copy()? }),
             Request::Receive { consumer, now } => Ok(Request::Receive {
                 consumer: *consumer,
                 now: *now,

@@ -4,6 +4,7 @@
 #![tactic(auto)]
 
 mod answer;
+mod attached;
 mod call;
 mod consumers;
 mod delivery;
@@ -12,6 +13,7 @@ pub mod find;
 mod state;
 
 pub use answer::{Answer, Delivery, Reply, copy_reply, same_reply};
+pub use attached::{Attached, is_named};
 pub use call::{Call, ClientCall, Request, Step, Who};
 pub use consumers::Consumers;
 pub use entry::{Entry, Event};

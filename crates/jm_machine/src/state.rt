@@ -46,8 +46,11 @@ pub struct Definition {
     pub topic: Name,
     /// The selector as it was handed in, and none where its text holds no token.
     pub selector: Selector,
-    /// Whether it asks for no message that a local publisher sends: of a consumer's own subscription its own connection.
+    /// Whether it asks for no message that a local publisher sends: of a consumer's own subscription its own connection,
+    /// of a durable one a connection with its client identifier.
     pub no_local: bool,
+    /// Whether it may have more than one active consumer.
+    pub shared: bool,
 }
 
 /// Where a row is (ours).
@@ -148,6 +151,7 @@ impl Definition {
             topic: self.topic.copy()?,
             selector: self.selector.copy()?,
             no_local: self.no_local,
+            shared: self.shared,
         })
     }
 

@@ -1,12 +1,11 @@
 -- What one entry feeds, what it is answered, and what it leaves.
 use Rattle.std.proofs.Common.{◌≡◌, ℕ, Bool, true, false, cond, List, [], ◌∷◌, ◌++◌, length, drop, get_or, add-one, ◌+◌, ◌<◌, refl, ap, sym, ◌∙◌, append-nil}
-use Rattle.std.specs.Prelude.{Result, Ok, Err, Option, IfOk, is_ok, slice_get, ◌&&◌}
+use Rattle.std.specs.Prelude.{Result, Ok, Err, Option, IfOk, slice_get, ◌&&◌}
 use Rattle.std.proofs.Math.Seq.{drop-cons}
 use Rattle.jm_base.specs.declared.refusal.Refusal.{Refusal}
 use Rattle.jm_dest.specs.declared.session.SessionId.{SessionId}
 use Rattle.jm_header.specs.declared.content.Content.{Content}
 use Rattle.jm_machine.specs.declared.call.Who.{Who}
-use Rattle.jm_machine.specs.declared.call.Who.TheVariants.{Connection}
 use Rattle.jm_machine.specs.declared.call.Request.{Request}
 use Rattle.jm_machine.specs.declared.answer.Answer.{Answer}
 use Rattle.jm_machine.specs.declared.entry.Entry.{Entry}
@@ -14,16 +13,13 @@ use Rattle.jm_machine.specs.declared.entry.Entry.TheVariants.{Asked, Sent, Commi
 use Rattle.jm_machine.specs.declared.state.Definition.{Definition}
 use Rattle.jm_machine.specs.Life.{Life, mode_of}
 use Rattle.jm_machine.specs.Machine.{publisher_of, is_full, is_transacted, of_session, one_missed}
-use Rattle.jm_machine.specs.Owns.{is_own, is_own_connection}
+use Rattle.jm_machine.specs.Owns.{is_own}
 use Rattle.jm_machine.specs.Rows.{fresh}
 use Rattle.jm_machine.specs.Entries.{committed}
-use Rattle.jm_machine.specs.Lone.{Scope, Lone, accepted, came, lone_settled, lone_after, lone_told, placed, is_answered, lone_replies, lone_end, is_own_call, lone_accepts, lone_brought, fed, at_place}
+use Rattle.jm_machine.specs.Lone.{Scope, Lone, accepted, came, lone_settled, lone_after, lone_told, placed, lone_replies, lone_end, is_own_call, lone_accepts, lone_brought, fed, at_place}
 use Rattle.jm_machine.specs.Lone.Item.{Called, Settled}
-use Rattle.jm_model.specs.declared.owner.Owner.{Owner}
-use Rattle.jm_model.specs.Owners.{scope}
-use Rattle.jm_model.specs.Parts.{seen}
 use Rattle.jm_model.specs.Answers.{Answers, after_commit, brought, came_to}
-use Rattle.jm_model.specs.Transactions.{Course, message_in, messages_at}
+use Rattle.jm_transactions.specs.Transactions.{Course, message_in, messages_at}
 use Rattle.jm_law.proofs.Steps.{lone_replies-came}
 
 -- an own call is answered and taken up
@@ -106,26 +102,11 @@ places_turn S life entries places i l next all h n a =
     front : drop i places ≡ get_or places i 0 ∷ drop (i + 1) places
     front = rw (add-one) (drop-cons places i 0 h)
 
--- a connection's request is taken up where it is an accepted one of an own connection
-abbrev pub taken_up : Scope → Lone → ℕ → Request → Bool → Lone
-taken_up S l c request b = cond (is_own_connection S.sessions c && b) (lone_after S l (Called (Connection c) request)) l
-
--- a connection's request, of which the accepted ones of the own connections are taken up
-pub fed_connection : (S : Scope) (life : Life) (before : List Entry) (l : Lone) (place c : ℕ) (request : Request) (r : Result Answer Refusal) →
-    (lone_replies S l (at_place place (fed S life before l (Asked (Connection c) request r))) ≡ []) × (lone_end S l (fed S life before l (Asked (Connection c) request r)) ≡ taken_up S l c request (is_ok r))
-unfolding committed is_answered
-fed_connection S life before l place c request r = go (is_own_connection S.sessions c && is_ok r)
-  where
-    go : (b : Bool) → (lone_replies S l (at_place place (cond b (Called (Connection c) request ∷ []) [] ++ [])) ≡ []) × (lone_end S l (cond b (Called (Connection c) request ∷ []) [] ++ []) ≡ cond b (lone_after S l (Called (Connection c) request)) l)
-    go true = (refl, refl)
-    go false = (refl, refl)
-
 -- so what is answered to an own call, and held after it, is what an entry of it owes
-pub answers_own : {E : Type 0} (o : Owner) (l : Lone) (who : Who) (request : Request) (r : Result Answer Refusal) → is_own_call (scope o) who r ≡ true →
-    (answer : Result (Option (Result Answer Refusal)) E) (new : Lone) →
-    IfOk answer (λ told. (told ≡ lone_told (scope o) l (Called who request)) × (new ≡ lone_after (scope o) l (Called who request))) →
-    (entries : List Entry) (course : Course) → IfOk answer (λ told. Answers o entries course l (Asked who request r) told new)
-answers_own o l who request r h (Ok told) new f entries course = λ life before place follows.
-    let g = fed_own (scope o) life before l place who request r h in
-    (ap (placed place) f.0 ∙ sym g.0, ap (seen o) (f.1 ∙ sym g.1))
-answers_own o l who request r h (Err e) new f entries course = f
+pub answers_own : {E : Type 0} (S : Scope) (l : Lone) (who : Who) (request : Request) (r : Result Answer Refusal) → is_own_call S who r ≡ true →
+    (answer : Result (Option (Result Answer Refusal)) E) (new : Lone) → IfOk answer (λ told. (told ≡ lone_told S l (Called who request)) × (new ≡ lone_after S l (Called who request))) →
+    (entries : List Entry) (course : Course) → IfOk answer (λ told. Answers S entries course l (Asked who request r) told new)
+answers_own S l who request r h (Ok told) new f entries course = λ life before place follows.
+    let g = fed_own S life before l place who request r h in
+    (ap (placed place) f.0 ∙ sym g.0, f.1 ∙ sym g.1)
+answers_own S l who request r h (Err e) new f entries course = f

@@ -1,12 +1,6 @@
 pub mod Records
-pub mod Courses
-pub mod Owners
-pub mod Fed
-pub mod Found
+pub mod Asked
 pub mod Nested
-pub mod Reached
-pub mod Seen
+pub mod Fed
 pub mod Placing
-pub mod Loaded
-pub mod Taken
-pub mod Opening
+pub mod Limited

@@ -1,200 +1,106 @@
--- What is open lies within what is, after each call.
-use Rattle.std.proofs.Common.{◌≡◌, ℕ, Bool, true, false, cond, List, [], ◌∷◌, ◌++◌, map, refl, ap, sym, subst, ◌∙◌, arith, Option, Some, None}
-use Rattle.std.specs.Prelude.{◌&&◌, ◌==◌, not, find, is_some, is_ok, option_map, OnOk, Result, Ok, Err}
+-- In every state that the provider reaches what is open lies within what is.
+use Rattle.std.proofs.Common.{◌≡◌, ℕ, Bool, true, false, cond, List, [], ◌∷◌, ◌++◌, refl, ap, sym, subst, ◌∙◌, Option, Some, None}
+use Rattle.std.specs.Prelude.{map, find, ◌&&◌, ◌==◌, not, is_some}
 use Rattle.std.specs.Option.{option_or}
 use Rattle.std.proofs.lemmas.List.Folds.{find-append}
-use Rattle.std.proofs.lemmas.Bool.Decides.{nat_tests}
-use Rattle.jm_base.specs.declared.mode.Mode.{Mode}
+use Rattle.jm_base.specs.declared.refusal.Refusal.{Refusal}
 use Rattle.jm_dest.specs.declared.session.SessionId.{SessionId}
 use Rattle.jm_dest.specs.Names.{session_eq}
+use Rattle.jm_machine.specs.declared.call.Who.{Who}
 use Rattle.jm_machine.specs.declared.call.Who.TheVariants.{Connection, Session}
+use Rattle.jm_machine.specs.declared.call.Request.{Request}
 use Rattle.jm_machine.specs.declared.call.Request.TheVariants.{Open, Start, Stop, CloseConnection, CreateSession, CloseSession}
+use Rattle.jm_machine.specs.declared.call.Call.{Call}
+use Rattle.jm_machine.specs.declared.call.Call.TheVariants.{Ask, Publish, Commit}
 use Rattle.jm_machine.specs.declared.state.ConnectionState.{ConnectionState}
 use Rattle.jm_machine.specs.declared.state.SessionState.{SessionState}
-use Rattle.jm_machine.specs.declared.state.Consumer.{Consumer}
-use Rattle.jm_machine.specs.Life.{Life, connection_of, session_of, mode_of, open_mode, is_open_connection, is_new_session, with_started, started_if, closed_if, closed_where, close_sessions, life_after}
-use Rattle.jm_machine.specs.Machine.{consumer_of, has_number, closed_consumer, may_begin}
+use Rattle.jm_machine.specs.Life.{Life, connection_of, session_of, is_open_connection, is_new_session, with_started, started_if, closed_if, closed_where, close_sessions, life_after}
+use Rattle.jm_machine.specs.Machine.{State, published, publish_refusal, refusal, held, after, commit_refusal, after_commit, moved, step}
+use Rattle.jm_machine.specs.Isolation.{Reached}
+use Rattle.jm_machine.specs.Isolation.Reached.{New, Stepped}
 use Rattle.jm_law.proofs.Same.{session_same}
-use Rattle.jm_model.specs.Parts.{IsNested, AllNested}
-use Rattle.jm_model.proofs.Found.{Passes, found_passes, found_started, found_closed, found_session, found_consumer, still_there}
+use Rattle.jm_law.proofs.Run.{after_life, published_life, committed_life}
+use Rattle.jm_law.proofs.Transactions.{connection_life}
+use Rattle.jm_law.proofs.Opened.{reached_linked}
+use Rattle.jm_transactions.specs.Transactions.{AreNested}
+use Rattle.jm_transactions.proofs.Found.{found_started, found_closed, found_session, still_there}
+
+-- a session that was opened has a connection that was opened
+abbrev pub Known : Life → Type 0
+Known life = (s : SessionId) → is_some (session_of life.sessions s) ≡ true → is_some (connection_of life.connections s.connection) ≡ true
 
 some_more : {A : Type 0} (o p : Option A) → is_some o ≡ true → is_some (option_or o p) ≡ true
 some_more None p h = cc
 some_more (Some x) p h = refl
 
-open_more : (o p : Option ConnectionState) → is_open_connection o ≡ true → is_open_connection (option_or o p) ≡ true
-open_more None p h = cc
-open_more (Some x) p h = h
+known_pushed : (life : Life) (new : ConnectionState) → Known life → Known (record life { connections = life.connections ++ new ∷ [] })
+known_pushed life new h s e =
+    ap is_some (find-append (λ x. x.id == s.connection) life.connections (new ∷ []))
+    ∙ some_more (connection_of life.connections s.connection) (find (λ x. x.id == s.connection) (new ∷ [])) (h s e)
 
--- one more connection
-pub nested_opened : (life : Life) (consumers : List Consumer) (c : ℕ) (client : Option (List ℕ)) → AllNested life consumers → AllNested (life_after life (Connection c) (Open client)) consumers
-unfolding life_after
-nested_opened life consumers c client h s n =
-    let new : ConnectionState = record { id = c; client = client; is_started = false; is_open = true } in
-    let more : Option ConnectionState = find (λ x. x.id == s.connection) (new ∷ []) in
-    let found : connection_of (life.connections ++ new ∷ []) s.connection ≡ option_or (connection_of life.connections s.connection) more = find-append (λ x. x.id == s.connection) life.connections (new ∷ []) in
-    rw found (record {
-      made_in = (h s n).made_in;
-      opened_in = λ e. some_more (connection_of life.connections s.connection) more ((h s n).opened_in e);
-      open_in = λ e. open_more (connection_of life.connections s.connection) more ((h s n).open_in e);
-    })
+known_started : (life : Life) (c : ℕ) (on : Bool) → Known life → Known (record life { connections = with_started c on life.connections })
+known_started life c on h s e = ap is_some (found_started c on s.connection life.connections) ∙ still_there (started_if c on) (connection_of life.connections s.connection) ∙ h s e
 
--- a connection starts or stops
-started_open : (c : ℕ) (on : Bool) (o : Option ConnectionState) → is_open_connection (option_map (started_if c on) o) ≡ is_open_connection o
-started_open c on None = refl
-started_open c on (Some x) = go (x.id == c)
+was_known : (p : SessionId → Bool) (s : SessionId) (sessions : List SessionState) → is_some (session_of (close_sessions p sessions) s) ≡ is_some (session_of sessions s)
+was_known p s sessions = ap is_some (found_session p s sessions) ∙ still_there (closed_where p) (session_of sessions s)
+
+known_closed : (life : Life) (c : ℕ) (p : SessionId → Bool) → Known life → Known (record { connections = map (closed_if c) life.connections; sessions = close_sessions p life.sessions })
+known_closed life c p h s e =
+    ap is_some (found_closed c s.connection life.connections) ∙ still_there (closed_if c) (connection_of life.connections s.connection) ∙ h s (sym (was_known p s life.sessions) ∙ e)
+
+-- a session is opened in a connection that is open
+there : (o : Option ConnectionState) → is_open_connection o ≡ true → is_some o ≡ true
+there None h = cc
+there (Some x) h = refl
+
+first_true : (a b : Bool) → (a && b) ≡ true → a ≡ true
+first_true true b h = refl
+first_true false b h = cc
+
+known_created : (life : Life) (new : SessionState) → is_open_connection (connection_of life.connections new.id.connection) ≡ true → Known life → Known (record life { sessions = life.sessions ++ new ∷ [] })
+known_created life new o h s e =
+    go (session_of life.sessions s) (session_eq new.id s) refl (h s) (sym (ap is_some (find-append (λ x. session_eq x.id s) life.sessions (new ∷ []))) ∙ e)
   where
-    go : (b : Bool) → (cond b (record x { is_started = on }) x).is_open ≡ x.is_open
-    go true = refl
-    go false = refl
+    go : (was : Option SessionState) (b : Bool) → session_eq new.id s ≡ b → (is_some was ≡ true → is_some (connection_of life.connections s.connection) ≡ true) →
+        is_some (option_or was (cond b (Some new) None)) ≡ true → is_some (connection_of life.connections s.connection) ≡ true
+    go (Some x) b i f e = f refl
+    go None true i f e = ap (λ (t : SessionId). is_some (connection_of life.connections t.connection)) (sym (session_same new.id s i)) ∙ there (connection_of life.connections new.id.connection) o
+    go None false i f e = cc
 
-nested_set : (life : Life) (consumers : List Consumer) (c : ℕ) (on : Bool) → AllNested life consumers → AllNested (record life { connections = with_started c on life.connections }) consumers
-nested_set life consumers c on h s n =
-    rw (found_started c on s.connection life.connections) (record {
-      made_in = (h s n).made_in;
-      opened_in = λ e. still_there (started_if c on) (connection_of life.connections s.connection) ∙ (h s n).opened_in e;
-      open_in = λ e. started_open c on (connection_of life.connections s.connection) ∙ (h s n).open_in e;
-    })
-
-pub nested_started : (life : Life) (consumers : List Consumer) (c : ℕ) → AllNested life consumers → AllNested (life_after life (Connection c) Start) consumers
+known_life : (life : Life) (who : Who) (request : Request) → Known life → Known (life_after life who request)
 unfolding life_after
-nested_started life consumers c h = nested_set life consumers c true h
-
-pub nested_stopped : (life : Life) (consumers : List Consumer) (c : ℕ) → AllNested life consumers → AllNested (life_after life (Connection c) Stop) consumers
-unfolding life_after
-nested_stopped life consumers c h = nested_set life consumers c false h
-
--- sessions close, with their consumers
-still_open : (p : SessionId → Bool) (o : Option SessionState) → is_some (open_mode (option_map (closed_where p) o)) ≡ true → is_some (open_mode o) ≡ true
-still_open p None e = e
-still_open p (Some x) e = go (p x.id) e
-  where
-    go : (b : Bool) → is_some (open_mode (Some (cond b (record x { is_open = false }) x))) ≡ true → is_some (open_mode (Some x)) ≡ true
-    go true e = cc
-    go false e = e
-
-made_still : (q : SessionId → ℕ → Bool) (p : SessionId → Bool) (s : SessionId) (n : ℕ) (sessions : List SessionState) (consumers : List Consumer) →
-    (is_some (consumer_of consumers s n) ≡ true → is_some (session_of sessions s) ≡ true) →
-    is_some (consumer_of (map (closed_consumer q) consumers) s n) ≡ true → is_some (session_of (close_sessions p sessions) s) ≡ true
-made_still q p s n sessions consumers h e =
-    ap is_some (found_session p s sessions) ∙ still_there (closed_where p) (session_of sessions s)
-    ∙ h (sym (still_there (closed_consumer q) (consumer_of consumers s n)) ∙ sym (ap is_some (found_consumer q s n consumers)) ∙ e)
-
-pub nested_closed_session : (life : Life) (consumers : List Consumer) (t : SessionId) (q : SessionId → ℕ → Bool) → AllNested life consumers → AllNested (life_after life (Session t) CloseSession) (map (closed_consumer q) consumers)
-unfolding life_after
-nested_closed_session life consumers t q h s n =
-    let p : SessionId → Bool = λ u. session_eq u t in
-    record {
-      made_in = made_still q p s n life.sessions consumers (h s n).made_in;
-      opened_in = λ e. (h s n).opened_in (sym (still_there (closed_where p) (session_of life.sessions s)) ∙ sym (ap is_some (found_session p s life.sessions)) ∙ e);
-      open_in = λ e. (h s n).open_in (still_open p (session_of life.sessions s) (sym (ap (λ o. is_some (open_mode o)) (found_session p s life.sessions)) ∙ e));
-    }
-
--- a connection closes with its sessions
-closes_inside : (c : ℕ) (s : SessionId) (conn : Option ConnectionState) (sess : Option SessionState) → Passes (λ x. x.id == s.connection) conn → Passes (λ x. session_eq x.id s) sess →
-    (is_some (open_mode sess) ≡ true → is_open_connection conn ≡ true) → is_some (open_mode (option_map (closed_where (λ u. u.connection == c)) sess)) ≡ true → is_open_connection (option_map (closed_if c) conn) ≡ true
-closes_inside c s conn None a b h e = cc
-closes_inside c s None (Some y) a b h e = h (still_open (λ u. u.connection == c) (Some y) e)
-closes_inside c s (Some x) (Some y) a b h e = go (x.id == c) (y.id.connection == c) same e (h (still_open (λ u. u.connection == c) (Some y) e))
-  where
-    same : (x.id == c) ≡ (y.id.connection == c)
-    same =
-        let i : y.id ≡ s = session_same y.id s b in
-        let j : x.id ≡ s.connection = grind (arith, nat_tests) in
-        ap (λ k. k == c) j ∙ sym (ap (λ (u : SessionId). u.connection == c) i)
-
-    go : (m n : Bool) → m ≡ n → is_some (open_mode (Some (cond n (record y { is_open = false }) y))) ≡ true → x.is_open ≡ true → (cond m (record x { is_started = false; is_open = false }) x).is_open ≡ true
-    go true true k e o = cc
-    go true false k e o = cc
-    go false n k e o = o
-
-pub nested_closed_connection : (life : Life) (consumers : List Consumer) (c : ℕ) (q : SessionId → ℕ → Bool) → AllNested life consumers → AllNested (life_after life (Connection c) CloseConnection) (map (closed_consumer q) consumers)
-unfolding life_after
-nested_closed_connection life consumers c q h s n =
-    let p : SessionId → Bool = λ u. u.connection == c in
-    record {
-      made_in = made_still q p s n life.sessions consumers (h s n).made_in;
-      opened_in = λ e. ap is_some (found_closed c s.connection life.connections) ∙ still_there (closed_if c) (connection_of life.connections s.connection)
-          ∙ (h s n).opened_in (sym (still_there (closed_where p) (session_of life.sessions s)) ∙ sym (ap is_some (found_session p s life.sessions)) ∙ e);
-      open_in = λ e. ap is_open_connection (found_closed c s.connection life.connections)
-          ∙ closes_inside c s (connection_of life.connections s.connection) (session_of life.sessions s) (found_passes _ life.connections) (found_passes _ life.sessions) (h s n).open_in
-          (sym (ap (λ o. is_some (open_mode o)) (found_session p s life.sessions)) ∙ e);
-    }
-
--- consumers close
-pub nested_closed_consumer : (life : Life) (consumers : List Consumer) (q : SessionId → ℕ → Bool) → AllNested life consumers → AllNested life (map (closed_consumer q) consumers)
-nested_closed_consumer life consumers q h s n = record {
-  made_in = λ e. (h s n).made_in (sym (still_there (closed_consumer q) (consumer_of consumers s n)) ∙ sym (ap is_some (found_consumer q s n consumers)) ∙ e);
-  opened_in = (h s n).opened_in;
-  open_in = (h s n).open_in;
-}
-
--- a session is opened
-pub nested_session : (life : Life) (consumers : List Consumer) (t : SessionId) (mode : Mode) → AllNested life consumers → AllNested (life_after life (Session t) (CreateSession mode)) consumers
-unfolding life_after
-nested_session life consumers t mode h = go (is_new_session life t) refl
+known_life life (Connection c) (Open client) h = known_pushed life (record { id = c; client = client; is_started = false; is_open = true }) h
+known_life life (Connection c) Start h = known_started life c true h
+known_life life (Connection c) Stop h = known_started life c false h
+known_life life (Connection c) CloseConnection h = known_closed life c (λ s. s.connection == c) h
+known_life life (Session t) (CreateSession mode) h = go (is_new_session life t) refl
   where
     new : SessionState
     new = record { id = t; mode = mode; is_open = true }
 
-    both_true : (a b : Bool) → (a && b) ≡ true → a ≡ true
-    both_true true b e = refl
-    both_true false b e = cc
+    go : (b : Bool) → is_new_session life t ≡ b → Known (cond b (record life { sessions = life.sessions ++ new ∷ [] }) life)
+    go true e = known_created life new (first_true _ (not (is_some (session_of life.sessions t))) e) h
+    go false e = h
+known_life life (Session t) CloseSession h = λ s e. h s (sym (was_known (λ u. session_eq u t) s life.sessions) ∙ e)
+known_life life _ _ h = h
 
-    inside : (s : SessionId) (n : ℕ) (sess : Option SessionState) (b : Bool) → session_eq t s ≡ b → is_new_session life t ≡ true → IsNested (connection_of life.connections s.connection) sess (consumer_of consumers s n) →
-        IsNested (connection_of life.connections s.connection) (option_or sess (cond b (Some new) None)) (consumer_of consumers s n)
-    inside s n (Some y) b e i w = w
-    inside s n None false e i w = w
-    inside s n None true e i w =
-        let same : t ≡ s = session_same t s e in
-        let is_open : is_open_connection (connection_of life.connections s.connection) ≡ true =
-        subst (λ (u : SessionId). is_open_connection (connection_of life.connections u.connection) ≡ true) same (both_true _ (not (is_some (session_of life.sessions t))) i) in
-        record { made_in = λ k. refl; opened_in = λ k. there (connection_of life.connections s.connection) is_open; open_in = λ k. is_open }
-      where
-        there : (o : Option ConnectionState) → is_open_connection o ≡ true → is_some o ≡ true
-        there None k = cc
-        there (Some x) k = refl
+known_moved : (o : Option Refusal) (x y : State) → Known x.life → Known y.life → Known (moved o x y).life
+known_moved None x y p q = p
+known_moved (Some r) x y p q = q
 
-    go : (b : Bool) → is_new_session life t ≡ b → AllNested (cond b (record life { sessions = life.sessions ++ new ∷ [] }) life) consumers
-    go true i s n = rw (find-append (λ x. session_eq x.id s) life.sessions (new ∷ [])) (inside s n (session_of life.sessions s) (session_eq t s) refl i (h s n))
-    go false i s n = h s n
+known_after : (state : State) (who : Who) (request : Request) → Known state.life → Known (after state who request).life
+known_after state (Connection c) request h = subst Known (sym (connection_life state c request)) (known_life state.life (Connection c) request h)
+known_after state (Session s) request h = subst Known (sym (after_life state s request)) (known_life state.life (Session s) request h)
 
--- a consumer is made
-pub nested_consumer : (life : Life) (consumers : List Consumer) (y : Consumer) → is_some (mode_of life y.session) ≡ true → AllNested life consumers → AllNested life (consumers ++ y ∷ [])
-nested_consumer life consumers y m h s n = rw (find-append (has_number s n) consumers (y ∷ [])) (inside (consumer_of consumers s n) (has_number s n y) refl (h s n))
-  where
-    there : (o : Option SessionState) → is_some (open_mode o) ≡ true → is_some o ≡ true
-    there None k = cc
-    there (Some x) k = refl
+known_step : (state : State) (who : Who) (call : Call) → Known state.life → Known (step state who call).life
+unfolding step
+known_step state who (Ask request) h = known_moved (refusal state.life state.consumers (held state who request) who request) (after state who request) state (known_after state who request h) h
+known_step state who (Publish messages) h = known_moved (publish_refusal state who messages) (published state messages) state (subst Known (sym (published_life state messages)) h) h
+known_step state who (Commit messages) h = known_moved (commit_refusal state who messages) (after_commit state who messages) state (subst Known (sym (committed_life state who messages)) h) h
 
-    known : has_number s n y ≡ true → is_some (session_of life.sessions s) ≡ true
-    known e = let i : y.session ≡ s = grind (arith, nat_tests, session_same y.session s) in subst (λ (u : SessionId). is_some (session_of life.sessions u) ≡ true) i (there (session_of life.sessions y.session) m)
+reached_known : (state : State) → Reached state → Known state.life
+reached_known state (New opening limit) = λ s e. cc
+reached_known state (Stepped before who call r) = known_step before who call (reached_known before r)
 
-    inside : (cons : Option Consumer) (b : Bool) → has_number s n y ≡ b → IsNested (connection_of life.connections s.connection) (session_of life.sessions s) cons →
-        IsNested (connection_of life.connections s.connection) (session_of life.sessions s) (option_or cons (cond b (Some y) None))
-    inside (Some x) b e w = w
-    inside None false e w = w
-    inside None true e w = record { made_in = λ k. known e; opened_in = w.opened_in; open_in = w.open_in }
-
--- whether the call was refused or not
-pub nested_if : (ok : Bool) (l m : Life) (consumers : List Consumer) (life : Life) (left : List Consumer) → AllNested l consumers → AllNested m consumers → life ≡ cond ok l m → left ≡ consumers → AllNested life left
-nested_if true l m consumers life left h k e f = subst (λ (x : Life). AllNested x left) (sym e) (subst (λ (x : List Consumer). AllNested l x) (sym f) h)
-nested_if false l m consumers life left h k e f = subst (λ (x : Life). AllNested x left) (sym e) (subst (λ (x : List Consumer). AllNested m x) (sym f) k)
-
-pub nested_both : (ok : Bool) (l m : Life) (xs ys : List Consumer) (life : Life) (left : List Consumer) → AllNested l xs → AllNested m ys → life ≡ cond ok l m → left ≡ cond ok xs ys → AllNested life left
-nested_both true l m xs ys life left h k e f = subst (λ (x : Life). AllNested x left) (sym e) (subst (λ (x : List Consumer). AllNested l x) (sym f) h)
-nested_both false l m xs ys life left h k e f = subst (λ (x : Life). AllNested x left) (sym e) (subst (λ (x : List Consumer). AllNested m x) (sym f) k)
-
-pub nested_left : (ok : Bool) (life : Life) (xs ys : List Consumer) (new : Life) (left : List Consumer) → AllNested life xs → AllNested life ys → new ≡ life → left ≡ cond ok xs ys → AllNested new left
-nested_left true life xs ys new left h k e f = subst (λ (x : Life). AllNested x left) (sym e) (subst (λ (x : List Consumer). AllNested life x) (sym f) h)
-nested_left false life xs ys new left h k e f = subst (λ (x : Life). AllNested x left) (sym e) (subst (λ (x : List Consumer). AllNested life x) (sym f) k)
-
-pub nested_made : {T E : Type 0} (r : Result T E) (life : Life) (consumers : List Consumer) (y : Consumer) (new : Life) (left : List Consumer) → OnOk r (may_begin life consumers y.session y.id ≡ true) → AllNested life consumers → new ≡ life →
-    left ≡ cond (is_ok r) (consumers ++ y ∷ []) consumers → AllNested new left
-nested_made (Ok t) life consumers y new left m h e f =
-    subst (λ (x : Life). AllNested x left) (sym e) (subst (λ (x : List Consumer). AllNested life x) (sym f) (nested_consumer life consumers y (first_true (is_some (mode_of life y.session)) _ m) h))
-  where
-    first_true : (a b : Bool) → (a && b) ≡ true → a ≡ true
-    first_true true b h = refl
-    first_true false b h = cc
-nested_made (Err t) life consumers y new left m h e f = subst (λ (x : Life). AllNested x left) (sym e) (subst (λ (x : List Consumer). AllNested life x) (sym f) h)
+pub reached_nested : (state : State) → Reached state → AreNested state.life.connections state.life.sessions
+reached_nested state r s = record { opened_in = reached_known state r s; open_in = reached_linked state r s }

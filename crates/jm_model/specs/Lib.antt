@@ -1,6 +1,2 @@
-pub mod Owners
-pub mod Parts
-pub mod Transactions
-pub mod Courses
 pub mod Answers
 pub mod Faults

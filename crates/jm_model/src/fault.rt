@@ -4,8 +4,8 @@ use std::fmt;
 /// Why the replies of one subscription alone are not given.
 #[derive(Clone, Copy, Debug, PartialEq, Eq)]
 pub enum LoneFault {
-    /// The key is not that of an unshared topic subscription, or its consumer's number names something else: another
-    /// consumer of the opening, or what a creating call among the entries names.
+    /// The key is not that of an unshared topic subscription: it is a queue's, or that of a subscription that is shared or is
+    /// asked for as a shared one, or a durable one's without a client, or its consumer's number names something else.
     NotUnshared,
     /// A request for memory was refused.
     Memory,

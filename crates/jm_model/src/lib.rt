@@ -4,18 +4,14 @@
 mod expanded;
 mod fault;
 mod law;
-mod lone;
-mod owner;
 mod recorded;
 mod replies;
-mod rows;
-mod subscription;
-mod transactions;
 
 pub use expanded::expand;
 pub use fault::LoneFault;
 pub use jm_law::{
-    law_isolation, law_isolation_of_events, law_reached, law_runs_fit, law_two_worlds,
+    law_isolation, law_isolation_of_events, law_one_consumer, law_one_place, law_queue,
+    law_reached, law_runs_fit, law_subscription, law_two_worlds,
 };
 pub use law::law_core_isolation;
 pub use recorded::entries;

@@ -1,29 +1,209 @@
 //! The replies of one subscription alone.
 
-ghost use Rattle.std.specs.Prelude.{◌≡◌, ◌++◌, ◌||◌, [], not, true, IfOk, OnOk, MatchResult};
+ghost use Rattle.std.specs.Prelude.{◌≡◌, ◌++◌, [], List, option_to_list, slice_get, true, Some, IfOk, OnOk, MatchResult, if◌then◌else◌};
+ghost use Rattle.std.specs.List.{list_all};
+ghost use Rattle.std.specs.Option.{option_copied};
+ghost use Rattle.jm_core.specs.Provider.{state_of};
+ghost use Rattle.jm_lone.specs.Parts.{is_held_alone};
 ghost use Rattle.jm_machine.specs.Isolation as isolation;
 ghost use Rattle.jm_machine.specs.Life.{Life};
-ghost use Rattle.jm_machine.specs.Machine as machine;
-ghost use Rattle.jm_model.specs.Faults.{Stands};
-ghost use Rattle.std.specs.List.{list_all, list_any};
-ghost use Rattle.jm_dest.specs.Keys.{key_eq};
 ghost use Rattle.jm_machine.specs.Lone as spec;
-ghost use Rattle.jm_machine.specs.Lone.{Lone as Held};
-ghost use Rattle.jm_core.specs.Provider.{state_of};
-ghost use Rattle.jm_model.specs.Owners.{is_alone, scope};
-ghost use Rattle.jm_model.specs.Parts.{seen};
-ghost use Rattle.jm_model.specs.Transactions.{Follows};
-ghost use Rattle.jm_model.specs.Courses.{course_of};
+ghost use Rattle.jm_machine.specs.Machine as machine;
+ghost use Rattle.jm_machine.specs.Rows.{bare};
+ghost use Rattle.jm_machine.specs.declared.entry.Entry.{Entry as OfEntry};
+ghost use Rattle.jm_model.specs.Answers.{Answers, Clients, after_commit, brought, came_to, settled_by};
+ghost use Rattle.jm_model.specs.Faults.{Stands};
+ghost use Rattle.jm_scope.specs.Scopes.{scope_seen};
+ghost use Rattle.jm_transactions.specs.Courses.{course_of};
+ghost use Rattle.jm_transactions.specs.Transactions.{Course, Follows, committed_places, message_in, messages_at, mode_in};
 
 use crate::fault::LoneFault;
-use crate::lone::Lone;
-use crate::owner::Owner;
-use crate::transactions::Transactions;
-use jm_core::Core;
-use jm_dest::{ConsumerId, Destination, Key, SessionId};
-use jm_machine::find::same_session;
-use jm_machine::{Consumer, Entry, Reply, Request, Who};
+use jm_core::{Core, law_core_reached, law_rows_within_limit};
+use jm_dest::{Key, SessionId};
+use jm_header::Message;
+use jm_lone::Lone;
+use jm_machine::{Entry, PlacedRow, Reply, Request, Station, Who};
+use jm_scope::{Scope, is_unshared};
+use jm_transactions::Transactions;
 use std::alloc::{AllocError, Global};
+
+/// The message that the entry sent, where there is one.
+fn sent_by(entry: &Entry) -> Option<&Message>
+    ensures { option_to_list (option_copied result) ≡ message_in (Some entry.now) }
+{
+    match entry {
+        Entry::Sent(message) => Some(message),
+        Entry::Asked { .. } | Entry::Committed(_) => None,
+    }
+}
+
+/// The message that was sent at that place among the entries.
+fn message_at(entries: &[Entry], place: usize) -> Option<&Message>
+    ensures { option_to_list (option_copied result) ≡ message_in (slice_get entries.now place) }
+{
+    match entries.get(place) {
+        Some(entry) => sent_by(entry),
+        None => None,
+    }
+}
+
+/// A publication comes, where it is accepted; at the limit it is missed.
+fn publish(
+    lone: &mut Lone,
+    scope: &Scope,
+    transactions: &Transactions,
+    message: &Message,
+) -> Result<(), AllocError>
+    ensures { (life : Life) → Clients life (course_of transactions.now)
+        → OnOk result (lone.new ≡ came_to (scope_seen scope.now) life message.now lone.old) }
+{
+    let client = transactions.client_of(message.sender().session.connection);
+    if lone.accepts(scope, message, client) {
+        lone.bring(scope, message)?;
+    }
+    Ok(())
+}
+
+/// The message at that place among the entries comes, where there is one.
+fn publish_at(
+    lone: &mut Lone,
+    scope: &Scope,
+    transactions: &Transactions,
+    entries: &[Entry],
+    place: usize,
+) -> Result<(), AllocError>
+    ensures { (life : Life) → Clients life (course_of transactions.now)
+        → OnOk result (lone.new ≡ brought (scope_seen scope.now) life (message_in (slice_get entries.now place)) lone.old) }
+{
+    if let Some(message) = message_at(entries, place) {
+        publish(lone, scope, transactions, message)?;
+    }
+    Ok(())
+}
+
+/// The messages at those places among the entries come, in the order of the places.
+fn publish_all(
+    lone: &mut Lone,
+    scope: &Scope,
+    transactions: &Transactions,
+    entries: &[Entry],
+    places: &[usize],
+) -> Result<(), AllocError>
+    ensures { (life : Life) → Clients life (course_of transactions.now)
+        → OnOk result (lone.new ≡ brought (scope_seen scope.now) life (messages_at entries.now places.now) lone.old) }
+{
+    for place in places {
+        publish_at(lone, scope, transactions, entries, *place)?;
+    }
+    Ok(())
+}
+
+/// A message that was sent comes at once, unless its session is transacted.
+fn take_sent(
+    lone: &mut Lone,
+    scope: &Scope,
+    transactions: &Transactions,
+    message: &Message,
+) -> Result<(), AllocError>
+    ensures { (life : Life) → Clients life (course_of transactions.now)
+        → OnOk result (lone.new
+        ≡ (if machine.is_transacted (mode_in (course_of transactions.now) message.now.sender.session)
+        then lone.old else came_to (scope_seen scope.now) life message.now lone.old)) }
+{
+    if transactions.is_transacted(&message.sender().session) {
+        return Ok(());
+    }
+    publish(lone, scope, transactions, message)
+}
+
+/// Settles what is out to the session, where it is an own one, open and transacted.
+fn settle(lone: &mut Lone, scope: &Scope, session: &SessionId)
+    ensures { lone.new ≡ settled_by (scope_seen scope.now) session.now lone.old }
+{
+    if scope.is_own(session) {
+        lone.settle(session);
+    }
+}
+
+/// The session's commit settles what is out to it, where it is an own one, and then publishes what it sent in its
+/// transaction.
+fn commit(
+    lone: &mut Lone,
+    scope: &Scope,
+    transactions: &Transactions,
+    entries: &[Entry],
+    session: &SessionId,
+) -> Result<(), AllocError>
+    ensures { (life : Life) → Clients life (course_of transactions.now)
+        → OnOk result (lone.new
+        ≡ after_commit (scope_seen scope.now) life session.now (messages_at entries.now (committed_places (course_of transactions.now) session.now)) lone.old) }
+{
+    settle(lone, scope, session);
+    let places = transactions.committed(session);
+    publish_all(lone, scope, transactions, entries, places)
+}
+
+/// Whether it is told of the call: one of its own sessions, or an accepted one of their connections.
+fn is_own_call(scope: &Scope, who: &Who, reply: &Reply) -> bool
+    ensures { result ≡ spec.is_own_call (scope_seen scope.now) who.now reply.now }
+{
+    match who {
+        Who::Connection(id) => scope.is_own_connection(*id) && reply.is_ok(),
+        Who::Session(session) => scope.is_own(session),
+    }
+}
+
+/// Takes up a call where it is told of it, and answers it where it is a call of the subscription.
+fn feed_request(
+    alloc: Global,
+    lone: &mut Lone,
+    scope: &Scope,
+    who: Who,
+    request: &Request,
+    reply: &Reply,
+) -> Result<Option<Reply>, AllocError>
+    requires alone { is_held_alone (scope_seen scope.now).key ≡ true }
+    requires unshared { isolation.asks_no_shared (scope_seen scope.now).key (scope_seen scope.now).clients (Entry.Asked who request.now reply.now) ≡ true }
+    ensures { (entries : List OfEntry) (course : Course) → IfOk result (λ answer.
+        Answers (scope_seen scope.now) entries course lone.old (Entry.Asked who request.now reply.now) answer lone.new) }
+{
+    if !is_own_call(scope, &who, reply) {
+        return Ok(None);
+    }
+    lone.ask(alloc, scope, who, request)
+}
+
+/// Takes up what an entry feeds to the subscription, as the transactions stand before it, and answers it where it is one of
+/// its calls.
+fn feed(
+    alloc: Global,
+    lone: &mut Lone,
+    scope: &Scope,
+    transactions: &Transactions,
+    entries: &[Entry],
+    entry: &Entry,
+) -> Result<Option<Reply>, AllocError>
+    requires alone { is_held_alone (scope_seen scope.now).key ≡ true }
+    requires unshared { isolation.asks_no_shared (scope_seen scope.now).key (scope_seen scope.now).clients entry.now ≡ true }
+    ensures { IfOk result (λ reply.
+        Answers (scope_seen scope.now) entries.now (course_of transactions.now) lone.old entry.now reply lone.new) }
+{
+    match entry {
+        Entry::Asked {
+            who,
+            request,
+            reply,
+        } => feed_request(alloc, lone, scope, *who, request, reply),
+        Entry::Sent(message) => {
+            take_sent(lone, scope, transactions, message)?;
+            Ok(None)
+        }
+        Entry::Committed(session) => {
+            commit(lone, scope, transactions, entries, session)?;
+            Ok(None)
+        }
+    }
+}
 
 /// Adds the reply with its place, where there is one.
 fn add_reply(
@@ -39,152 +219,135 @@ fn add_reply(
     Ok(())
 }
 
-/// What the owner's subscription answers to the entries, each reply with the place of its entry.
+/// What the subscription answers to the entries, each reply with the place of its entry.
 fn answers(
     alloc: Global,
     lone: &mut Lone,
+    scope: &Scope,
     transactions: &mut Transactions,
-    owner: &Owner,
     entries: &[Entry],
 ) -> Result<Vec<(usize, Reply)>, AllocError>
-    ensures { (life : Life) (held : Held) → seen owner.now held ≡ seen owner.now lone.old
-        → Follows entries.now life [] (course_of transactions.old) → IfOk result (λ replies.
-        replies.items ≡ spec.lone_replies (scope owner.now) held (spec.feed (scope owner.now) 0 life [] held entries.now)) }
+    requires alone { is_held_alone (scope_seen scope.now).key ≡ true }
+    requires unshared { list_all (isolation.asks_no_shared (scope_seen scope.now).key (scope_seen scope.now).clients) entries.now ≡ true }
+    ensures { (life : Life) → Follows entries.now life [] (course_of transactions.old) → IfOk result (λ replies.
+        replies.items ≡ spec.lone_replies (scope_seen scope.now) lone.old (spec.feed (scope_seen scope.now) 0 life [] lone.old entries.now)) }
 {
     let mut replies = Vec::new(alloc);
     for (place, entry) in entries.iter().enumerate() {
-        let reply = lone.feed(alloc, owner, entries, transactions, entry)?;
+        let reply = feed(alloc, lone, scope, transactions, entries, entry)?;
         transactions.note(place, entry)?;
         add_reply(&mut replies, place, reply)?;
     }
     Ok(replies)
 }
 
-/// What the owner's subscription answers alone to the entries, from what the opening holds of it.
-fn owner_replies(
+/// Whether the key is that of an unshared topic subscription, in the opening and by the entries.
+fn is_alone(opening: &Core, entries: &[Entry], key: &Key) -> bool
+    ensures { result ≡ isolation.is_unshared key.now (state_of opening.now) entries.now }
+{
+    is_unshared(
+        key,
+        opening.definition_of(key),
+        opening.connections(),
+        opening.consumers(),
+        entries,
+    )
+}
+
+/// The rows of a subscription, where there is one.
+fn rows_of(station: &Option<Station>) -> &[PlacedRow]
+    ensures { bare result.now ≡ machine.rows_of station.now }
+{
+    match station {
+        Some(station) => station.rows.as_slice(),
+        None => &[],
+    }
+}
+
+/// What belongs to the key's subscription, which an opening holds as `station`, if at all.
+fn scope_of(
     alloc: Global,
     opening: &Core,
     entries: &[Entry],
-    owner: &Owner,
+    key: &Key,
+    station: &Option<Station>,
+) -> Result<Scope, AllocError>
+    requires { machine.station_of key.now (state_of opening.now).stations ≡ station.now }
+    ensures { IfOk result (λ scope. scope_seen scope ≡ spec.scope_of key.now (state_of opening.now) entries.now) }
+{
+    Scope::of(
+        alloc,
+        key,
+        opening.connections(),
+        opening.consumers(),
+        rows_of(station),
+        entries,
+    )
+}
+
+/// What an opening holds of the subscription to which that belongs, which it holds as `station`, if at all.
+fn lone_of(
+    alloc: Global,
+    opening: &Core,
+    scope: &Scope,
+    station: Option<Station>,
+) -> Result<Lone, AllocError>
+    requires { machine.station_of (scope_seen scope.now).key (state_of opening.now).stations ≡ station }
+    ensures { IfOk result (λ lone. lone ≡ spec.lone_of (scope_seen scope.now) (state_of opening.now)) }
+{
+    law_rows_within_limit(opening);
+    Lone::of(
+        alloc,
+        scope,
+        opening.held_limit(),
+        opening.connections(),
+        opening.sessions(),
+        opening.consumers(),
+        station,
+    )
+}
+
+/// What an opening says of connections and sessions: no transaction has sent anything.
+fn transactions_of(alloc: Global, opening: &Core) -> Result<Transactions, AllocError>
+    ensures { (entries : List OfEntry) → IfOk result (λ made. Follows entries (state_of opening.now).life [] (course_of made)) }
+{
+    law_core_reached(opening);
+    Transactions::of(alloc, opening.connections(), opening.sessions())
+}
+
+/// What the key's unshared subscription answers alone to the entries, from what the opening holds of it.
+fn unshared_replies(
+    alloc: Global,
+    opening: &Core,
+    entries: &[Entry],
+    key: &Key,
 ) -> Result<Vec<(usize, Reply)>, AllocError>
-    requires { is_alone owner.now (state_of opening.now).consumers ≡ true }
-    ensures { IfOk result (λ replies. let scope = scope owner.now in let lone = spec.lone_of scope (state_of opening.now) in
-        replies.items ≡ spec.lone_replies scope lone (spec.feed scope 0 (state_of opening.now).life [] lone entries.now)) }
+    requires { isolation.is_unshared key.now (state_of opening.now) entries.now ≡ true }
+    ensures { IfOk result (λ replies. replies.items ≡ isolation.alone key.now (state_of opening.now) entries.now) }
 {
-    let mut lone = Lone::of(alloc, opening, owner)?;
-    let mut transactions = Transactions::of(alloc, opening)?;
-    answers(alloc, &mut lone, &mut transactions, owner, entries)
-}
-
-fn has_number(x: &Consumer, session: &SessionId, id: ConsumerId) -> bool
-    ensures { result ≡ machine.has_number session.now id x.now }
-{
-    same_session(&x.session, session) && x.id == id
-}
-
-/// Whether the number, where the consumer has it, is that of its own subscription.
-fn is_of_key(x: &Consumer, session: &SessionId, id: ConsumerId, key: &Key) -> bool
-    ensures { result ≡ (not (machine.has_number session.now id x.now) || key_eq x.now.key key.now) }
-{
-    !has_number(x, session, id) || x.key.is(key)
-}
-
-/// Whether the number names no other of these consumers than that of its own subscription.
-fn names_nothing_else(consumers: &[Consumer], session: &SessionId, id: ConsumerId) -> bool
-    ensures { result ≡ list_all (λ x. not (machine.has_number session.now id x) || key_eq x.key (Key.Own session.now id)) consumers.now }
-{
-    let key = Key::Own(*session, id);
-    consumers.iter().all(|x| is_of_key(x, session, id, &key))
-}
-
-/// Whether the entry is a creating call of the session that names the number.
-fn creates(entry: &Entry, session: &SessionId, id: ConsumerId) -> bool
-    ensures { result ≡ spec.creates session.now id entry.now }
-{
-    match entry {
-        Entry::Asked {
-            who: Who::Session(sender),
-            request: Request::CreateConsumer { consumer, .. },
-            ..
-        } => same_session(sender, session) && *consumer == id,
-        _ => false,
-    }
-}
-
-/// Whether one of the consumers has the number.
-fn is_held(consumers: &[Consumer], session: &SessionId, id: ConsumerId) -> bool
-    ensures { result ≡ list_any (machine.has_number session.now id) consumers.now }
-{
-    consumers.iter().any(|x| has_number(x, session, id))
-}
-
-/// Whether a creating call among the entries names the number.
-fn is_created(entries: &[Entry], session: &SessionId, id: ConsumerId) -> bool
-    ensures { result ≡ list_any (spec.creates session.now id) entries.now }
-{
-    entries.iter().any(|entry| creates(entry, session, id))
-}
-
-/// Whether the number was made: a consumer of the opening has it, or a creating call among the entries
-/// names it.
-fn is_made(consumers: &[Consumer], entries: &[Entry], session: &SessionId, id: ConsumerId) -> bool
-    ensures { result ≡ (list_any (machine.has_number session.now id) consumers.now || list_any (spec.creates session.now id) entries.now) }
-{
-    is_held(consumers, session, id) || is_created(entries, session, id)
-}
-
-/// Whether the entry, where it is a creating call that names the number, is that of a topic's consumer: it names the
-/// number's own subscription, whether it was accepted or not.
-fn names_its_own(entry: &Entry, session: &SessionId, id: ConsumerId) -> bool
-    ensures { result ≡ isolation.names_no_other (Key.Own session.now id) session.now id entry.now }
-{
-    match entry {
-        Entry::Asked {
-            who: Who::Session(sender),
-            request: Request::CreateConsumer {
-                consumer,
-                destination: Destination::Queue(_),
-                ..
-            },
-            ..
-        } => !(same_session(sender, session) && *consumer == id),
-        _ => true,
-    }
-}
-
-/// Whether no creating call among the entries names the number for anything but its own subscription.
-fn is_named_alone(entries: &[Entry], session: &SessionId, id: ConsumerId) -> bool
-    ensures { result ≡ list_all (isolation.names_no_other (Key.Own session.now id) session.now id) entries.now }
-{
-    entries
-        .iter()
-        .all(|entry| names_its_own(entry, session, id))
-}
-
-/// Whether the key is that of an unshared topic subscription, and its number names nothing else, in the opening or by a
-/// creating call among the entries.
-fn is_unshared(key: &Key, opening: &Core, entries: &[Entry]) -> bool
-    ensures { result ≡ isolation.is_unshared key.now (state_of opening.now) entries.now }
-{
-    match key {
-        Key::Own(session, consumer) => {
-            names_nothing_else(opening.consumers(), session, *consumer)
-                && is_named_alone(entries, session, *consumer)
-        }
-        _ => false,
-    }
+    let station = opening.station(key)?;
+    let scope = scope_of(alloc, opening, entries, key, &station)?;
+    let mut lone = lone_of(alloc, opening, &scope, station)?;
+    let mut transactions = transactions_of(alloc, opening)?;
+    answers(alloc, &mut lone, &scope, &mut transactions, entries)
 }
 
 /// What the key's subscription answers alone, each reply with the place of its call among the entries,
-/// from 0: it begins with what the opening holds of it, and is fed with the calls of its own session,
-/// with the accepted calls of that session's connection, and with the committed publications that it accepts:
-/// a message of a session that is not transacted at its entry, and one of a transacted session at the first later
-/// commit of that session, where no rollback or close stands between. Of the replies in the entries nothing is
-/// read but whether a connection's call was accepted.
+/// from 0: it begins with what the opening holds of it, and is fed with the calls of its own sessions, with the accepted
+/// calls of those sessions' connections, and with the committed publications that it accepts: a message of a session that
+/// is not transacted at its entry, and one of a transacted session at the first later commit of that session, where no
+/// rollback or close stands between. Of the replies in the entries nothing is read but whether a connection's call was
+/// accepted.
 ///
-/// `NotUnshared` exactly where the key is not that of an unshared topic subscription, or its consumer's number names
-/// another consumer of the opening, or a creating call among the entries, accepted or not, names it for anything but a
-/// consumer of a topic; else `Memory` where a request for memory was refused, or where the places of its rows, counted
+/// The own sessions of a consumer's subscription are that consumer's; those of a durable one are the sessions that in the
+/// opening have a consumer or a row of it, and those that among the entries ask for it by `CreateDurable`, or for its end by
+/// `Unsubscribe`, accepted or not.
+///
+/// `NotUnshared` exactly where the key is not that of an unshared topic subscription: a queue's, or a shared one's that is
+/// not durable; a consumer's own, whose number names another consumer of the opening, or which a creating call among the
+/// entries, accepted or not, names for anything but a consumer of a topic; a durable one's without a client, or one that is
+/// shared in the opening, or for which a `CreateSharedDurable` among the entries, accepted or not, asks on a connection
+/// with its client. Else `Memory` where a request for memory was refused, or where the places of its rows, counted
 /// from 1, would pass 2^63-1, as no memory would hold so many.
 pub fn lone_replies(
     alloc: Global,
@@ -196,19 +359,8 @@ pub fn lone_replies(
         (λ replies. (replies.items ≡ isolation.alone key.now (state_of opening.now) entries.now) × (isolation.is_unshared key.now (state_of opening.now) entries.now ≡ true))
         (λ fault. Stands fault (isolation.is_unshared key.now (state_of opening.now) entries.now)) }
 {
-    if !is_unshared(key, opening, entries) {
+    if !is_alone(opening, entries, key) {
         return Err(LoneFault::NotUnshared);
     }
-    match key {
-        Key::Own(session, consumer) => {
-            let is_made = is_made(opening.consumers(), entries, session, *consumer);
-            let owner = Owner {
-                session: *session,
-                consumer: *consumer,
-                is_made,
-            };
-            Ok(owner_replies(alloc, opening, entries, &owner)?)
-        }
-        _ => Err(LoneFault::NotUnshared),
-    }
+    Ok(unshared_replies(alloc, opening, entries, key)?)
 }

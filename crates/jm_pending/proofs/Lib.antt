@@ -16,6 +16,7 @@ mod Soonest
 mod Receiving
 mod Shown
 mod Standing
+mod Home
 pub mod Counting
 pub mod From
 pub mod Choice

@@ -1,6 +1,6 @@
 -- Rows that a subscription holds, each for a message, and which of them is delivered next.
-use Rattle.std.specs.Prelude.{ℕ, ◌+◌, ◌<◌, ◌==◌, nat_lt, nat_le, Bool, false, not, ◌&&◌, ◌||◌, if◌then◌else◌, List, [], ◌∷◌, Option, Some, None, All, find}
-use Rattle.std.specs.List.{list_all}
+use Rattle.std.specs.Prelude.{ℕ, ◌+◌, ◌<◌, ◌==◌, nat_lt, nat_le, Bool, true, false, not, ◌&&◌, ◌||◌, if◌then◌else◌, List, [], ◌∷◌, Option, Some, None, All, find}
+use Rattle.std.specs.List.{list_all, list_any}
 use Rattle.jm_dest.specs.declared.session.SessionId.{SessionId}
 use Rattle.jm_header.specs.declared.content.Content.{Content}
 use Rattle.jm_machine.specs.declared.state.RowState.{RowState}
@@ -26,6 +26,10 @@ is_waiting r = waits r.state
 -- the row is out, through a consumer that passes
 abbrev pub is_out : (SessionId → ℕ → Bool) → Row → Bool
 is_out p r = goes_out p r.state
+
+-- none of the rows is out
+abbrev pub are_home : List Row → Bool
+are_home rows = not (list_any (λ r. is_out (λ s c. true) r) rows)
 
 -- the row at the place is out through the session's consumer of that number
 abbrev pub is_out_through : SessionId → ℕ → ℕ → Row → Bool

@@ -154,6 +154,13 @@ impl Held {
         }
     }
 
+    /// Whether no row is out. Where it is known that none is, no row is looked at. Takes no memory.
+    pub fn is_home(&self) -> bool
+        ensures { result ≡ spec.are_home self.now.rows }
+    {
+        self.receivers.is_nobody() || lanes::are_home(&self.lanes)
+    }
+
     /// Makes room for that many more rows. `AllocError` where a request for memory was refused. Either
     /// way the rows are as before.
     pub fn reserve(&mut self, additional: usize) -> Result<(), AllocError>

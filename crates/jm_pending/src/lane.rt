@@ -2,7 +2,7 @@
 
 ghost use Rattle.std.specs.Prelude.{◌≡◌, ℕ, ◌+◌, ◌<◌, ◌≤◌, [], ◌∷◌, ◌++◌, length, All, find, filter, map, take, true, false, OnOk, MatchOption, option_map, slice_get};
 ghost use Rattle.jm_pending.specs.declared.row.Row.{Row};
-ghost use Rattle.jm_pending.specs.Rows.{IsRising, back, is_among, is_elsewhere, is_ready, is_waiting, keeps, sent_at, stays};
+ghost use Rattle.jm_pending.specs.Rows.{IsRising, are_home, back, is_among, is_elsewhere, is_ready, is_waiting, keeps, sent_at, stays};
 ghost use Rattle.jm_pending.specs.Rows as spec;
 ghost use Rattle.jm_pending.specs.Chosen.{StandsIn, is_better};
 ghost use Rattle.jm_selector.specs.Selectors.{read_selects, selector_read};
@@ -198,6 +198,13 @@ impl Lane {
         ensures soonest { IsSoonestOf (is_better best.now (read_selects (selector_read selector.now)) table.now now) self.now.rows (slice_get self.now.rows result) }
     {
         walks::first_choice(&self.rows, low, table, now, selector, best)
+    }
+
+    /// Whether no row is out.
+    pub(crate) fn is_home(&self) -> bool
+        ensures { result ≡ are_home self.now.rows }
+    {
+        walks::are_home(&self.rows, self.high)
     }
 
     /// Drops the waiting rows that are expired.

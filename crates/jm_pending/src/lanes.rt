@@ -114,6 +114,18 @@ pub(crate) fn row_from(lanes: &[Lane], place: u64) -> Option<Row>
     at(lanes, place_from(lanes, place))
 }
 
+/// Whether no row is out.
+pub(crate) fn are_home(lanes: &[Lane]) -> bool
+    ensures { result ≡ spec.are_home (all_rows lanes.now) }
+{
+    for lane in lanes.iter() {
+        if !lane.is_home() {
+            return false;
+        }
+    }
+    true
+}
+
 pub(crate) fn reserve(lanes: &mut [Lane], additional: usize) -> Result<(), AllocError>
     ensures same { EachBecomes (λ rows. rows) lanes.old lanes.new }
     ensures ok { OnOk result (All (λ l. additional ≤ l.spare) lanes.new) }

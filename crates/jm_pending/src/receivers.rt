@@ -33,7 +33,7 @@ impl Receivers {
     }
 
     /// Whether no row is out.
-    fn is_nobody(&self) -> bool
+    pub(crate) fn is_nobody(&self) -> bool
         ensures { result ≡ true → (state : RowState) → is_known self.now state ≡ true → state ≡ Waiting }
     {
         matches!(self, Receivers::Nobody)

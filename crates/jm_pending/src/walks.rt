@@ -3,7 +3,7 @@
 ghost use Rattle.std.specs.Prelude.{◌≡◌, ℕ, ◌<◌, ◌≤◌, [], ◌∷◌, ◌++◌, length, All, filter, map, drop, take, not, true, false, slice_index_or};
 ghost use Rattle.std.specs.VecDeque.{deque_len, deque_capacity};
 ghost use Rattle.jm_pending.specs.declared.row.Row.{Row};
-ghost use Rattle.jm_pending.specs.Rows.{IsRising, back, is_among, is_ready, is_waiting, keeps, stays};
+ghost use Rattle.jm_pending.specs.Rows.{IsRising, are_home, back, is_among, is_ready, is_waiting, keeps, stays};
 ghost use Rattle.jm_pending.specs.Chosen.{is_better};
 ghost use Rattle.jm_selector.specs.Selectors.{read_selects, selector_read};
 ghost use Rattle.jm_pending.specs.Lanes.{IsBound, IsSteady};
@@ -69,6 +69,20 @@ pub(crate) fn first_ready(rows: &VecDeque<Row>, low: usize, now: Moment) -> usiz
         }
     }
     rows.len()
+}
+
+/// Whether each of the first `high` rows waits; no other row is out.
+pub(crate) fn are_home(rows: &VecDeque<Row>, high: usize) -> bool
+    requires in_range { high ≤ length rows.now.items }
+    requires behind { All (λ r. is_waiting r ≡ true) (drop high rows.now.items) }
+    ensures { result ≡ are_home rows.now.items }
+{
+    for i in 0..high {
+        if !rows[i].is_waiting() {
+            return false;
+        }
+    }
+    true
 }
 
 /// Where the first row stands that is ready, whose message the selector selects, and that goes before the best so far,

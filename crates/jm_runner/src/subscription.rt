@@ -184,13 +184,17 @@ fn told<R: Read>(alloc: Global, source: &mut Source<R>, key: &str) -> Result<Pri
     })
 }
 
-/// Reads a scenario, in at most 16,777,217 reads, and makes its calls on a new provider, then reads the key
-/// of a subscription, and prints what this subscription answers alone, fed with the calls of its own
-/// session, with the accepted calls of that session's connection, and with the committed messages that it
-/// accepts: a line for each reply, with the number of its call. A subscription that is not durable holds at most as
-/// many rows as the scenario says, in the run and alone; where it says none, 100,000. The exit status is that of the
-/// run. The fault of a scenario is told before any of the key, which is judged over the whole run: none is unshared whose
-/// consumer's number a creating call, accepted or not, names for a queue's consumer.
+/// Reads a scenario, in at most 16,777,217 reads, and makes its calls on a new provider, then reads the key of a
+/// subscription, a consumer's own or a durable one, and prints what this subscription answers alone: a line for each
+/// reply, with the number of its call. It is fed with the calls of its own sessions, with the accepted calls of their
+/// connections, and with the committed messages that it accepts. Its own sessions are the consumer's; of a durable one
+/// those that ask for it, or for its end, with its client identifier. A subscription that is not durable holds at most
+/// as many rows as the scenario says, in the run and alone; where it says none, 100,000. The exit status is that of
+/// the run.
+///
+/// The fault of a scenario is told before any of the key, which is judged over the whole run: none is unshared that a
+/// call, accepted or not, asks for as a shared one, or whose consumer's number a creating call, accepted or not, names
+/// for anything else. A key that no call names has no lines.
 pub fn lone<R: Read, W: Write>(
     alloc: Global,
     source: &mut Source<R>,

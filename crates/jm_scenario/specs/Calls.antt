@@ -3,6 +3,7 @@ use Rattle.std.specs.Prelude.{ℕ, List, [], ◌∷◌, Option, Some, None, opti
 use Rattle.serde_json.specs.Data.{Data, Items, no_items, item}
 use Rattle.serde_json.specs.Find.{get, as_str, as_array}
 use Rattle.serde_json.specs.Read.{read}
+use Rattle.jm_dest.specs.declared.destination.Destination.{Destination}
 use Rattle.jm_machine.specs.declared.call.Who.TheVariants.{Connection as OfConnection, Session as OfSession}
 use Rattle.jm_machine.specs.declared.call.Request.{Request}
 use Rattle.jm_machine.specs.declared.call.Request.TheVariants as request
@@ -13,7 +14,7 @@ use Rattle.jm_scenario.specs.Fields.{operation_named, is_known}
 use Rattle.jm_scenario.specs.Reading.{where_true}
 use Rattle.jm_scenario.specs.Values.{number, limit, session, mode, name, moment, required, optional, destination, no_local}
 use Rattle.jm_scenario.specs.declared.field.Owner.{Owner}
-use Rattle.jm_scenario.specs.declared.field.Owner.TheVariants.{Scenario as Outer, Open, Start, Stop, CloseConnection, Session, CloseSession, Acknowledge, Recover, Commit, Rollback, Consumer, CloseConsumer, Missed, Send, Receive}
+use Rattle.jm_scenario.specs.declared.field.Owner.TheVariants.{Scenario as Outer, Open, Start, Stop, CloseConnection, Session, CloseSession, Acknowledge, Recover, Commit, Rollback, Consumer, Durable, Shared, SharedDurable, CloseConsumer, Missed, Unsubscribe, Send, Receive}
 use Rattle.jm_scenario.specs.declared.scenario.Scenario.{Scenario}
 
 -- a call by the connection of the record
@@ -53,6 +54,26 @@ consumer_call value =
     call.Ask (OfSession s) (request.CreateConsumer k d selector mark)) (no_local value)) (optional as_str (codes "selector") value))
     (destination value)) (required number (codes "k") value)) (required session (codes "s") value)
 
+-- a consumer of the unshared durable subscription of that name, which asks for that topic, that selector and that mark
+abbrev pub durable_call : Data → Option ClientCall
+durable_call value =
+    option_and_then (λ s. option_and_then (λ k. option_and_then (λ d. option_and_then (λ n. option_and_then (λ selector. option_map (λ mark.
+    call.Ask (OfSession s) (request.CreateDurable k d n selector mark)) (no_local value)) (optional as_str (codes "selector") value))
+    (required name (codes "name") value)) (destination value)) (required number (codes "k") value)) (required session (codes "s") value)
+
+-- a consumer of the shared subscription of that name, which asks for that topic and that selector
+abbrev pub shared_call : (ℕ → Destination → List ℕ → Option (List ℕ) → Request) → Data → Option ClientCall
+shared_call request value =
+    option_and_then (λ s. option_and_then (λ k. option_and_then (λ d. option_and_then (λ n. option_map (λ selector.
+    call.Ask (OfSession s) (request k d n selector)) (optional as_str (codes "selector") value))
+    (required name (codes "name") value)) (destination value)) (required number (codes "k") value)) (required session (codes "s") value)
+
+-- the end of the durable subscription of that name
+abbrev pub unsubscribe_call : Data → Option ClientCall
+unsubscribe_call value =
+    option_and_then (λ s. option_map (λ n. call.Ask (OfSession s) (request.Unsubscribe n)) (required name (codes "name") value))
+    (required session (codes "s") value)
+
 -- a receive of that consumer at that moment
 abbrev pub receive_call : Data → Option ClientCall
 receive_call value =
@@ -79,8 +100,12 @@ call_as Recover value = session_request request.Recover value
 call_as Commit value = commit_call value
 call_as Rollback value = session_request request.Rollback value
 call_as Consumer value = consumer_call value
+call_as Durable value = durable_call value
+call_as Shared value = shared_call request.CreateShared value
+call_as SharedDurable value = shared_call request.CreateSharedDurable value
 call_as CloseConsumer value = consumer_request request.CloseConsumer value
 call_as Missed value = consumer_request request.Missed value
+call_as Unsubscribe value = unsubscribe_call value
 call_as Send value = send_call value
 call_as Receive value = receive_call value
 

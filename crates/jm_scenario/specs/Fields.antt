@@ -9,7 +9,7 @@ use Rattle.jm_scenario.specs.declared.field.Field.TheVariants as field
 use Rattle.jm_scenario.specs.declared.field.FieldName.{FieldName}
 use Rattle.jm_scenario.specs.declared.field.FieldName.TheVariants.{Known, Unknown}
 use Rattle.jm_scenario.specs.declared.field.Owner.{Owner}
-use Rattle.jm_scenario.specs.declared.field.Owner.TheVariants.{Scenario, Open, Start, Stop, CloseConnection, Session, CloseSession, Acknowledge, Recover, Commit, Rollback, Consumer, CloseConsumer, Missed, Send, Receive}
+use Rattle.jm_scenario.specs.declared.field.Owner.TheVariants.{Scenario, Open, Start, Stop, CloseConnection, Session, CloseSession, Acknowledge, Recover, Commit, Rollback, Consumer, Durable, Shared, SharedDurable, CloseConsumer, Missed, Unsubscribe, Send, Receive}
 
 -- the name of a field
 abbrev pub field_name : Field → List ℕ
@@ -23,6 +23,7 @@ field_name field.Mode = codes "mode"
 field_name field.Consumer = codes "k"
 field_name field.Queue = codes "queue"
 field_name field.Topic = codes "topic"
+field_name field.Name = codes "name"
 field_name field.Selector = codes "selector"
 field_name field.NoLocal = codes "noLocal"
 field_name field.Now = codes "now"
@@ -54,10 +55,14 @@ operation_named text =
     (if bytes_eq text (codes "commit") then Some Commit else
     (if bytes_eq text (codes "rollback") then Some Rollback else
     (if bytes_eq text (codes "consumer") then Some Consumer else
+    (if bytes_eq text (codes "durable") then Some Durable else
+    (if bytes_eq text (codes "shared") then Some Shared else
+    (if bytes_eq text (codes "shared-durable") then Some SharedDurable else
     (if bytes_eq text (codes "close-consumer") then Some CloseConsumer else
     (if bytes_eq text (codes "missed") then Some Missed else
+    (if bytes_eq text (codes "unsubscribe") then Some Unsubscribe else
     (if bytes_eq text (codes "send") then Some Send else
-    (if bytes_eq text (codes "receive") then Some Receive else None))))))))))))))
+    (if bytes_eq text (codes "receive") then Some Receive else None))))))))))))))))))
 
 -- the name of a field of a draft
 abbrev pub is_draft_field : List ℕ → Bool
@@ -80,8 +85,15 @@ has Commit name = bytes_eq name (codes "op") || bytes_eq name (codes "s")
 has Rollback name = bytes_eq name (codes "op") || bytes_eq name (codes "s")
 has Consumer name = bytes_eq name (codes "op") || bytes_eq name (codes "s") || bytes_eq name (codes "k") || bytes_eq name (codes "queue")
     || bytes_eq name (codes "topic") || bytes_eq name (codes "selector") || bytes_eq name (codes "noLocal")
+has Durable name = bytes_eq name (codes "op") || bytes_eq name (codes "s") || bytes_eq name (codes "k") || bytes_eq name (codes "queue")
+    || bytes_eq name (codes "topic") || bytes_eq name (codes "name") || bytes_eq name (codes "selector") || bytes_eq name (codes "noLocal")
+has Shared name = bytes_eq name (codes "op") || bytes_eq name (codes "s") || bytes_eq name (codes "k") || bytes_eq name (codes "queue")
+    || bytes_eq name (codes "topic") || bytes_eq name (codes "name") || bytes_eq name (codes "selector")
+has SharedDurable name = bytes_eq name (codes "op") || bytes_eq name (codes "s") || bytes_eq name (codes "k") || bytes_eq name (codes "queue")
+    || bytes_eq name (codes "topic") || bytes_eq name (codes "name") || bytes_eq name (codes "selector")
 has CloseConsumer name = bytes_eq name (codes "op") || bytes_eq name (codes "s") || bytes_eq name (codes "k")
 has Missed name = bytes_eq name (codes "op") || bytes_eq name (codes "s") || bytes_eq name (codes "k")
+has Unsubscribe name = bytes_eq name (codes "op") || bytes_eq name (codes "s") || bytes_eq name (codes "name")
 has Send name = bytes_eq name (codes "op") || bytes_eq name (codes "s") || bytes_eq name (codes "queue") || bytes_eq name (codes "topic")
     || bytes_eq name (codes "now") || is_draft_field name
 has Receive name = bytes_eq name (codes "op") || bytes_eq name (codes "s") || bytes_eq name (codes "k") || bytes_eq name (codes "now")

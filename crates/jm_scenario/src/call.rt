@@ -7,7 +7,7 @@ use crate::draft::draft;
 use crate::field::{Field, Owner, not_known, unknown};
 use crate::misfit::Misfit;
 use crate::value::{
-    client, connection, consumer, destination, mode, no_local, now, selector, session,
+    client, connection, consumer, destination, mode, no_local, now, selector, session, subscription,
 };
 use jm_machine::{ClientCall, Request, Who};
 use serde_json::Value;
@@ -83,6 +83,69 @@ fn create_consumer(alloc: Global, object: &Value) -> Result<ClientCall, Misfit>
     Ok(ClientCall::Ask { who, request })
 }
 
+fn create_durable(alloc: Global, object: &Value) -> Result<ClientCall, Misfit>
+    ensures { Reads result (spec.durable_call (view object.now)) }
+{
+    let who = Who::Session(session(object)?);
+    let consumer = consumer(object)?;
+    let destination = destination(alloc, object)?;
+    let name = subscription(alloc, object)?;
+    let selector = selector(alloc, object)?;
+    let no_local = no_local(object)?;
+    let request = Request::CreateDurable {
+        consumer,
+        destination,
+        name,
+        selector,
+        no_local,
+    };
+    Ok(ClientCall::Ask { who, request })
+}
+
+fn create_shared(alloc: Global, object: &Value) -> Result<ClientCall, Misfit>
+    ensures { Reads result (spec.shared_call Request.CreateShared (view object.now)) }
+{
+    let who = Who::Session(session(object)?);
+    let consumer = consumer(object)?;
+    let destination = destination(alloc, object)?;
+    let name = subscription(alloc, object)?;
+    let selector = selector(alloc, object)?;
+    let request = Request::CreateShared {
+        consumer,
+        destination,
+        name,
+        selector,
+    };
+    Ok(ClientCall::Ask { who, request })
+}
+
+fn create_shared_durable(alloc: Global, object: &Value) -> Result<ClientCall, Misfit>
+    ensures { Reads result (spec.shared_call Request.CreateSharedDurable (view object.now)) }
+{
+    let who = Who::Session(session(object)?);
+    let consumer = consumer(object)?;
+    let destination = destination(alloc, object)?;
+    let name = subscription(alloc, object)?;
+    let selector = selector(alloc, object)?;
+    let request = Request::CreateSharedDurable {
+        consumer,
+        destination,
+        name,
+        selector,
+    };
+    Ok(ClientCall::Ask { who, request })
+}
+
+/// The end of the durable subscription that the object names. `Memory` where a request for memory was refused.
+fn unsubscribe(alloc: Global, object: &Value) -> Result<ClientCall, Misfit>
+    ensures { Reads result (spec.unsubscribe_call (view object.now)) }
+{
+    let who = Who::Session(session(object)?);
+    let name = subscription(alloc, object)?;
+    let request = Request::Unsubscribe { name };
+    Ok(ClientCall::Ask { who, request })
+}
+
 fn close_consumer(object: &Value) -> Result<ClientCall, Misfit>
     ensures { ReadsExactly result (spec.consumer_request Request.CloseConsumer (view object.now)) }
 {
@@ -144,8 +207,12 @@ fn call_as(alloc: Global, object: &Value, operation: Owner) -> Result<ClientCall
         Owner::Commit => commit(object),
         Owner::Rollback => by_session(object, Request::Rollback),
         Owner::Consumer => create_consumer(alloc, object),
+        Owner::Durable => create_durable(alloc, object),
+        Owner::Shared => create_shared(alloc, object),
+        Owner::SharedDurable => create_shared_durable(alloc, object),
         Owner::CloseConsumer => close_consumer(object),
         Owner::Missed => missed(object),
+        Owner::Unsubscribe => unsubscribe(alloc, object),
         Owner::Send => send(alloc, object),
         Owner::Receive => receive(object),
     }

@@ -32,9 +32,12 @@ pub enum Field {
     Queue,
     /// The name of the topic that a consumer listens to, or that a message is sent to.
     Topic,
+    /// The name of a durable or shared subscription.
+    Name,
     /// The text of the selector of a new consumer.
     Selector,
-    /// Whether a new consumer gets nothing that its own connection publishes.
+    /// Whether a new consumer gets nothing that its own connection publishes; of a durable subscription, nothing that
+    /// connections with its client identifier publish.
     NoLocal,
     /// The moment of a send or a receive.
     Now,
@@ -79,8 +82,12 @@ pub(crate) enum Owner {
     Commit,
     Rollback,
     Consumer,
+    Durable,
+    Shared,
+    SharedDurable,
     CloseConsumer,
     Missed,
+    Unsubscribe,
     Send,
     Receive,
 }
@@ -101,6 +108,7 @@ impl Field {
             Field::Consumer => "k",
             Field::Queue => "queue",
             Field::Topic => "topic",
+            Field::Name => "name",
             Field::Selector => "selector",
             Field::NoLocal => "noLocal",
             Field::Now => "now",
@@ -156,8 +164,12 @@ impl Owner {
             "commit" => Some(Owner::Commit),
             "rollback" => Some(Owner::Rollback),
             "consumer" => Some(Owner::Consumer),
+            "durable" => Some(Owner::Durable),
+            "shared" => Some(Owner::Shared),
+            "shared-durable" => Some(Owner::SharedDurable),
             "close-consumer" => Some(Owner::CloseConsumer),
             "missed" => Some(Owner::Missed),
+            "unsubscribe" => Some(Owner::Unsubscribe),
             "send" => Some(Owner::Send),
             "receive" => Some(Owner::Receive),
             _ => None,
@@ -184,7 +196,16 @@ impl Owner {
                     "op" | "s" | "k" | "queue" | "topic" | "selector" | "noLocal"
                 )
             }
+            Owner::Durable => {
+                matches!(name, "op" | "s" | "k" | "queue")
+                    || matches!(name, "topic" | "name" | "selector" | "noLocal")
+            }
+            Owner::Shared | Owner::SharedDurable => {
+                matches!(name, "op" | "s" | "k" | "queue")
+                    || matches!(name, "topic" | "name" | "selector")
+            }
             Owner::CloseConsumer | Owner::Missed => matches!(name, "op" | "s" | "k"),
+            Owner::Unsubscribe => matches!(name, "op" | "s" | "name"),
             Owner::Send => {
                 matches!(name, "op" | "s" | "queue" | "topic" | "now") || is_draft_field(name)
             }

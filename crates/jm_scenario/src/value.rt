@@ -8,7 +8,9 @@ ghost use Rattle.jm_scenario.specs.Values as spec;
 use crate::field::Field;
 use crate::misfit::Misfit;
 use jm_base::{Mode, Refusal, Str};
-use jm_dest::{ClientId, ConnectionId, ConsumerId, Destination, Moment, Name, SessionId};
+use jm_dest::{
+    ClientId, ConnectionId, ConsumerId, Destination, Moment, Name, SessionId, SubscriptionName,
+};
 use serde_json::Value;
 use std::alloc::Global;
 
@@ -210,6 +212,24 @@ pub(crate) fn client(alloc: Global, object: &Value) -> Result<Option<ClientId>, 
         Some(value) => Ok(Some(client_of(alloc, value)?)),
         None => Ok(None),
     }
+}
+
+/// The subscription's name of that value. `Memory` where a request for memory was refused.
+fn subscription_of(alloc: Global, value: &Value) -> Result<SubscriptionName, Misfit>
+    ensures { Reads result (spec.name (view value.now)) }
+{
+    match SubscriptionName::new(alloc, text(value, Field::Name)?) {
+        Ok(name) => Ok(name),
+        Err(Refusal::Memory) => Err(Misfit::Memory),
+        Err(_) => Err(Misfit::Shape(Field::Name)),
+    }
+}
+
+/// The subscription's name of the field `name`. `Memory` where a request for memory was refused.
+pub(crate) fn subscription(alloc: Global, object: &Value) -> Result<SubscriptionName, Misfit>
+    ensures { Reads result (spec.required spec.name (codes "name") (view object.now)) }
+{
+    subscription_of(alloc, required(object, Field::Name)?)
 }
 
 /// The truth value of the field `noLocal`, and false where it does not stand.

@@ -2,3 +2,4 @@ mod Indexed
 mod Changed
 mod Counts
 mod Found
+mod Counted

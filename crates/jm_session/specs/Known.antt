@@ -13,6 +13,11 @@ pub record Known : Type 0 where
   pub consumers : List Consumer
   pub spare : ℕ
 
+-- the consumers that were made, in order, and for how many more there is room
+pub record Listed : Type 0 where
+  pub consumers : List Consumer
+  pub spare : ℕ
+
 -- why a call is refused that takes memory: its check fails, or a request for memory was refused
 abbrev pub cause : Bool → Refusal
 cause allowed = if allowed then Memory else IllegalState

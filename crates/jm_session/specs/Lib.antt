@@ -2,3 +2,4 @@ pub mod Clients
 pub mod Known
 pub mod Numbers
 pub mod Sends
+pub mod Sources

@@ -7,8 +7,11 @@ mod clients;
 mod closing;
 mod number;
 mod one;
+mod roster;
 mod sends;
 mod sessions;
+mod source;
 
 pub use sends::Sends;
 pub use sessions::Sessions;
+pub use source::Source;

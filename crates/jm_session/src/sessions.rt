@@ -1,23 +1,26 @@
 //! What was opened and made, by number.
 
-ghost use Rattle.std.specs.Prelude.{◌≡◌, ◌+◌, ◌<◌, ◌≤◌, ◌++◌, [], ◌∷◌, map, true, false, is_ok, is_some, option_to_list, IfOk, IfErr, OnOk, OnErr, None, if◌then◌else◌};
+ghost use Rattle.std.specs.Prelude.{◌≡◌, ◌+◌, ◌<◌, ◌≤◌, ◌++◌, [], ◌∷◌, map, filter, not, true, false, is_ok, is_some, option_to_list, IfOk, IfErr, OnOk, OnErr, None, if◌then◌else◌};
+ghost use Rattle.std.specs.List.{list_any};
 ghost use Rattle.std.specs.Option.{option_copied};
 ghost use Rattle.jm_base.specs.declared.refusal.Refusal.TheVariants.{IllegalState};
 ghost use Rattle.jm_machine.specs.declared.call.Who.TheVariants.{Connection, Session};
 ghost use Rattle.jm_machine.specs.declared.call.Request.TheVariants.{Open, Start, Stop, CloseConnection, CreateSession, CloseSession};
+ghost use Rattle.jm_dest.specs.Keys.{key_eq};
+ghost use Rattle.jm_machine.specs.Attached.{AreCounted, is_named};
 ghost use Rattle.jm_machine.specs.Life as life;
 ghost use Rattle.jm_machine.specs.Machine as machine;
 ghost use Rattle.jm_session.specs.Known.{cause, life_set, may_receive, open_cause};
 
 use crate::clients::Clients;
-use crate::closing::{close_consumer, close_consumers, close_session, close_sessions};
-use crate::number::ConsumerNumber;
-use crate::one::{one_connection, one_consumer, one_session};
+use crate::closing::{close_session, close_sessions};
+use crate::one::{one_connection, one_session};
+use crate::roster::Roster;
+use crate::source::Source;
 use indexmap::IndexMap;
 use jm_base::{Mode, Refusal};
 use jm_dest::{ClientId, ConnectionId, ConsumerId, Key, SessionId};
-use jm_machine::{ConnectionState, Consumer, Consumers, SessionState};
-use jm_selector::Selector;
+use jm_machine::{Attached, ConnectionState, Consumer, Consumers, SessionState};
 use std::alloc::{AllocError, Global};
 use std::marker::Model;
 
@@ -29,7 +32,7 @@ pub struct Sessions {
     alloc: Global,
     connections: IndexMap<ConnectionId, ConnectionState>,
     sessions: IndexMap<SessionId, SessionState>,
-    consumers: IndexMap<ConsumerNumber, Consumer>,
+    roster: Roster,
     clients: Clients,
 }
 
@@ -41,18 +44,17 @@ impl Model for Sessions {
 
     ghost Value = { Known };
 
-    ghost use Rattle.jm_session.specs.Numbers.{IsNumbered, number_of};
+    ghost use Rattle.jm_session.specs.Numbers.{IsNumbered};
 
     ghost view = { λ s. record {
       life = record { connections = values s.connections; sessions = values s.sessions };
-      consumers = values s.consumers;
-      spare = min (min (spare s.connections) (room s.clients)) (min (spare s.sessions) (spare s.consumers));
+      consumers = s.roster.consumers;
+      spare = min (min (spare s.connections) (room s.clients)) (min (spare s.sessions) s.roster.spare);
     } };
 
     ghost invariant = { λ s.
         IsNumbered (λ x. x.id) s.connections.entries
         × IsNumbered (λ x. x.id) s.sessions.entries
-        × IsNumbered number_of s.consumers.entries
         × AreClientsApart (values s.connections)
         × (s.clients.has_all ≡ true → IsIndexOf (values s.connections) s.clients) };
 }
@@ -67,7 +69,7 @@ impl Sessions {
             alloc,
             connections: IndexMap::new(alloc),
             sessions: IndexMap::new(alloc),
-            consumers: IndexMap::new(alloc),
+            roster: Roster::new(alloc),
             clients: Clients::new(alloc),
         }
     }
@@ -85,13 +87,13 @@ impl Sessions {
     {
         let connections = one_connection(alloc, connection)?;
         let sessions = one_session(alloc, session)?;
-        let consumers = one_consumer(alloc, consumer)?;
+        let roster = Roster::of_one(alloc, consumer)?;
         let clients = Clients::of(alloc, connections.values().as_slice())?;
         Ok(Sessions {
             alloc,
             connections,
             sessions,
-            consumers,
+            roster,
             clients,
         })
     }
@@ -105,7 +107,7 @@ impl Sessions {
             alloc: self.alloc,
             connections: self.connections.clone()?,
             sessions: self.sessions.clone()?,
-            consumers: self.consumers.clone()?,
+            roster: self.roster.copy(self.alloc)?,
             clients: Clients::of(self.alloc, self.connections())?,
         })
     }
@@ -128,7 +130,21 @@ impl Sessions {
     pub fn consumers(&self) -> &[Consumer]
         ensures { result.now ≡ self.now.consumers }
     {
-        self.consumers.values().as_slice()
+        self.roster.as_slice()
+    }
+
+    /// How many active consumers the subscriptions that have names have.
+    pub fn attached(&self) -> &Attached
+        ensures { AreCounted self.now.consumers result.now }
+    {
+        self.roster.attached()
+    }
+
+    /// Whether no consumer of the key is active. The subscription of the key has a name; else the answer says nothing.
+    pub fn is_idle(&self, key: &Key) -> bool
+        ensures { is_named key.now ≡ true → result ≡ not (list_any (λ x. x.is_active) (filter (λ x. key_eq x.key key.now) self.now.consumers)) }
+    {
+        self.attached().number(key) == 0
     }
 
     /// The connection of that number, where it was opened.
@@ -232,10 +248,7 @@ impl Sessions {
     pub fn consumer_of(&self, session: &SessionId, id: ConsumerId) -> Option<&Consumer>
         ensures { option_copied result ≡ machine.consumer_of self.now.consumers session.now id }
     {
-        self.consumers.get(&ConsumerNumber {
-            session: *session,
-            consumer: id,
-        })
+        self.roster.find(session, id)
     }
 
     /// Whether the session's consumer of that number is active.
@@ -293,7 +306,7 @@ impl Sessions {
     {
         self.connections.reserve(n)?;
         self.sessions.reserve(n)?;
-        self.consumers.reserve(n)?;
+        self.roster.reserve(n)?;
         let connections = self.connections.values().as_slice();
         self.clients.reserve(self.alloc, connections, n)
     }
@@ -391,7 +404,7 @@ impl Sessions {
         connection.is_started = false;
         connection.is_open = false;
         close_sessions(&mut self.sessions, id);
-        close_consumers(&mut self.consumers, &Consumers::OfConnection(id));
+        self.roster.close(&Consumers::OfConnection(id));
         Ok(())
     }
 
@@ -436,46 +449,33 @@ impl Sessions {
             return Err(Refusal::IllegalState);
         }
         close_session(&mut self.sessions, id);
-        close_consumers(&mut self.consumers, &Consumers::OfSession(*id));
+        self.roster.close(&Consumers::OfSession(*id));
         Ok(())
     }
 
-    /// Makes the session's consumer of that number, which receives from the key what the selector selects.
+    /// Makes the session's consumer of that number, which receives from the source.
     /// `IllegalState` where it may not be made; else `Memory` where a request for memory was refused, which
     /// does not come where there is room.
     pub fn consumer(
         &mut self,
         session: &SessionId,
         id: ConsumerId,
-        key: Key,
-        selector: Selector,
+        source: Source,
     ) -> Result<(), Refusal>
         ensures ok { OnOk result (machine.may_begin self.old.life self.old.consumers session.now id ≡ true) }
         ensures refused { IfErr result (λ refusal. refusal ≡ cause (machine.may_begin self.old.life self.old.consumers session.now id)) }
         ensures room { 0 < self.old.spare → machine.may_begin self.old.life self.old.consumers session.now id ≡ true → is_ok result ≡ true }
         ensures life { self.new.life ≡ self.old.life }
         ensures consumers { self.new.consumers ≡
-            (if is_ok result then self.old.consumers ++ machine.new_consumer session.now id key selector ∷ [] else self.old.consumers) }
+            (if is_ok result then self.old.consumers ++ machine.new_consumer session.now id source.key source.selector ∷ [] else self.old.consumers) }
         ensures spare { self.old.spare ≤ self.new.spare + 1 }
     {
         if !self.may_begin(session, id) {
             return Err(Refusal::IllegalState);
         }
-        let number = ConsumerNumber {
-            session: *session,
-            consumer: id,
-        };
-        let consumer = Consumer {
-            session: *session,
-            id,
-            key,
-            selector,
-            is_active: true,
-        };
-        match self.consumers.insert(number, consumer) {
-            Ok(_) => Ok(()),
-            Err(_) => Err(Refusal::Memory),
-        }
+        self.roster.reserve(1)?;
+        self.roster.add(session, id, source);
+        Ok(())
     }
 
     /// Closes the session's consumer of that number, which stays known. `IllegalState` where it was never
@@ -492,11 +492,7 @@ impl Sessions {
         if !self.may_close_consumer(session, id) {
             return Err(Refusal::IllegalState);
         }
-        let number = ConsumerNumber {
-            session: *session,
-            consumer: id,
-        };
-        close_consumer(&mut self.consumers, number);
+        self.roster.close_one(session, id);
         Ok(())
     }
 }

@@ -1,5 +1,5 @@
 -- What is held under each key, as callers see it.
-use Rattle.std.specs.Prelude.{◌≡◌, ◌≤◌, ◌<◌, ◌-◌, ◌↔◌, nat_eq, ℕ, zero, suc, Bool, ◌&&◌, ◌==◌, List, [], ◌∷◌, ◌++◌, Contains, find, length, count_by, sum_by, slice_index_or, Option, Some, None, if◌then◌else◌}
+use Rattle.std.specs.Prelude.{◌≡◌, ◌≤◌, ◌<◌, ◌-◌, ◌↔◌, nat_eq, ℕ, zero, suc, Bool, true, not, ◌&&◌, ◌==◌, List, [], ◌∷◌, ◌++◌, Contains, find, length, count_by, sum_by, slice_index_or, Option, Some, None, if◌then◌else◌}
 use Rattle.std.specs.List.{list_any, IsDistinct}
 use Rattle.std.specs.Option.{option_or}
 use Rattle.jm_dest.specs.declared.key.Key.{Key}
@@ -10,7 +10,7 @@ use Rattle.jm_machine.specs.declared.state.PlacedRow.{PlacedRow}
 use Rattle.jm_machine.specs.declared.answer.Answer.{Answer}
 use Rattle.jm_machine.specs.declared.answer.Answer.TheVariants.{Delivered, Nothing}
 use Rattle.jm_machine.specs.Machine.{delivery, one_missed, settled_rows, returned_rows}
-use Rattle.jm_machine.specs.Rows.{protected, fresh, sent_out, live, is_next, next, bare, chosen, deliver_placed, deliver_chosen, live_placed}
+use Rattle.jm_machine.specs.Rows.{protected, fresh, is_out, sent_out, live, is_next, next, bare, chosen, deliver_placed, deliver_chosen, live_placed}
 use Rattle.jm_machine.specs.Wants.{next_chosen}
 use Rattle.jm_pending.specs.declared.held.Taken.{Taken}
 use Rattle.jm_pending.specs.declared.row.Row.{Row as RowHere}
@@ -120,6 +120,10 @@ answered_where p now rows = delivery (next now (live now (chosen p (bare rows)))
 -- the row that a delivery takes
 abbrev pub next_placed : ℕ → List PlacedRow → Option PlacedRow
 next_placed now rows = find (λ x. is_next now (live now (bare rows)) x.row) (live_placed now rows)
+
+-- none of the rows is out
+abbrev pub are_home : List PlacedRow → Bool
+are_home rows = not (list_any (λ r. is_out (λ s c. true) r) (bare rows))
 
 -- how many rows are at a place
 abbrev pub placed_at : ℕ → List PlacedRow → ℕ

@@ -161,6 +161,14 @@ impl Backlogs {
         copies::placed_rows(self.alloc, &self.table, &self.lists[index])
     }
 
+    /// Whether no row of the list with that index is out. Takes no memory.
+    pub fn is_home(&self, index: usize) -> bool
+        requires { index < length self.now.list }
+        ensures { (d : Backlog) → result ≡ spec.are_home (slice_index_or self.now.list index d).rows }
+    {
+        self.lists[index].is_home()
+    }
+
     /// Makes room for one more list. `AllocError` where a request for memory was refused. Either way all but the
     /// room is as before.
     pub fn reserve_list(&mut self) -> Result<(), AllocError>

@@ -4,7 +4,8 @@ ghost use Rattle.std.specs.Prelude.{◌≡◌, ◌≤◌, ◌<◌, ◌+◌, ◌+
 ghost use Rattle.std.specs.List.{IsDistinct, remove};
 ghost use Rattle.jm_dest.specs.declared.key.Key.{Key};
 ghost use Rattle.jm_dest.specs.Keys.{key_eq};
-ghost use Rattle.jm_machine.specs.Machine.{are_meant, is_own_of, places_end};
+ghost use Rattle.jm_machine.specs.Attached.{ended};
+ghost use Rattle.jm_machine.specs.Machine.{are_meant, places_end};
 ghost use Rattle.jm_selector.specs.Selectors.{read_selects, selector_read};
 ghost use Rattle.jm_stations.specs.Backlogs as spec;
 ghost use Rattle.jm_stations.specs.Backlogs.{Backlog};
@@ -16,7 +17,7 @@ use crate::copies;
 use indexmap::IndexSet;
 use jm_dest::{ConsumerId, Key, Moment, SessionId};
 use jm_header::Message;
-use jm_machine::{Answer, Consumers, PlacedRow, Row};
+use jm_machine::{Answer, Attached, Consumers, PlacedRow, Row};
 use jm_selector::Selector;
 use std::alloc::{AllocError, Global};
 use std::marker::Model;
@@ -114,6 +115,14 @@ impl Stations {
         self.backlogs.rows_of(index)
     }
 
+    /// Whether no row under the key with that index is out to a session. Takes no memory.
+    pub fn is_home(&self, index: usize) -> bool
+        requires { index < length self.now.list }
+        ensures { (d : Backlog) → result ≡ spec.are_home (slice_index_or self.now.list index d).rows }
+    {
+        self.backlogs.is_home(index)
+    }
+
     /// Where the key stands, in order of creation. It is found by its hash.
     pub fn index_of(&self, key: &Key) -> Option<usize>
         ensures index { result ≡ index_in self.now.keys key.now }
@@ -199,30 +208,30 @@ impl Stations {
         }
     }
 
-    /// The key with that index goes, as `remove` takes it out, where it is that of the own subscription of one of those
-    /// consumers.
-    fn close_at(&mut self, which: &Consumers, index: usize)
+    /// The key with that index goes, as `remove` takes it out, where its subscription ends with those consumers.
+    fn close_at(&mut self, which: &Consumers, attached: &Attached, index: usize)
         requires { index < length self.old.list }
-        ensures keys { (d : Key) → self.new.keys ≡ kept.keys_without (is_own_of which.now (slice_index_or self.old.keys index d)) index self.old.keys }
-        ensures list { (d : Key) → self.new.list ≡ kept.list_without (is_own_of which.now (slice_index_or self.old.keys index d)) index self.old.list }
+        ensures keys { (d : Key) → self.new.keys ≡ kept.keys_without (ended which.now attached.now (slice_index_or self.old.keys index d)) index self.old.keys }
+        ensures list { (d : Key) → self.new.list ≡ kept.list_without (ended which.now attached.now (slice_index_or self.old.keys index d)) index self.old.list }
         ensures next_place { self.new.next_place ≡ self.old.next_place }
         ensures message_room { self.old.message_room ≤ self.new.message_room }
         ensures key_room { self.old.key_room ≤ self.new.key_room }
     {
-        let goes = is_own_at(self.keys.as_slice(), which, index);
+        let goes = ends_at(self.keys.as_slice(), which, attached, index);
         self.remove_if(index, goes);
     }
 
-    /// The keys of the own subscriptions of those consumers go with the rows under them, and each message that no other
-    /// row holds with them; the others move up, in their order. Goes over all keys. Takes no memory.
-    pub fn close(&mut self, which: &Consumers)
-        ensures keys { self.new.keys ≡ filter (λ k. not (is_own_of which.now k)) self.old.keys }
-        ensures list { self.new.list ≡ spec.kept_under (λ k. not (is_own_of which.now k)) self.old.keys self.old.list }
+    /// The keys of the subscriptions that end once those consumers are closed, as `Attached::ends` has it, go with the rows
+    /// under them, and each message that no other row holds with them; the others move up, in their order. Goes over all
+    /// keys. Takes no memory.
+    pub fn close(&mut self, which: &Consumers, attached: &Attached)
+        ensures keys { self.new.keys ≡ filter (λ k. not (ended which.now attached.now k)) self.old.keys }
+        ensures list { self.new.list ≡ spec.kept_under (λ k. not (ended which.now attached.now k)) self.old.keys self.old.list }
         ensures next_place { self.new.next_place ≡ self.old.next_place }
         ensures message_room { self.old.message_room ≤ self.new.message_room }
         ensures key_room { self.old.key_room ≤ self.new.key_room }
     {
-        close_each(self, which);
+        close_each(self, which, attached);
     }
 
     /// Makes room for that many more messages, and for as many more rows under each key with one of those indexes.
@@ -436,18 +445,18 @@ impl Stations {
     }
 }
 
-/// Whether the key with that index is that of the own subscription of one of those consumers.
-fn is_own_at(keys: &[Key], which: &Consumers, index: usize) -> bool
+/// Whether the subscription of the key with that index ends with those consumers.
+fn ends_at(keys: &[Key], which: &Consumers, attached: &Attached, index: usize) -> bool
     requires { index < length keys.now }
-    ensures { (d : Key) → result ≡ is_own_of which.now (slice_index_or keys.now index d) }
+    ensures { (d : Key) → result ≡ ended which.now attached.now (slice_index_or keys.now index d) }
 {
-    which.own(&keys[index])
+    attached.ends(which, &keys[index])
 }
 
-/// The keys of the own subscriptions of those consumers go, from the last on.
-fn close_each(stations: &mut Stations, which: &Consumers)
-    ensures keys { stations.new.keys ≡ filter (λ k. not (is_own_of which.now k)) stations.old.keys }
-    ensures list { stations.new.list ≡ spec.kept_under (λ k. not (is_own_of which.now k)) stations.old.keys stations.old.list }
+/// The keys of the subscriptions that end with those consumers go, from the last on.
+fn close_each(stations: &mut Stations, which: &Consumers, attached: &Attached)
+    ensures keys { stations.new.keys ≡ filter (λ k. not (ended which.now attached.now k)) stations.old.keys }
+    ensures list { stations.new.list ≡ spec.kept_under (λ k. not (ended which.now attached.now k)) stations.old.keys stations.old.list }
     ensures next_place { stations.new.next_place ≡ stations.old.next_place }
     ensures message_room { stations.old.message_room ≤ stations.new.message_room }
     ensures key_room { stations.old.key_room ≤ stations.new.key_room }
@@ -455,6 +464,6 @@ fn close_each(stations: &mut Stations, which: &Consumers)
     let mut end = stations.len();
     while end > 0 {
         end -= 1;
-        stations.close_at(which, end);
+        stations.close_at(which, attached, end);
     }
 }

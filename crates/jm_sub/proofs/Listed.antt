@@ -7,8 +7,9 @@ use Rattle.jm_dest.specs.declared.key.Key.{Key}
 use Rattle.jm_dest.specs.Keys.{key_eq}
 use Rattle.jm_machine.specs.declared.state.Definition.{Definition}
 use Rattle.jm_sub.specs.Entries.{IsNew, subscription_of, subscriptions_of}
+use Rattle.jm_sub.specs.Subscriptions as spec
 use Rattle.jm_sub.specs.Subscriptions.{Subscription}
-use Rattle.jm_sub.proofs.Keys.{position_sym, set_eq, set_is}
+use Rattle.jm_sub.proofs.Keys.{key_sym, position_sym, set_eq, set_is}
 
 -- what is found under a key
 pub lookup_key : (k : Key) (es : List (Key × Definition)) → lookup (set_eq k) es ≡ lookup (key_eq k) es
@@ -64,3 +65,12 @@ pub definition_at : (es : List (Key × Definition)) (at : ℕ) (d : Definition) 
 definition_at [] at d is = cc
 definition_at (x ∷ es) zero d is = is
 definition_at (x ∷ es) (suc at) d is = definition_at es at d is
+
+-- what is found under a key is what its subscription asks for
+pub definition_found : (key : Key) (es : List (Key × Definition)) → lookup (set_eq key) es ≡ spec.definition_at key (subscriptions_of es)
+definition_found key [] = refl
+definition_found key (e ∷ es) = by (set_eq key e.0) refl (definition_found key es)
+  where
+    by : (b : Bool) → set_eq key e.0 ≡ b → lookup (set_eq key) es ≡ spec.definition_at key (subscriptions_of es) → lookup (set_eq key) (e ∷ es) ≡ spec.definition_at key (subscriptions_of (e ∷ es))
+    by true this rest = rw (this, key_sym e.0 key ∙ sym (set_is key e.0) ∙ this) refl
+    by false other rest = rw (other, key_sym e.0 key ∙ sym (set_is key e.0) ∙ other) rest

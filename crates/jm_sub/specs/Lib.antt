@@ -1,3 +1,4 @@
 pub mod Subscriptions
+pub mod Sharing
 pub mod Entries
 pub mod Topics

@@ -1,13 +1,16 @@
 -- Subscriptions in order of creation, at most one a key.
-use Rattle.std.specs.Prelude.{ℕ, Bool, ◌&&◌, not, Option, List, [], ◌∷◌, ◌++◌, filter, map}
+use Rattle.std.specs.Prelude.{ℕ, Bool, ◌&&◌, not, Option, None, Some, List, [], ◌∷◌, ◌++◌, filter, find, is_some, map, option_map, if◌then◌else◌}
 use Rattle.std.specs.Set.{distinct_count}
+use Rattle.jm_base.specs.declared.refusal.Refusal.{Refusal}
+use Rattle.jm_base.specs.declared.refusal.Refusal.TheVariants.{InvalidDestination, SubscriptionInUse}
 use Rattle.jm_dest.specs.Names.{text_eq}
 use Rattle.jm_dest.specs.declared.key.Key.{Key}
 use Rattle.jm_dest.specs.Keys.{key_eq}
 use Rattle.jm_header.specs.declared.content.Content.{Content}
 use Rattle.jm_machine.specs.declared.state.Definition.{Definition}
 use Rattle.jm_machine.specs.declared.consumers.Consumers.{Consumers}
-use Rattle.jm_machine.specs.Machine.{Publisher, accepts, is_local, is_own_of}
+use Rattle.jm_machine.specs.Attached.{Counts, ended}
+use Rattle.jm_machine.specs.Machine.{Publisher, accepts, first_cause, is_local, is_same, unless}
 use Rattle.jm_selector.specs.Selectors.{read_selects, selector_read}
 
 -- a subscription: its key, and what it asks for
@@ -36,6 +39,19 @@ takes sender m s = accepts s.key s.definition sender m
 abbrev pub accepting : Publisher → Content → List Subscription → List Key
 accepting sender m subscriptions = map (λ s. s.key) (filter (takes sender m) subscriptions)
 
+-- what the subscription of the key asks for, if there is one
+abbrev pub definition_at : Key → List Subscription → Option Definition
+definition_at key subscriptions = option_map (λ s. s.definition) (find (λ s. key_eq s.key key) subscriptions)
+
+-- the subscription that is to be created for a consumer of the key: none where that of the key asks for the same
+abbrev pub needed : Key → Definition → List Subscription → Option Subscription
+needed key asked subscriptions = if is_same (definition_at key subscriptions) asked then None else Some (record { key = key; definition = asked })
+
+-- why a durable subscription is not deleted, by what is held under its key, and whether no consumer of it is active and no
+-- row out; none where it is
+abbrev pub unsubscribe_refusal : Option Definition → Bool → Bool → Option Refusal
+unsubscribe_refusal held idle home = first_cause (unless (is_some held) InvalidDestination) (unless (idle && home) SubscriptionInUse)
+
 -- all but the subscription of the key
 abbrev pub without : Key → List Subscription → List Subscription
 without key subscriptions = filter (λ s. not (key_eq s.key key)) subscriptions
@@ -44,9 +60,9 @@ without key subscriptions = filter (λ s. not (key_eq s.key key)) subscriptions
 abbrev pub put : Subscription → List Subscription → List Subscription
 put s subscriptions = without s.key subscriptions ++ s ∷ []
 
--- all but the own subscriptions of those consumers
-abbrev pub without_own : Consumers → List Subscription → List Subscription
-without_own which subscriptions = filter (λ s. not (is_own_of which s.key)) subscriptions
+-- all but those that end once these consumers are closed, where so many active ones are left at each key
+abbrev pub without_ended : Consumers → Counts → List Subscription → List Subscription
+without_ended which left subscriptions = filter (λ s. not (ended which left s.key)) subscriptions
 
 -- how many topics the subscriptions have, where those of one topic count once
 abbrev pub number_of_topics : List Subscription → ℕ

@@ -4,15 +4,15 @@ use Rattle.indexmap.specs.IndexMap.{get, spare}
 use Rattle.jm_dest.specs.declared.key.Key.{Key}
 use Rattle.jm_dest.specs.Keys.{key_eq}
 use Rattle.jm_dest.specs.Names.{text_eq}
-use Rattle.jm_machine.specs.Machine.{is_own_of}
+use Rattle.jm_machine.specs.Attached.{ended}
 use Rattle.jm_sub.specs.Subscriptions.{Subscription}
 use Rattle.jm_sub.specs.declared.ending.Ending.{Ending}
-use Rattle.jm_sub.specs.declared.ending.Ending.TheVariants.{Own, Of}
+use Rattle.jm_sub.specs.declared.ending.Ending.TheVariants.{With, Of}
 use Rattle.jm_sub.specs.declared.topics.Topics.{Topics}
 
 -- the subscription of that key ends
 abbrev pub ends : Ending → Key → Bool
-ends (Own which) key = is_own_of which.now key
+ends (With which left) key = ended which.now left.now key
 ends (Of other) key = key_eq key other.now
 
 -- those of the keys whose subscriptions stay

@@ -16,16 +16,17 @@ use jm_machine::Definition;
 use jm_selector::Selector;
 use std::alloc::Global;
 
-/// What a subscription to that topic asks for; its selector is read here. A refused text gives its refusal;
-/// or `Memory`.
+/// What a subscription to that topic asks for; its selector's text is read here. `InvalidSelector` where the text is no
+/// selector; `Memory` where a request for memory was refused, which may come in place of it.
 #[tactic(auto, unfolding(jm_machine::specs::Machine::defined))]
-pub(crate) fn defined(
+pub fn defined(
     alloc: Global,
     topic: &Name,
     selector: &Option<Str>,
     no_local: bool,
+    shared: bool,
 ) -> Result<Definition, Refusal>
-    ensures made { IfOk result (λ definition. definition ≡ machine.defined topic.now selector.now no_local) }
+    ensures made { IfOk result (λ definition. definition ≡ machine.defined topic.now selector.now no_local shared) }
     ensures valid { IfOk result (λ _. selector_refusal selector.now ≡ None) }
     ensures refused { IfErr result (λ refusal. refusal ≢ Memory → selector_refusal selector.now ≡ Some refusal) }
 {
@@ -34,7 +35,38 @@ pub(crate) fn defined(
         topic: topic.copy()?,
         selector,
         no_local,
+        shared,
     })
+}
+
+/// Whether both ask for the same.
+fn same(a: &Definition, b: &Definition) -> bool
+    ensures { result ≡ machine.same_definition a.now b.now }
+{
+    a.topic == b.topic
+        && a.selector == b.selector
+        && a.no_local == b.no_local
+        && a.shared == b.shared
+}
+
+/// Whether there is a subscription, and it asks for that: the same topic, selector as it stands, `no_local` and sharing.
+pub fn is_same(held: Option<&Definition>, asked: &Definition) -> bool
+    ensures { result ≡ machine.is_same (option_copied held.entry) asked.now }
+{
+    match held {
+        None => false,
+        Some(held) => same(held, asked),
+    }
+}
+
+/// Whether there is no subscription, or it is shared as that one is.
+pub(crate) fn is_same_kind(held: Option<&Definition>, asked: &Definition) -> bool
+    ensures { result ≡ machine.is_same_kind (option_copied held.entry) asked.now }
+{
+    match held {
+        None => true,
+        Some(held) => held.shared == asked.shared,
+    }
 }
 
 /// Whether both are there and the same. A durable subscription without a client identifier is local to nobody.
@@ -76,9 +108,10 @@ pub(crate) fn wants(
     !is_barred && definition.selector.selects(message)
 }
 
-/// Whether a subscription of the key accepts the message of that publisher.
+/// Whether a subscription of the key that asks for that accepts the message, whose publisher's connection has that client
+/// identifier, if any: it goes to the topic, is not barred as a local one, and the selector selects it.
 #[tactic(auto, unfolding(jm_machine::specs::Machine::accepts))]
-pub(crate) fn accepts(
+pub fn accepts(
     key: &Key,
     definition: &Definition,
     message: &Message,

@@ -4,13 +4,13 @@ ghost use Rattle.std.specs.Prelude.{◌≡◌};
 ghost use Rattle.jm_sub.specs.Topics as spec;
 
 use jm_dest::Key;
-use jm_machine::Consumers;
+use jm_machine::{Attached, Consumers};
 
 /// Which subscriptions end with a change.
 #[derive(Drop)]
 pub(crate) enum Ending<'a> {
-    /// The own subscriptions of those consumers.
-    Own(&'a Consumers),
+    /// Those that end once the consumers are closed, where so many active ones are left at each key.
+    With(&'a Consumers, &'a Attached),
     /// The subscription of that key.
     Of(&'a Key),
 }
@@ -21,7 +21,7 @@ impl Ending<'_> {
         ensures { result ≡ spec.ends self.now key.now }
     {
         match self {
-            Ending::Own(which) => which.own(key),
+            Ending::With(which, attached) => attached.ends(which, key),
             Ending::Of(other) => key.is(other),
         }
     }

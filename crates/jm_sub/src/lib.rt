@@ -5,7 +5,10 @@
 
 mod definition;
 mod ending;
+mod sharing;
 mod subs;
 mod topics;
 
+pub use definition::{accepts, defined, is_same};
+pub use sharing::Sharing;
 pub use subs::{Decision, Subs};

@@ -1,26 +1,29 @@
 //! The subscriptions in order of creation.
 
-ghost use Rattle.std.specs.Prelude.{◌≡◌, ◌≢◌, ◌+◌, ◌<◌, ◌≤◌, ◌==◌, ◌++◌, [], ◌∷◌, length, not, filter, slice_get, option_map, position, IfOk, IfErr, OnOk, Some};
+ghost use Rattle.std.specs.Prelude.{◌≡◌, ◌≢◌, ◌+◌, ◌<◌, ◌≤◌, ◌==◌, ◌++◌, [], ◌∷◌, true, false, length, not, filter, slice_get, option_map, position, IfOk, IfErr, IfSome, MatchResult, OnOk, None, Some};
 ghost use Rattle.std.specs.Option.{option_copied};
 ghost use Rattle.indexmap.specs.IndexMap.{spare};
-ghost use Rattle.jm_base.specs.declared.refusal.Refusal.TheVariants.{Memory};
+ghost use Rattle.jm_base.specs.declared.refusal.Refusal.TheVariants.{Memory, SubscriptionInUse};
 ghost use Rattle.jm_dest.specs.declared.key.Key.{Key};
 ghost use Rattle.jm_dest.specs.Keys.{key_eq};
 ghost use Rattle.jm_machine.specs.Machine as machine;
+ghost use Rattle.jm_machine.specs.Machine.{first_cause, unless};
 ghost use Rattle.jm_selector.specs.Selectors.{selector_refusal};
 ghost use Rattle.jm_sub.specs.Entries.{IsNew, subscriptions_of, wanting};
+ghost use Rattle.jm_sub.specs.Sharing.{is_shared, may};
 ghost use Rattle.jm_sub.specs.Subscriptions as spec;
-ghost use Rattle.jm_sub.specs.Subscriptions.{number_of_topics, publisher, put, takes, without, without_own};
+ghost use Rattle.jm_sub.specs.Subscriptions.{needed, number_of_topics, publisher, put, takes, unsubscribe_refusal, without, without_ended};
 ghost use Rattle.jm_sub.specs.Topics.{ends};
 
-use crate::definition::{accepts, defined, wants};
+use crate::definition::{accepts, defined, is_same, wants};
 use crate::ending::Ending;
+use crate::sharing::Sharing;
 use crate::topics::Topics;
 use indexmap::IndexMap;
 use jm_base::{Refusal, Str};
 use jm_dest::{ClientId, Destination, Key, Name};
 use jm_header::Message;
-use jm_machine::{Consumers, Definition};
+use jm_machine::{Attached, Consumers, Definition};
 use std::alloc::{AllocError, Global};
 use std::collections::LinkedList;
 use std::marker::Model;
@@ -229,6 +232,13 @@ impl Subs {
         &self.items[at]
     }
 
+    /// What the subscription of the key asks for, if there is one. It is found by its hash.
+    pub fn definition_of(&self, key: &Key) -> Option<&Definition>
+        ensures { option_copied result ≡ spec.definition_at key.now self.now.list }
+    {
+        self.items.get(key)
+    }
+
     /// Whether the subscription at that place accepts the message, which is published on the connection of its
     /// sender's session; `client` is that connection's client identifier, if it has one. It accepts the message
     /// where the message's topic is the subscription's (Jakarta Messaging 3.1, section 4.2), the publisher is not
@@ -286,13 +296,74 @@ impl Subs {
         selector: &Option<Str>,
         no_local: bool,
     ) -> Result<Decision, Refusal>
-        ensures decided { IfOk result (λ d. d ≡ record { key = key; definition = machine.defined topic.now selector.now no_local }) }
+        ensures decided { IfOk result (λ d. d ≡ record { key = key; definition = machine.defined topic.now selector.now no_local false }) }
         ensures valid { IfOk result (λ _. selector_refusal selector.now ≡ None) }
         ensures room { OnOk result (0 < self.new.spare) }
         ensures refused { IfErr result (λ refusal. refusal ≢ Memory → selector_refusal selector.now ≡ Some refusal) }
         ensures unchanged { self.new.list ≡ self.old.list }
     {
-        let created = defined(self.alloc, topic, selector, no_local)?;
+        let created = defined(self.alloc, topic, selector, no_local, false)?;
+        Ok(self.decide(key, created)?)
+    }
+
+    /// Decides what a consumer of a subscription that has a name asks for: nothing where what stands under the key asks
+    /// for the same, and else the creation of an empty subscription in its place. It reads the selector, and takes the
+    /// room that the change needs; the subscriptions stay as they are. `is_idle` says that no consumer of the key is
+    /// active, and `is_home` that no row of it is out. `InvalidSelector` where the text is refused, with its first fault;
+    /// else `SubscriptionInUse` where the subscription may not be had so; `Memory` where a request for memory was refused,
+    /// which may come in place of each.
+    pub fn decide_named(
+        &mut self,
+        key: Key,
+        topic: &Name,
+        selector: &Option<Str>,
+        no_local: bool,
+        sharing: Sharing,
+        is_idle: bool,
+        is_home: bool,
+    ) -> Result<Option<Decision>, Refusal>
+        ensures decided { IfOk result (λ d. d ≡ needed key (machine.defined topic.now selector.now no_local (is_shared sharing)) self.old.list) }
+        ensures valid { IfOk result (λ _. selector_refusal selector.now ≡ None) }
+        ensures may { IfOk result (λ _. may sharing (spec.definition_at key self.old.list) is_idle is_home (machine.defined topic.now selector.now no_local (is_shared sharing)) ≡ true) }
+        ensures room { IfOk result (λ d. IfSome d (λ _. 0 < self.new.spare)) }
+        ensures refused { IfErr result (λ refusal. refusal ≢ Memory → first_cause (selector_refusal selector.now)
+            (unless (may sharing (spec.definition_at key self.old.list) is_idle is_home (machine.defined topic.now selector.now no_local (is_shared sharing))) SubscriptionInUse) ≡ Some refusal) }
+        ensures unchanged { self.new.list ≡ self.old.list }
+    {
+        let asked = defined(self.alloc, topic, selector, no_local, sharing.is_shared())?;
+        let held = self.definition_of(&key);
+        if !sharing.may(held, is_idle, is_home, &asked) {
+            return Err(Refusal::SubscriptionInUse);
+        }
+        if is_same(held, &asked) {
+            return Ok(None);
+        }
+        Ok(Some(self.decide(key, asked)?))
+    }
+
+    /// Decides the deletion of the durable subscription of the key. `is_idle` says that no consumer of the key is active, and
+    /// `is_home` that no row of it is out. `InvalidDestination` where there is no subscription of the key, else
+    /// `SubscriptionInUse` where a consumer is active or a row is out. Takes no memory.
+    pub fn decide_unsubscribe(&self, key: &Key, is_idle: bool, is_home: bool) -> Result<(), Refusal>
+        ensures { MatchResult result
+            (λ _. unsubscribe_refusal (spec.definition_at key.now self.now.list) is_idle is_home ≡ None)
+            (λ refusal. unsubscribe_refusal (spec.definition_at key.now self.now.list) is_idle is_home ≡ Some refusal) }
+    {
+        if self.definition_of(key).is_none() {
+            return Err(Refusal::InvalidDestination);
+        }
+        if !(is_idle && is_home) {
+            return Err(Refusal::SubscriptionInUse);
+        }
+        Ok(())
+    }
+
+    /// The creation of that subscription under the key, with the room that it needs.
+    fn decide(&mut self, key: Key, created: Definition) -> Result<Decision, AllocError>
+        ensures decided { IfOk result (λ d. d ≡ record { key = key; definition = created }) }
+        ensures room { OnOk result (0 < self.new.spare) }
+        ensures unchanged { self.new.list ≡ self.old.list }
+    {
         let decision = Decision::new(self.alloc, key, created)?;
         self.reserve()?;
         Ok(decision)
@@ -305,16 +376,27 @@ impl Subs {
         ensures list { self.new.list ≡ put decision self.old.list }
         ensures spare { self.old.spare ≤ self.new.spare + 1 }
     {
-        self.remove_key(&decision.key);
+        self.delete(&decision.key);
         self.add(decision);
     }
 
-    /// Ends the own subscriptions of those consumers; the others stay, in their order. Takes no memory.
-    pub fn close(&mut self, which: &Consumers)
-        ensures list { self.new.list ≡ without_own which.now self.old.list }
+    /// Ends the subscription of the key, if there is one. It is found by its hash. Takes no memory.
+    pub fn delete(&mut self, key: &Key)
+        ensures list { self.new.list ≡ without key.now self.old.list }
         ensures spare { self.old.spare ≤ self.new.spare }
     {
-        self.remove(&Ending::Own(which));
+        if self.items.contains_key(key) {
+            self.remove(&Ending::Of(key));
+        }
+    }
+
+    /// Ends the subscriptions that end once these consumers are closed, where `attached` has the numbers of those that
+    /// are left; the others stay, in their order. Takes no memory.
+    pub fn close(&mut self, which: &Consumers, attached: &Attached)
+        ensures list { self.new.list ≡ without_ended which.now attached.now self.old.list }
+        ensures spare { self.old.spare ≤ self.new.spare }
+    {
+        self.remove(&Ending::With(which, attached));
     }
 
     /// Adds the subscription that was decided, of which no other has the key. Takes no memory.
@@ -334,16 +416,6 @@ impl Subs {
         // The length is what says that the keys of a topic, which are as many at most, can be counted.
         let _number = self.items.len();
         self.topics.join(topic, keys);
-    }
-
-    /// Ends the subscription of the key, if there is one. Takes no memory.
-    fn remove_key(&mut self, key: &Key)
-        ensures list { self.new.list ≡ without key.now self.old.list }
-        ensures spare { self.old.spare ≤ self.new.spare }
-    {
-        if self.items.contains_key(key) {
-            self.remove(&Ending::Of(key));
-        }
     }
 
     /// Ends the subscriptions that are meant, in a walk over all; the others stay, in their order. Takes no

@@ -103,8 +103,47 @@ const QUEUE_LINES: &str = "1 ok
 9 message ID:1-1.1.1 count=1 redelivered=no priority=4 body=text \"a\"
 ";
 
+/// A scenario in which the client k has an unshared durable subscription n, which it deletes, and a shared one m, beside a
+/// shared non-durable one n.
+const NAMES: &str = r#"{"calls": [
+  {"op": "open", "c": 1, "client": "k"},
+  {"op": "session", "s": [1, 1], "mode": "auto"},
+  {"op": "durable", "s": [1, 1], "k": 1, "topic": "t", "name": "n"},
+  {"op": "shared-durable", "s": [1, 1], "k": 2, "topic": "t", "name": "m"},
+  {"op": "shared", "s": [1, 1], "k": 3, "topic": "t", "name": "n"},
+  {"op": "unsubscribe", "s": [1, 1], "name": "n"},
+  {"op": "send", "s": [1, 1], "topic": "t", "now": 1000, "text": "a"},
+  {"op": "start", "c": 1},
+  {"op": "receive", "s": [1, 1], "k": 1, "now": 1000},
+  {"op": "close-consumer", "s": [1, 1], "k": 1},
+  {"op": "unsubscribe", "s": [1, 1], "name": "n"},
+  {"op": "unsubscribe", "s": [1, 1], "name": "n"}
+]}"#;
+
+const NAMES_LINES: &str = "1 ok
+2 ok
+3 ok
+4 ok
+5 ok
+6 refused SubscriptionInUse
+7 sent 1
+8 ok
+9 message ID:1-1.1.1 count=1 redelivered=no priority=4 body=text \"a\"
+10 ok
+11 ok
+12 refused InvalidDestination
+";
+
+const DURABLE_ALONE: &str = "3 ok
+6 refused SubscriptionInUse
+9 message ID:1-1.1.1 count=1 redelivered=no priority=4 body=text \"a\"
+10 ok
+11 ok
+12 refused InvalidDestination
+";
+
 /// Commands, scenarios, and what is told of the first fault.
-static FAULTS: [(Command, &str, &str); 11] = [
+static FAULTS: [(Command, &str, &str); 13] = [
     (Command::Run, "{", "scenario: syntax"),
     (
         Command::Run,
@@ -126,10 +165,16 @@ static FAULTS: [(Command, &str, &str); 11] = [
     (Command::Lone("{"), "{", "scenario: syntax"),
     (Command::Lone("{"), SCENARIO, "key: syntax"),
     (
-        Command::Lone("{\"durable\":[\"k\",\"n\"]}"),
-        SCENARIO,
+        Command::Lone("{\"durable\":[\"k\",\"m\"]}"),
+        NAMES,
         "key: not an unshared subscription",
     ),
+    (
+        Command::Lone("{\"own\":[1,1,1]}"),
+        NAMES,
+        "key: not an unshared subscription",
+    ),
+    (Command::Lone("{\"durable\":[\"k\"]}"), NAMES, "key: syntax"),
     (
         Command::Lone(OWN),
         QUEUES,
@@ -287,7 +332,7 @@ const LIMITED: &str = r#"{"held": 1, "calls": [
 ]}"#;
 
 /// Words with `|` between them, the scenario, and the lines that are printed.
-static PERFORMED: [(&str, &str, &str); 11] = [
+static PERFORMED: [(&str, &str, &str); 14] = [
     ("jmsrun", SCENARIO, LINES),
     ("jmsrun|run|f", SCENARIO, LINES),
     ("jmsrun|select|x = 1|f", SCENARIO, "5 TRUE\n"),
@@ -315,6 +360,13 @@ static PERFORMED: [(&str, &str, &str); 11] = [
     ("jmsrun|select|x = 1|f", LIMITED, "4 UNKNOWN\n5 UNKNOWN\n"),
     ("jmsrun", QUEUES, QUEUE_LINES),
     ("jmsrun|select|x = 1|f", QUEUES, "6 TRUE\n"),
+    ("jmsrun", NAMES, NAMES_LINES),
+    (
+        "jmsrun|lone|f|{\"durable\":[\"k\",\"n\"]}",
+        NAMES,
+        DURABLE_ALONE,
+    ),
+    ("jmsrun|lone|f|{\"durable\":[\"k\",\"n\"]}", SCENARIO, ""),
 ];
 
 /// What is printed for the words that stand between the marks; of words that are refused, and of a fault, so much.

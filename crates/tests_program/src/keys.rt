@@ -30,6 +30,23 @@ fn spells_none(alloc: Global, text: &str) -> bool {
     read_key(alloc, text).is_ok_and(|key| key.is_none())
 }
 
+/// Texts that spell no key.
+static NONE: [&str; 6] = [
+    "{\"own\":[1,2]}",
+    "{",
+    "{\"durable\":[\"n\"]}",
+    "{\"durable\":[null,\"n\"]}",
+    "{\"durable\":[\"k\",\"\"]}",
+    "{\"shared\":[\"k\",\"n\"]}",
+];
+
+#[test]
+fn texts_of_no_key(rt: HostRuntime) {
+    for text in &NONE {
+        holds(&rt, text, spells_none(rt.alloc(), text));
+    }
+}
+
 #[test]
 fn keys_of_texts(rt: HostRuntime) {
     let alloc = rt.alloc();
@@ -40,6 +57,4 @@ fn keys_of_texts(rt: HostRuntime) {
     );
     let text = "{\"durable\":[\"k\",\"n\"]}";
     holds(&rt, "durable", spells(alloc, text, durable(alloc)));
-    holds(&rt, "two numbers", spells_none(alloc, "{\"own\":[1,2]}"));
-    holds(&rt, "no JSON", spells_none(alloc, "{"));
 }

@@ -12,12 +12,22 @@ const SELECTOR: Refusal = Refusal::InvalidSelector {
 };
 
 /// Numbers of calls, refusals of them, and the lines.
-static REFUSALS: [(usize, Refusal, &str); 5] = [
+static REFUSALS: [(usize, Refusal, &str); 7] = [
     (4, Refusal::IllegalState, "4 refused IllegalState\n"),
     (50, SELECTOR, "50 refused InvalidSelector Expected 4\n"),
     (3, Refusal::InvalidClientId, "3 refused InvalidClientId\n"),
     (6, Refusal::Memory, "6 refused Memory\n"),
     (7, Refusal::Store, "7 refused Store\n"),
+    (
+        8,
+        Refusal::InvalidDestination,
+        "8 refused InvalidDestination\n",
+    ),
+    (
+        9,
+        Refusal::SubscriptionInUse,
+        "9 refused SubscriptionInUse\n",
+    ),
 ];
 
 fn line_of_refusal(alloc: Global, number: usize, refusal: Refusal) -> Result<String, AllocError> {

@@ -2,7 +2,9 @@
 
 use crate::told::{holds, is_text};
 use jm_base::{Mode, Refusal, Str};
-use jm_dest::{ClientId, ConnectionId, ConsumerId, Destination, Moment, SessionId};
+use jm_dest::{
+    ClientId, ConnectionId, ConsumerId, Destination, Moment, SessionId, SubscriptionName,
+};
 use jm_header::Draft;
 use jm_machine::{ClientCall, Request, Who};
 use jm_scenario::{Field, read_scenario};
@@ -30,7 +32,12 @@ const CALLS: &str = r#"{"calls": [
   {"op": "consumer", "s": [1, 2], "k": 3, "queue": "q", "selector": "x > 0", "noLocal": false},
   {"op": "receive", "s": [1, 2], "k": 3, "now": 9223372036854775807},
   {"op": "send", "s": [1, 2], "topic": "t", "now": 9223372036854775807, "priority": 9, "text": "a"},
-  {"op": "send", "s": [1, 2], "queue": "q", "now": 9223372036854775807, "priority": 9, "text": "a"}
+  {"op": "send", "s": [1, 2], "queue": "q", "now": 9223372036854775807, "priority": 9, "text": "a"},
+  {"op": "durable", "s": [1, 2], "k": 3, "topic": "t", "name": "n", "selector": "x > 0", "noLocal": true},
+  {"op": "durable", "s": [1, 2], "k": 3, "queue": "q", "name": "n"},
+  {"op": "shared", "s": [1, 2], "k": 3, "topic": "t", "name": "n", "selector": "x > 0"},
+  {"op": "shared-durable", "s": [1, 2], "k": 3, "queue": "q", "name": "n"},
+  {"op": "unsubscribe", "s": [1, 2], "name": "n"}
 ]}"#;
 
 fn by_connection(connection: u32, request: Request) -> Result<ClientCall, Refusal> {
@@ -99,6 +106,60 @@ fn create_no_local(alloc: Global) -> Result<Request, Refusal> {
     })
 }
 
+/// The request for a consumer of the unshared durable subscription n, which selects by `x > 0` and asks for nothing local, or
+/// does neither.
+fn create_durable(
+    alloc: Global,
+    destination: Destination,
+    is_of_others: bool,
+) -> Result<Request, Refusal> {
+    let consumer = ConsumerId::new(3)?;
+    let name = SubscriptionName::new(alloc, "n")?;
+    let selector = match is_of_others {
+        true => Some(Str::new(String::from_str(alloc, "x > 0")?)),
+        false => None,
+    };
+    Ok(Request::CreateDurable {
+        consumer,
+        destination,
+        name,
+        selector,
+        no_local: is_of_others,
+    })
+}
+
+/// The request for a consumer of the shared non-durable subscription n that selects by `x > 0`.
+fn create_shared(alloc: Global) -> Result<Request, Refusal> {
+    let consumer = ConsumerId::new(3)?;
+    let destination = Destination::topic(alloc, "t")?;
+    let name = SubscriptionName::new(alloc, "n")?;
+    let selector = Str::new(String::from_str(alloc, "x > 0")?);
+    Ok(Request::CreateShared {
+        consumer,
+        destination,
+        name,
+        selector: Some(selector),
+    })
+}
+
+/// The request for a consumer of the shared durable subscription n of a queue.
+fn create_shared_durable(alloc: Global) -> Result<Request, Refusal> {
+    let consumer = ConsumerId::new(3)?;
+    let destination = Destination::queue(alloc, "q")?;
+    let name = SubscriptionName::new(alloc, "n")?;
+    Ok(Request::CreateSharedDurable {
+        consumer,
+        destination,
+        name,
+        selector: None,
+    })
+}
+
+fn unsubscribe(alloc: Global) -> Result<Request, Refusal> {
+    let name = SubscriptionName::new(alloc, "n")?;
+    Ok(Request::Unsubscribe { name })
+}
+
 fn close_consumer() -> Result<Request, Refusal> {
     let consumer = ConsumerId::new(3)?;
     Ok(Request::CloseConsumer { consumer })
@@ -159,7 +220,12 @@ fn wanted(alloc: Global, index: usize) -> Result<ClientCall, Refusal> {
         18 => by_session(create_selecting(Destination::queue(alloc, "q")?, alloc)?),
         19 => by_session(receive()?),
         20 => send(alloc, Destination::topic(alloc, "t")?),
-        _ => send(alloc, Destination::queue(alloc, "q")?),
+        21 => send(alloc, Destination::queue(alloc, "q")?),
+        22 => by_session(create_durable(alloc, Destination::topic(alloc, "t")?, true)?),
+        23 => by_session(create_durable(alloc, Destination::queue(alloc, "q")?, false)?),
+        24 => by_session(create_shared(alloc)?),
+        25 => by_session(create_shared_durable(alloc)?),
+        _ => by_session(unsubscribe(alloc)?),
     }
 }
 
@@ -184,7 +250,7 @@ fn count(alloc: Global) -> Option<usize> {
 
 #[test]
 fn calls_of_a_scenario(rt: HostRuntime) {
-    holds(&rt, "calls", count(rt.alloc()) == Some(22));
+    holds(&rt, "calls", count(rt.alloc()) == Some(27));
 }
 
 /// Scenarios and the limits of held rows that they say.
@@ -217,7 +283,7 @@ fn fault_text(alloc: Global, bytes: &[u8]) -> Result<String, AllocError> {
 }
 
 /// Bytes, and their fault.
-static FAULTS: [(&[u8], &str); 14] = [
+static FAULTS: [(&[u8], &str); 21] = [
     (b"\xff", "Syntax"),
     (b"{}", "Shape { step: 0, field: Known(Calls) }"),
     (
@@ -265,6 +331,34 @@ static FAULTS: [(&[u8], &str); 14] = [
         b"{\"calls\":[{\"op\":\"open\",\"c\":1.5}]}",
         "Floating { step: 1 }",
     ),
+    (
+        b"{\"calls\":[{\"op\":\"durable\",\"s\":[1,1],\"k\":1,\"topic\":\"t\",\"selector\":1}]}",
+        "Shape { step: 1, field: Known(Name) }",
+    ),
+    (
+        b"{\"calls\":[{\"op\":\"durable\",\"s\":[1,1],\"k\":1,\"topic\":\"t\",\"queue\":\"q\"}]}",
+        "Shape { step: 1, field: Known(Queue) }",
+    ),
+    (
+        b"{\"calls\":[{\"op\":\"shared\",\"s\":[1,1],\"k\":1,\"topic\":\"t\",\"name\":\"\"}]}",
+        "Shape { step: 1, field: Known(Name) }",
+    ),
+    (
+        b"{\"calls\":[{\"op\":\"shared\",\"s\":[1,1],\"k\":1,\"topic\":\"t\",\"name\":\"n\",\"noLocal\":true}]}",
+        "Shape { step: 1, field: Unknown(\"noLocal\") }",
+    ),
+    (
+        b"{\"calls\":[{\"op\":\"shared-durable\",\"s\":[1,1],\"k\":1,\"topic\":\"t\",\"name\":1}]}",
+        "Shape { step: 1, field: Known(Name) }",
+    ),
+    (
+        b"{\"calls\":[{\"op\":\"unsubscribe\",\"s\":[1,1],\"name\":1.5}]}",
+        "Floating { step: 1 }",
+    ),
+    (
+        b"{\"calls\":[{\"op\":\"unsubscribe\",\"s\":[1,1],\"k\":1,\"name\":\"n\"}]}",
+        "Shape { step: 1, field: Unknown(\"k\") }",
+    ),
 ];
 
 #[test]
@@ -274,7 +368,7 @@ fn faults_of_scenarios(rt: HostRuntime) {
     }
 }
 
-static FIELDS: [(Field, &str); 21] = [
+static FIELDS: [(Field, &str); 22] = [
     (Field::Calls, "calls"),
     (Field::Held, "held"),
     (Field::Operation, "op"),
@@ -285,6 +379,7 @@ static FIELDS: [(Field, &str); 21] = [
     (Field::Consumer, "k"),
     (Field::Queue, "queue"),
     (Field::Topic, "topic"),
+    (Field::Name, "name"),
     (Field::Selector, "selector"),
     (Field::NoLocal, "noLocal"),
     (Field::Now, "now"),

@@ -1,12 +1,12 @@
 //! Acknowledgement, redelivery, closing and the limit of held rows: what each call of a run answers, and how many
 //! subscriptions and messages are left.
 
-use crate::calls::{Op, shown};
 use crate::runs::run;
 use crate::told::is_text;
 use jm_base::{Mode, Refusal};
 use jm_core::{Core, Reply};
 use std::alloc::{AllocError, Global};
+use tests_calls::{Op, all_shown};
 
 /// A run: the limit of rows, the mode of session 1.1, its calls, and what they answer and leave. Before them connection 1 is
 /// started, session 1.1 has consumer 1 of all, and session 2.1 is there to send.
@@ -162,21 +162,16 @@ fn opening(mode: Mode) -> [Op; 6] {
 }
 
 /// The replies, then how many subscriptions and how many messages are left.
-fn all_shown(alloc: Global, replies: &[Reply], left: (usize, usize)) -> Result<String, AllocError> {
-    let mut text = String::new(alloc);
-    for reply in replies {
-        text.push_str(shown(alloc, reply)?.as_str())?;
-        text.push_str(", ")?;
-    }
+fn with_left(alloc: Global, replies: &[Reply], left: (usize, usize)) -> Result<String, AllocError> {
+    let replies = all_shown(alloc, replies)?;
     let (subscriptions, messages) = left;
-    text.push_str(format!(in alloc; "{subscriptions} and {messages}")?.as_str())?;
-    Ok(text)
+    format!(in alloc; "{replies}{subscriptions} and {messages}")
 }
 
 fn told_by(alloc: Global, core: &mut Core, row: &Row) -> Result<String, AllocError> {
     let _ = run(alloc, core, &opening(row.mode));
     match run(alloc, core, row.ops) {
-        Ok(replies) => all_shown(alloc, &replies, (core.stations_len(), core.kept())),
+        Ok(replies) => with_left(alloc, &replies, (core.stations_len(), core.kept())),
         Err(_) => Err(AllocError),
     }
 }

@@ -1,6 +1,6 @@
 //! Calls, steps, replies and what is held: a copy is the same, and what differs in a part is not.
 
-use crate::calls::{At, OPS, Op, call, commit, publication, sent};
+use crate::ops::OPS;
 use crate::runs::run;
 use crate::told::holds;
 use jm_base::Refusal;
@@ -11,6 +11,7 @@ use jm_machine::{
     Answer, Call, ClientCall, Delivery, Reply, Request, Step, Who, copy_reply, same_reply,
 };
 use std::alloc::Global;
+use tests_calls::{At, Kind, Op, call, commit, publication, sent};
 
 /// Whether a copy of the one call is the other.
 fn copy_is(one: &ClientCall, other: &ClientCall) -> bool {
@@ -74,7 +75,7 @@ fn request_is_copied(alloc: Global, op: Op) -> bool {
 }
 
 /// Calls that differ in one thing each.
-static LIKE: [Op; 12] = [
+static LIKE: [Op; 25] = [
     Op::Open(1),
     Op::OpenFor(1, "c"),
     Op::OpenFor(1, "d"),
@@ -84,6 +85,19 @@ static LIKE: [Op; 12] = [
     Op::ConsumerAt((1, 1), 1, At::Topic("u"), None, true),
     Op::ConsumerAt((1, 1), 1, At::Queue("t"), None, true),
     Op::ConsumerAt((1, 1), 1, At::Queue("t"), None, false),
+    Op::Named((1, 1), 1, Kind::Durable, "n", None),
+    Op::Named((1, 1), 1, Kind::Durable, "m", None),
+    Op::Named((1, 1), 1, Kind::Durable, "n", Some("x > 0")),
+    Op::NamedAt((1, 1), 1, Kind::Durable, At::Topic("u"), "n", None),
+    Op::Named((1, 1), 1, Kind::Others, "n", None),
+    Op::Named((1, 1), 1, Kind::Shared, "n", None),
+    Op::Named((1, 1), 1, Kind::Shared, "m", None),
+    Op::Named((1, 1), 2, Kind::Shared, "n", Some("x > 0")),
+    Op::Named((1, 1), 1, Kind::SharedDurable, "n", None),
+    Op::Named((1, 1), 1, Kind::SharedDurable, "m", None),
+    Op::Named((1, 1), 2, Kind::SharedDurable, "n", Some("x > 0")),
+    Op::Unsubscribe((1, 1), "n"),
+    Op::Unsubscribe((1, 1), "m"),
     Op::Send(2, "a", None),
     Op::SendTo(2, At::Topic("u"), "a", None),
     Op::SendTo(2, At::Queue("t"), "a", None),

@@ -1,12 +1,9 @@
-//! Tests of the provider of `jm_machine`, `jm_sub`, `jm_session`, `jm_tx`, `jm_core` and `jm_model`, over tables of calls:
-//! that calls find memory and succeed, what they leave, and that what the clauses say was meant. Runs with their lines are
-//! cases, and stand in `cases`.
+//! Tests of the provider of `jm_machine`, `jm_tx`, `jm_core` and `jm_model`, over tables of calls: that calls find memory and
+//! succeed, what they leave, and that what the clauses say was meant. Runs with their lines are cases, and stand in `cases`.
 #![tactic(auto)]
 
 #[cfg(test)]
 mod acknowledgement;
-#[cfg(test)]
-mod calls;
 #[cfg(test)]
 mod copies;
 #[cfg(test)]
@@ -14,17 +11,13 @@ mod halves;
 #[cfg(test)]
 mod lone;
 #[cfg(test)]
+mod ops;
+#[cfg(test)]
 mod plans;
 #[cfg(test)]
 mod queues;
 #[cfg(test)]
 mod runs;
-#[cfg(test)]
-mod sends;
-#[cfg(test)]
-mod sessions;
-#[cfg(test)]
-mod subscriptions;
 #[cfg(test)]
 mod told;
 #[cfg(test)]

@@ -1,6 +1,6 @@
 //! What one subscription answers alone, over records of runs, also over such as no run gives.
 
-use crate::calls::{At, OPS, Op, calls, commit, publication, session, shown};
+use crate::ops::OPS;
 use crate::runs::run;
 use crate::told::{holds, is_text, is_told};
 use jm_base::{Mode, Refusal};
@@ -12,6 +12,7 @@ use jm_model::{
     law_two_worlds, lone_replies,
 };
 use std::alloc::{AllocError, Global};
+use tests_calls::{At, Op, calls, commit, publication, session, shown};
 
 /// Two connections with a session each, a consumer in the first, and a message that it receives.
 static FIRST_MESSAGE: [Op; 9] = [

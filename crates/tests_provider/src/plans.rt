@@ -1,13 +1,14 @@
 //! Plans: to plan a step and to install it is to make it, and a plan that is let go leaves the core as it was.
 
-use crate::calls::{At, OPS, Op, call, publication};
+use crate::ops::OPS;
 use crate::runs::has_run;
 use crate::told::is_true;
-use jm_base::{List, Refusal};
+use jm_base::{List, Mode, Refusal};
 use jm_core::{Call, Core, Reply, Station, Step, Who};
 use jm_dest::{Key, Name};
 use jm_machine::{ClientCall, same_reply};
 use std::alloc::Global;
+use tests_calls::{At, Kind, Op, call, publication};
 
 /// The step of the call; that of a send publishes a message of session 2.1, and that of a commit carries none.
 fn step(alloc: Global, op: Op) -> Result<Step, Refusal> {
@@ -101,24 +102,55 @@ fn call_is_planned(alloc: Global, one: &mut Core, other: &mut Core, op: Op) -> b
     }
 }
 
-/// Whether each step is planned so, and all of them lead to what a run of the calls leads to.
-fn are_planned(alloc: Global, one: &mut Core, other: &mut Core) -> bool {
-    for op in &OPS {
+/// Whether each step is planned so.
+fn are_planned(alloc: Global, one: &mut Core, other: &mut Core, ops: &[Op]) -> bool {
+    for op in ops {
         if !call_is_planned(alloc, one, other, *op) {
             return false;
         }
     }
-    has_run(one)
+    true
 }
 
-/// The same of two new cores.
-fn new_are_planned(alloc: Global) -> Result<bool, Refusal> {
+/// Whether each step of that run is planned so, and all of them lead to what the run leads to.
+fn run_is_planned(alloc: Global) -> Result<bool, Refusal> {
     let mut one = Core::new(alloc, 1, 100_000)?;
     let mut other = Core::new(alloc, 1, 100_000)?;
-    Ok(are_planned(alloc, &mut one, &mut other))
+    Ok(are_planned(alloc, &mut one, &mut other, &OPS) && has_run(&one))
+}
+
+/// Subscriptions that have names: each kind is made, one is kept as it is, one replaced, and one deleted; others are refused,
+/// and one ends with its last consumer.
+static NAMED: [Op; 18] = [
+    Op::OpenFor(1, "k"),
+    Op::OpenFor(2, "l"),
+    Op::Session((1, 1), Mode::Client),
+    Op::Session((2, 1), Mode::Auto),
+    Op::Named((1, 1), 1, Kind::Others, "n", None),
+    Op::Named((1, 1), 2, Kind::Shared, "n", None),
+    Op::Named((1, 1), 3, Kind::Shared, "n", None),
+    Op::Named((2, 1), 4, Kind::SharedDurable, "n", None),
+    Op::Named((2, 1), 5, Kind::Durable, "n", None),
+    Op::Send(2, "a", None),
+    Op::Start(1),
+    Op::Receive((1, 1), 1),
+    Op::CloseConsumer((1, 1), 1),
+    Op::Unsubscribe((1, 1), "n"),
+    Op::Acknowledge((1, 1)),
+    Op::Named((1, 1), 4, Kind::SharedDurable, "m", None),
+    Op::Unsubscribe((1, 1), "n"),
+    Op::CloseConnection(1),
+];
+
+/// Whether each step of that run is planned so, and two durable subscriptions are left.
+fn named_are_planned(alloc: Global) -> Result<bool, Refusal> {
+    let mut one = Core::new(alloc, 1, 100_000)?;
+    let mut other = Core::new(alloc, 1, 100_000)?;
+    Ok(are_planned(alloc, &mut one, &mut other, &NAMED) && one.stations_len() == 2)
 }
 
 #[test]
 fn plans_are_installed_or_let_go(rt: HostRuntime) {
-    is_true(&rt, "each kind of call", new_are_planned(rt.alloc()));
+    is_true(&rt, "each kind of call", run_is_planned(rt.alloc()));
+    is_true(&rt, "names", named_are_planned(rt.alloc()));
 }

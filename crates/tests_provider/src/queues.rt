@@ -1,11 +1,11 @@
 //! Queues, client identifiers, and consumers of others' messages: what each call of a run answers, and what is left.
 
-use crate::calls::{At, Op, shown};
 use crate::runs::run;
 use crate::told::is_text;
 use jm_base::{Mode, Refusal};
 use jm_core::{Core, Reply};
 use std::alloc::{AllocError, Global};
+use tests_calls::{At, Op, all_shown};
 
 /// A run: the limit of rows, the mode of session 1.1, its calls, and what they answer, with how many subscriptions, messages
 /// of subscriptions and messages of queues are left. Before them connection 1 is started, session 1.1 is there, and session
@@ -252,28 +252,18 @@ fn opening(mode: Mode) -> [Op; 5] {
     ]
 }
 
-/// How many subscriptions, messages of subscriptions and messages of queues are left.
-fn left(alloc: Global, core: &Core) -> Result<String, AllocError> {
+/// The replies, then how many subscriptions, messages of subscriptions and messages of queues are left.
+fn with_left(alloc: Global, replies: &[Reply], core: &Core) -> Result<String, AllocError> {
+    let replies = all_shown(alloc, replies)?;
     let subscriptions = core.stations_len();
     let (messages, queued) = (core.kept(), core.kept_by_queues());
-    format!(in alloc; "{subscriptions} and {messages} and {queued}")
-}
-
-/// The replies, then what is left.
-fn all_shown(alloc: Global, replies: &[Reply], core: &Core) -> Result<String, AllocError> {
-    let mut text = String::new(alloc);
-    for reply in replies {
-        text.push_str(shown(alloc, reply)?.as_str())?;
-        text.push_str(", ")?;
-    }
-    text.push_str(left(alloc, core)?.as_str())?;
-    Ok(text)
+    format!(in alloc; "{replies}{subscriptions} and {messages} and {queued}")
 }
 
 fn told_by(alloc: Global, core: &mut Core, row: &Row) -> Result<String, AllocError> {
     let _ = run(alloc, core, &opening(row.mode));
     match run(alloc, core, row.ops) {
-        Ok(replies) => all_shown(alloc, &replies, core),
+        Ok(replies) => with_left(alloc, &replies, core),
         Err(_) => Err(AllocError),
     }
 }

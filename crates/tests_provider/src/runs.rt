@@ -1,24 +1,16 @@
 //! The core: replies, what is held after them, and stamps of another opening.
 
-use crate::calls::{At, OPS, Op, calls, commit, publication, session_of, shown};
+use crate::ops::OPS;
 use crate::told::{holds, is_text};
 use jm_base::{Mode, Refusal};
 use jm_core::{Core, Reply, Step, Who};
 use jm_dest::Key;
 use std::alloc::{AllocError, Global};
+use tests_calls::{At, Op, all_shown, calls, commit, publication, session_of};
 
 /// The replies of the core to those calls.
 pub(crate) fn run(alloc: Global, core: &mut Core, ops: &[Op]) -> Result<Vec<Reply>, Refusal> {
     Ok(core.run(calls(alloc, ops)?)?)
-}
-
-fn all_shown(alloc: Global, replies: &[Reply]) -> Result<String, AllocError> {
-    let mut text = String::new(alloc);
-    for reply in replies {
-        text.push_str(shown(alloc, reply)?.as_str())?;
-        text.push_str(", ")?;
-    }
-    Ok(text)
 }
 
 fn replies(alloc: Global) -> Result<String, AllocError> {

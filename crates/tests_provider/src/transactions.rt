@@ -1,9 +1,9 @@
 //! Local transactions: what each call of a run answers, and how many subscriptions and messages are left.
 
 use crate::acknowledgement::{Row, told};
-use crate::calls::Op;
 use crate::told::is_text;
 use jm_base::Mode;
+use tests_calls::Op;
 
 /// What is sent comes with the commit, which settles what was received; a rollback lets come again what was received since.
 const COMMITTED: [Op; 12] = [

@@ -4,8 +4,18 @@ use crate::held::HeldStations;
 use crate::messages::key;
 use crate::told::is_number;
 use jm_base::Refusal;
+use jm_dest::Key;
 use jm_stations::Stations;
 use std::alloc::Global;
+
+/// Adds the key, where it is not there.
+pub(crate) fn add(stations: &mut Stations, key: Key, limit: Option<u32>) -> Result<(), Refusal> {
+    stations.reserve_key()?;
+    if stations.index_of(&key).is_none() {
+        stations.create(key, limit);
+    }
+    Ok(())
+}
 
 /// Adds the key of the consumer of those numbers, where it is not there.
 pub(crate) fn create(
@@ -13,12 +23,7 @@ pub(crate) fn create(
     of: (u32, u32),
     limit: Option<u32>,
 ) -> Result<(), Refusal> {
-    stations.reserve_key()?;
-    let key = key(of)?;
-    if stations.index_of(&key).is_none() {
-        stations.create(key, limit);
-    }
-    Ok(())
+    add(stations, key(of)?, limit)
 }
 
 fn index_of(stations: &Stations, number: u32) -> Result<Option<usize>, Refusal> {

@@ -6,14 +6,16 @@ use crate::messages::{Words, selector, session};
 use crate::told::is_number;
 use jm_base::Refusal;
 use jm_dest::{ConnectionId, ConsumerId, Moment};
-use jm_machine::{Answer, Consumers};
+use jm_machine::{Answer, Attached, Consumers};
 use jm_stations::Stations;
 use std::alloc::Global;
 
 /// The consumers that a step is about, by the number of a connection, or of a session of the connection 1.
-enum Which {
+pub(crate) enum Which {
     OfConnection(u32),
     OfSession(u32),
+    /// That consumer of the session.
+    One(u32, u32),
 }
 
 /// What is done to what is held under the keys.
@@ -30,18 +32,20 @@ enum Op {
     Close(Which),
 }
 
-/// What is done, how many messages are kept after it, and how many publications the first key missed.
-type Step = (Op, usize, u64);
+/// What is done, how many messages are kept after it, how many publications the first key missed, and whether there is a
+/// first key of which no row is out.
+type Step = (Op, usize, u64, bool);
 
 /// The sessions of the two keys, each of its first consumer.
 static SESSIONS: [u32; 2] = [1, 2];
 
-fn consumers(which: &Which) -> Result<Consumers, Refusal> {
+pub(crate) fn consumers(which: &Which) -> Result<Consumers, Refusal> {
     match which {
         Which::OfConnection(connection) => {
             Ok(Consumers::OfConnection(ConnectionId::new(*connection)?))
         }
         Which::OfSession(number) => Ok(Consumers::OfSession(session(*number)?)),
+        Which::One(of, number) => Ok(Consumers::One(session(*of)?, ConsumerId::new(*number)?)),
     }
 }
 
@@ -91,8 +95,8 @@ fn give_back(stations: &mut Stations, which: &Which) -> Result<(), Refusal> {
     Ok(())
 }
 
-fn close(stations: &mut Stations, which: &Which) -> Result<(), Refusal> {
-    stations.close(&consumers(which)?);
+fn close(alloc: Global, stations: &mut Stations, which: &Which) -> Result<(), Refusal> {
+    stations.close(&consumers(which)?, &Attached::new(alloc));
     Ok(())
 }
 
@@ -109,7 +113,7 @@ fn does(alloc: Global, stations: &mut Stations, op: &Op) -> bool {
         ),
         Op::Settle(which) => settle(stations, which).is_ok(),
         Op::GiveBack(which) => give_back(stations, which).is_ok(),
-        Op::Close(which) => close(stations, which).is_ok(),
+        Op::Close(which) => close(alloc, stations, which).is_ok(),
     }
 }
 
@@ -121,10 +125,17 @@ fn missed(stations: &Stations) -> u64 {
     }
 }
 
+fn is_home(stations: &Stations) -> bool {
+    stations.len() > 0 && stations.is_home(0)
+}
+
 /// Whether that is there after the step.
 fn comes_out(alloc: Global, stations: &mut Stations, step: &Step) -> bool {
-    let (op, kept, lost) = step;
-    does(alloc, stations, op) && stations.kept() == *kept && missed(stations) == *lost
+    let (op, kept, lost, home) = step;
+    does(alloc, stations, op)
+        && stations.kept() == *kept
+        && missed(stations) == *lost
+        && is_home(stations) == *home
 }
 
 /// The first step after which something else is there, or how many steps there are.
@@ -153,60 +164,85 @@ fn run(alloc: Global, limit: Option<u32>, steps: &[Step]) -> usize {
 
 /// What is out stays held until it is settled, also where it expires.
 const SETTLED: [Step; 7] = [
-    (Op::Publish(("a", 4, 500)), 1, 0),
-    (Op::Deliver(0, 1000, "a", 1), 1, 0),
-    (Op::Deliver(0, 1000, "", 0), 1, 0),
-    (Op::Deliver(1, 1500, "", 0), 1, 0),
-    (Op::Deliver(0, 1500, "", 0), 1, 0),
-    (Op::Settle(Which::OfSession(2)), 1, 0),
-    (Op::Settle(Which::OfSession(1)), 0, 0),
+    (Op::Publish(("a", 4, 500)), 1, 0, true),
+    (Op::Deliver(0, 1000, "a", 1), 1, 0, false),
+    (Op::Deliver(0, 1000, "", 0), 1, 0, false),
+    (Op::Deliver(1, 1500, "", 0), 1, 0, false),
+    (Op::Deliver(0, 1500, "", 0), 1, 0, false),
+    (Op::Settle(Which::OfSession(2)), 1, 0, false),
+    (Op::Settle(Which::OfSession(1)), 0, 0, true),
 ];
 
 /// What is given back comes again in its order, with its count; what another session has stays out.
 const GIVEN_BACK: [Step; 9] = [
-    (Op::Publish(("a", 4, 0)), 1, 0),
-    (Op::Publish(("b", 4, 0)), 2, 0),
-    (Op::Deliver(0, 1000, "a", 1), 2, 0),
-    (Op::Deliver(0, 1000, "b", 1), 2, 0),
-    (Op::Deliver(1, 1000, "a", 1), 2, 0),
-    (Op::GiveBack(Which::OfSession(1)), 2, 0),
-    (Op::Deliver(1, 1000, "b", 1), 2, 0),
-    (Op::Deliver(0, 1000, "a", 2), 2, 0),
-    (Op::Deliver(0, 1000, "b", 2), 2, 0),
+    (Op::Publish(("a", 4, 0)), 1, 0, true),
+    (Op::Publish(("b", 4, 0)), 2, 0, true),
+    (Op::Deliver(0, 1000, "a", 1), 2, 0, false),
+    (Op::Deliver(0, 1000, "b", 1), 2, 0, false),
+    (Op::Deliver(1, 1000, "a", 1), 2, 0, false),
+    (Op::GiveBack(Which::OfSession(1)), 2, 0, true),
+    (Op::Deliver(1, 1000, "b", 1), 2, 0, true),
+    (Op::Deliver(0, 1000, "a", 2), 2, 0, false),
+    (Op::Deliver(0, 1000, "b", 2), 2, 0, false),
 ];
 
 /// Rows that are out count for the limit.
 const LIMITED: [Step; 5] = [
-    (Op::Publish(("a", 4, 0)), 1, 0),
-    (Op::Deliver(0, 1000, "a", 1), 1, 0),
-    (Op::Publish(("b", 4, 0)), 2, 1),
-    (Op::Settle(Which::OfConnection(1)), 2, 1),
-    (Op::Publish(("c", 4, 0)), 3, 1),
+    (Op::Publish(("a", 4, 0)), 1, 0, true),
+    (Op::Deliver(0, 1000, "a", 1), 1, 0, false),
+    (Op::Publish(("b", 4, 0)), 2, 1, false),
+    (Op::Settle(Which::OfConnection(1)), 2, 1, true),
+    (Op::Publish(("c", 4, 0)), 3, 1, true),
 ];
 
 /// A session's keys go with what is held under them, and the other's stay.
 const CLOSED: [Step; 5] = [
-    (Op::Publish(("a", 4, 0)), 1, 0),
-    (Op::Deliver(1, 1000, "a", 1), 1, 0),
-    (Op::Close(Which::OfSession(1)), 1, 0),
-    (Op::Deliver(0, 1000, "", 0), 1, 0),
-    (Op::Close(Which::OfConnection(1)), 0, 0),
+    (Op::Publish(("a", 4, 0)), 1, 0, true),
+    (Op::Deliver(1, 1000, "a", 1), 1, 0, true),
+    (Op::Close(Which::OfSession(1)), 1, 0, false),
+    (Op::Deliver(0, 1000, "", 0), 1, 0, false),
+    (Op::Close(Which::OfConnection(1)), 0, 0, false),
 ];
 
 /// What a selector does not select waits where it was; what was chosen and is given back comes again at its place.
 const CHOSEN: [Step; 12] = [
-    (Op::Publish(("a", 4, 0)), 1, 0),
-    (Op::Publish(("b", 9, 0)), 2, 0),
-    (Op::Publish(("c", 4, 0)), 3, 0),
-    (Op::DeliverWhere(0, 1000, "JMSType = 'c'", "c", 1), 3, 0),
-    (Op::DeliverWhere(0, 1000, "JMSPriority < 5", "a", 1), 3, 0),
-    (Op::DeliverWhere(0, 1000, "JMSPriority < 5", "", 0), 3, 0),
-    (Op::GiveBack(Which::OfSession(1)), 3, 0),
-    (Op::Deliver(0, 1000, "b", 1), 3, 0),
-    (Op::DeliverWhere(0, 1000, "JMSType <> 'a'", "c", 2), 3, 0),
-    (Op::DeliverWhere(1, 1000, "JMSType = 'a'", "a", 1), 3, 0),
-    (Op::Settle(Which::OfConnection(1)), 3, 0),
-    (Op::Deliver(0, 1000, "a", 2), 3, 0),
+    (Op::Publish(("a", 4, 0)), 1, 0, true),
+    (Op::Publish(("b", 9, 0)), 2, 0, true),
+    (Op::Publish(("c", 4, 0)), 3, 0, true),
+    (
+        Op::DeliverWhere(0, 1000, "JMSType = 'c'", "c", 1),
+        3,
+        0,
+        false,
+    ),
+    (
+        Op::DeliverWhere(0, 1000, "JMSPriority < 5", "a", 1),
+        3,
+        0,
+        false,
+    ),
+    (
+        Op::DeliverWhere(0, 1000, "JMSPriority < 5", "", 0),
+        3,
+        0,
+        false,
+    ),
+    (Op::GiveBack(Which::OfSession(1)), 3, 0, true),
+    (Op::Deliver(0, 1000, "b", 1), 3, 0, false),
+    (
+        Op::DeliverWhere(0, 1000, "JMSType <> 'a'", "c", 2),
+        3,
+        0,
+        false,
+    ),
+    (
+        Op::DeliverWhere(1, 1000, "JMSType = 'a'", "a", 1),
+        3,
+        0,
+        false,
+    ),
+    (Op::Settle(Which::OfConnection(1)), 3, 0, true),
+    (Op::Deliver(0, 1000, "a", 2), 3, 0, false),
 ];
 
 /// The limit of the first key, and what is done.

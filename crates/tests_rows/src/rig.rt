@@ -46,7 +46,7 @@ impl Rig {
         }
     }
 
-    /// The rows as they are seen, each with its message in the table, are those.
+    /// The rows as they are seen, each with its message in the table, are those, and it is told whether one is out.
     pub(crate) fn shows(&self, seen: &[Seen]) -> bool {
         if self.held.len() != seen.len() || self.table.len() != seen.len() {
             return false;
@@ -56,7 +56,7 @@ impl Rig {
                 return false;
             }
         }
-        true
+        self.held.is_home() == seen.iter().all(|it| it.2 == 0)
     }
 
     fn seen(&self, index: usize) -> Option<Seen> {

@@ -1,6 +1,6 @@
 use Rattle.std.proofs.Common.{arith}
 use Rattle.jm_core.specs.Queues.{rows_in}
-use Rattle.jm_core.proofs.Publishing.{none_published, nothing_queued, one_queued}
+use Rattle.jm_core.proofs.Publishing.{none_published, nothing_queued}
 use Rattle.jm_core.proofs.publish.make_publication.Goals as goal
 
 pub publish-requires : goal.publish-requires

@@ -1,4 +1,4 @@
-use Rattle.std.proofs.Common.{◌∙◌, ◌++◌, ◌∷◌, [], ap, arith, length, length-append}
+use Rattle.std.proofs.Common.{◌∙◌, ◌++◌, ◌∷◌, [], ap, arith, length-append}
 use Rattle.std.specs.Vec.Iter.{into_iter_items}
 use Rattle.jm_core.specs.Queues.{rows_in}
 use Rattle.jm_core.proofs.Publishing.{IsMade, are_published_push, first_queued, first_room, list_assoc, others_queued, others_room, queues_push}

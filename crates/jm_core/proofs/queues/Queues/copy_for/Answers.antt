@@ -1,4 +1,4 @@
-use Rattle.std.proofs.Common.{None, sym}
+use Rattle.std.proofs.Common.{None}
 use Rattle.jm_selector.specs.Selectors.{read_selects, selector_read}
 use Rattle.jm_stations.specs.Backlogs.{Backlog, empty}
 use Rattle.jm_core.proofs.QueueCounts.{copy_stays, of_error}

@@ -1,7 +1,6 @@
 use Rattle.std.proofs.Common.{ap, ◌∙◌, sym}
 use Rattle.jm_dest.specs.declared.key.Key.TheVariants.{Queue}
-use Rattle.jm_stations.specs.Stations.{Stations, index_in}
-use Rattle.jm_core.specs.Queues.{HaveMoreRoom}
+use Rattle.jm_stations.specs.Stations.{index_in}
 use Rattle.jm_core.proofs.QueueRows.{queue_made}
 use Rattle.jm_core.proofs.queues.Queues.index_made.Goals as goal
 

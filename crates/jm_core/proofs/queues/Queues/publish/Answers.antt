@@ -1,5 +1,4 @@
-use Rattle.std.proofs.Common.{ap, ◌∙◌, sym, [], ◌∷◌, ◌<◌, length, subst}
-use Rattle.std.specs.List.{All}
+use Rattle.std.proofs.Common.{ap, ◌∙◌, [], ◌<◌, length}
 use Rattle.std.proofs.lemmas.List.Elements.{All-head}
 use Rattle.jm_machine.specs.Machine.{at_queue}
 use Rattle.jm_stations.specs.Stations.{Stations}

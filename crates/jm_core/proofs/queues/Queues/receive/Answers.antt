@@ -1,5 +1,4 @@
-use Rattle.std.proofs.Common.{ap, ◌∙◌, List, None, sym, true, false}
-use Rattle.jm_dest.specs.declared.session.SessionId.{SessionId}
+use Rattle.std.proofs.Common.{ap, ◌∙◌, List, None, sym, true}
 use Rattle.jm_machine.specs.Machine.{at_queue}
 use Rattle.jm_machine.specs.Rows.{deliver_chosen}
 use Rattle.jm_machine.specs.declared.state.PlacedRow.{PlacedRow}

@@ -1,6 +1,3 @@
-use Rattle.std.proofs.Common.{◌≡◌, subst, sym}
-use Rattle.jm_stations.specs.Stations.{Stations}
-use Rattle.jm_core.specs.Queues.{HaveMoreRoom}
 use Rattle.jm_core.proofs.QueueCounts.{queues_more}
 use Rattle.jm_core.proofs.QueueRows.{one_reserved, queues_reserved}
 use Rattle.jm_core.proofs.queues.Queues.reserve.Goals as goal

@@ -1,5 +1,4 @@
-use Rattle.std.proofs.Common.{ap, ◌∙◌, sym, None, List}
-use Rattle.std.specs.Prelude.{IfOk}
+use Rattle.std.proofs.Common.{ap, ◌∙◌, sym, None}
 use Rattle.jm_stations.specs.Backlogs.{Backlog, empty}
 use Rattle.jm_core.specs.Queues.{rows_in}
 use Rattle.jm_core.proofs.QueueRows.{rows_found, rows_missing}

@@ -20,7 +20,7 @@ invariant_of-self c =
     let i = c.self.inside in
     let returned = sound_returned i.limit (OfConnection c.args.id) i.sessions.consumers i.subs.list i.stations.keys i.stations.list i.stations.next_place c.self.invariant.0 in (
       rw (m.consumers, e.subs, e.keys, e.list, e.next_place, g.keys, g.list, g.next_place)
-          (sound_ended i.limit (OfConnection c.args.id) i.sessions.consumers i.subs.list i.stations.keys (given_back (OfConnection c.args.id) i.stations.list) i.stations.next_place returned),
+          (sound_ended i.limit (OfConnection c.args.id) c.attached-attached.result.now i.sessions.consumers i.subs.list i.stations.keys (given_back (OfConnection c.args.id) i.stations.list) i.stations.next_place returned),
       rw (e.next_place, g.next_place, g.queue_place) c.self.invariant.1,
     )
 
@@ -30,8 +30,9 @@ returns c =
     let g = c.make_give_back.ensures in
     let e = c.make_end.ensures in
     let i = c.self.inside in
+    let counted = rw m.consumers at c.attached-attached.ensures in
     let after : List Station → (List ℕ → List PlacedRow) → State = λ xs qs. record { opening = i.opening; limit = i.limit; life = life_after i.sessions.life (Connection c.args.id) CloseConnection; consumers = map (closed_consumer (are_meant (OfConnection c.args.id))) i.sessions.consumers; stations = xs; queues = qs; next_place = i.stations.next_place } in
     λ who call h.
     connection_closed c.args.self.now who call c.args.id (state_of (of_parts i.opening i.limit c.make_close_connection.new.sessions c.make_end.new.subs c.make_end.new.stations c.make_give_back.new.queues)) h
     (rw (m.life, m.consumers, e.subs, e.list, e.next_place, g.keys, g.list, g.next_place, ← c.self.view_is)
-    (λ j. after (closed_stations i.limit (OfConnection c.args.id) i.sessions.consumers i.subs.list i.stations.keys i.stations.list i.stations.next_place c.self.invariant.0 j) (g.queues j)))
+    (λ j. after (closed_stations i.limit (OfConnection c.args.id) c.attached-attached.result.now i.sessions.consumers i.subs.list i.stations.keys i.stations.list i.stations.next_place c.self.invariant.0 counted j) (g.queues j)))

@@ -1,38 +1,37 @@
-use Rattle.std.proofs.Common.{◌++◌, ◌∷◌, [], List, None, ap}
-use Rattle.jm_dest.specs.declared.key.Key.TheVariants.{Own}
-use Rattle.jm_dest.specs.Keys.{key_eq}
-use Rattle.jm_machine.specs.declared.state.Station.{Station}
-use Rattle.jm_machine.specs.Machine.{State, defined, new_consumer}
+use Rattle.std.proofs.Common.{ap}
+use Rattle.jm_machine.specs.Machine.{State, joined}
 use Rattle.jm_core.specs.Provider.{state_of}
 use Rattle.jm_core.specs.Queues.{rows_in}
 use Rattle.jm_core.proofs.Planned.{of_parts, consumer_made}
-use Rattle.jm_core.proofs.Sound.{found_nowhere, new_key, sound_created, created_stations}
+use Rattle.jm_core.proofs.Sound.{decided_state, roomy, sound_created}
 use Rattle.jm_core.proofs.state.CoreState.install_consumer.Goals as goal
 
-pub make_create-requires-clause-new : goal.make_create-requires-clause-new
-make_create-requires-clause-new c =
-    let i = c.self.inside in
-    let begins = rw (← c.self.view_is) at c.requires.2.begins in
-    found_nowhere (λ x. key_eq x (Own c.args.session.now c.args.id)) i.stations.keys (new_key i.sessions.life i.sessions.consumers i.stations.keys c.args.session.now c.args.id begins c.self.invariant.0.made)
+pub make_decided-requires : goal.make_decided-requires
+make_decided-requires c = rw (← c.self.view_is) at (roomy c.args.self.now c.args.source.key c.args.decision c.requires.2.decided)
+
+pub make_consumer-requires : goal.make_consumer-requires
+make_consumer-requires c =
+    let h = c.requires.2 in
+    record { begins = rw (← c.self.view_is) at h.begins; room = rw (← c.self.view_is) at h.room }
 
 pub invariant_of-self : goal.invariant_of-self
 invariant_of-self c =
     let h = c.requires.2 in
-    let m = c.make_create.ensures in
+    let d = c.make_decided.ensures in
+    let m = c.make_consumer.ensures in
     let i = c.self.inside in
     let begins = rw (← c.self.view_is) at h.begins in (
-      rw (m.consumers, m.subs, m.keys, m.list, m.next_place, h.decided)
-          (sound_created i.limit i.sessions.life i.sessions.consumers i.subs.list i.stations.keys i.stations.list i.stations.next_place c.args.session.now c.args.id (defined h.topic h.selector h.no_local) c.self.invariant.0 begins),
-      rw m.next_place c.self.invariant.1,
+      rw (m.consumers, d.subs, d.keys, d.list, d.next_place)
+          (sound_created i.limit i.sessions.life i.sessions.consumers i.subs.list i.stations.keys i.stations.list i.stations.next_place c.args.session.now c.args.id c.args.source.key c.args.source.selector c.args.self.now c.args.decision c.self.invariant.0 begins h.own h.decided),
+      rw d.next_place c.self.invariant.1,
     )
 
 pub returns : goal.returns
 returns c =
-    let m = c.make_create.ensures in
+    let d = c.make_decided.ensures in
+    let m = c.make_consumer.ensures in
     let i = c.self.inside in
-    let after : List Station → State = λ xs. record { opening = i.opening; limit = i.limit; life = i.sessions.life; consumers = i.sessions.consumers ++ new_consumer c.args.session.now c.args.id (Own c.args.session.now c.args.id) None ∷ []; stations = xs; queues = rows_in i.queues; next_place = i.stations.next_place } in
     λ who call h.
-    let begins = rw (← c.self.view_is) at h.begins in
-    let seen = created_stations i.limit i.sessions.life i.sessions.consumers i.subs.list i.stations.keys i.stations.list i.stations.next_place c.args.session.now c.args.id (defined h.topic h.selector h.no_local) c.self.invariant.0 begins in
-    consumer_made c.args.self.now who call c.args.session.now c.args.id c.args.decision (state_of (of_parts i.opening i.limit c.make_create.new.sessions c.make_create.new.subs c.make_create.new.stations i.queues)) h
-    (rw (m.life, m.consumers, m.subs, m.list, m.next_place, h.decided, ← c.self.view_is) (ap after seen))
+    let seen = decided_state i.opening i.limit i.sessions.life i.sessions.consumers i.subs.list i.stations.keys i.stations.list (rows_in i.queues) i.stations.next_place c.args.source.key c.args.self.now c.args.decision c.self.invariant.0 h.decided in
+    consumer_made c.args.self.now who call c.args.session.now c.args.id c.args.source c.args.decision (state_of (of_parts i.opening i.limit c.make_consumer.new.sessions c.make_decided.new.subs c.make_decided.new.stations i.queues)) h
+    (rw (m.life, m.consumers, d.subs, d.list, d.next_place, ← c.self.view_is) (ap (λ (x : State). joined c.args.session.now c.args.id c.args.source.key c.args.source.selector x) seen))

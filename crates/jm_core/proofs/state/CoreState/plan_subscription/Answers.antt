@@ -1,9 +1,11 @@
-use Rattle.std.proofs.Common.{ap, refl}
+use Rattle.std.proofs.Common.{◌≡◌, ap, refl, true}
 use Rattle.std.proofs.lemmas.Result.{err_from_is_err_and}
 use Rattle.jm_dest.specs.declared.destination.Destination.TheVariants.{Topic}
+use Rattle.jm_machine.specs.Machine.{may_begin}
 use Rattle.jm_stations.specs.Stations.{Stations}
 use Rattle.jm_core.specs.Queues.{rows_in}
 use Rattle.jm_core.proofs.Fits.{state_from, create_refused}
+use Rattle.jm_core.proofs.Planned.{of_parts, own_created}
 use Rattle.jm_core.proofs.state.CoreState.plan_subscription.Goals as goal
 
 pub returns-in_err-decision : goal.returns-in_err-decision
@@ -15,3 +17,17 @@ returns-in_err-decision c =
     let i = c.self.inside in
     rw (p.1, p.2, h.life, h.consumers, h.subs, list, place, ← c.self.view_is)
     (refl, create_refused (state_from i.opening i.limit i.sessions.life i.sessions.consumers i.subs.list i.stations.list (rows_in i.queues) i.stations.next_place) c.args.session.now c.args.id (Topic c.args.topic.now) c.args.selector.now c.args.no_local c.in_err-decision.field-0.0 h.illegal h.refused)
+
+pub returns : goal.returns
+returns c =
+    let h = c.in_ok-decision.ensures in
+    let n = c.prepare_create.new in
+    let i = c.self.inside in
+    let list = ap (λ (x : Stations). x.list) h.stations in
+    let place = ap (λ (x : Stations). x.next_place) h.stations in
+    let p = of_parts i.opening i.limit n.sessions n.subs n.stations i.queues in
+    let begins : may_begin n.sessions.life n.sessions.consumers c.args.session.now c.args.id ≡ true = rw (h.life, h.consumers) h.begins in
+    rw (c.plain-source.ensures, c.none.ensures) (
+      rw (h.life, h.consumers, h.subs, list, place, ← c.self.view_is) refl,
+      own_created p c.args.session.now c.args.id c.args.topic.now c.args.selector.now c.args.no_local c.in_ok-decision.decision begins h.valid h.decided h.room h.subs_room h.key_room,
+    )

@@ -9,9 +9,9 @@ use Rattle.jm_machine.specs.declared.state.SessionState.{SessionState}
 use Rattle.jm_machine.specs.Life.{connection_of, life_after, closed_if, closed_where}
 use Rattle.jm_machine.specs.Machine.{closed_consumer, of_connection}
 use Rattle.jm_session.specs.Known.{Known}
-use Rattle.jm_session.specs.Numbers.{IsNumbered, number_of}
+use Rattle.jm_session.specs.Numbers.{IsNumbered}
 use Rattle.jm_session.proofs.Found.{connection_found, num_sym, life_of}
-use Rattle.jm_session.proofs.Changed.{changed_found, num_same, values_changed, numbered_changed, session_keeps, consumer_keeps}
+use Rattle.jm_session.proofs.Changed.{changed_found, num_same, values_changed, numbered_changed, session_keeps}
 use Rattle.jm_session.proofs.Indexed.{apart_closed, index_closed}
 use Rattle.jm_session.proofs.sessions.Sessions.close_connection.Goals as goal
 
@@ -26,10 +26,9 @@ invariant_of-self c = (
       c.index_mut-connection.ensures.value c.self.invariant.0 c.get_index_of.ensures.unique (sym c.get_index_of.ensures.index ∙ c.in-Some.is)).1,
   subst (IsNumbered (λ (x : SessionState). x.id)) (sym c.close_sessions.ensures.entries)
       (numbered_changed (closed_where (λ s. s.connection == c.args.id)) (λ (x : SessionState). x.id) (session_keeps (λ s. s.connection == c.args.id)) c.self.inside.sessions.entries c.self.invariant.1),
-  subst (IsNumbered number_of) (sym c.close_consumers.ensures.entries) (numbered_changed (closed_consumer (of_connection c.args.id)) number_of (consumer_keeps (of_connection c.args.id)) c.self.inside.consumers.entries c.self.invariant.2),
-  apart_closed (record c.index_mut-connection.result.now { is_started = false; is_open = false }) c.self.inside.connections.entries c.in-Some.at c.index_mut-connection.result.now c.index_mut-connection.ensures.value refl c.self.invariant.3,
-  λ all. index_closed (record c.index_mut-connection.result.now { is_started = false; is_open = false }) c.self.inside.connections.entries c.in-Some.at c.index_mut-connection.result.now c.self.inside.clients c.free.new.self c.index_mut-connection.ensures.value refl c.self.invariant.3
-      c.free.ensures.clients (c.self.invariant.4 (sym c.free.ensures.all ∙ all)),
+  apart_closed (record c.index_mut-connection.result.now { is_started = false; is_open = false }) c.self.inside.connections.entries c.in-Some.at c.index_mut-connection.result.now c.index_mut-connection.ensures.value refl c.self.invariant.2,
+  λ all. index_closed (record c.index_mut-connection.result.now { is_started = false; is_open = false }) c.self.inside.connections.entries c.in-Some.at c.index_mut-connection.result.now c.self.inside.clients c.free.new.self c.index_mut-connection.ensures.value refl c.self.invariant.2
+      c.free.ensures.clients (c.self.invariant.3 (sym c.free.ensures.all ∙ all)),
 )
 
 pub returns-clause-ok : goal.returns-clause-ok
@@ -47,6 +46,5 @@ returns-clause-life c =
 
 pub returns-clause-consumers : goal.returns-clause-consumers
 returns-clause-consumers c =
-    ap values_of c.close_consumers.ensures.entries
-    ∙ values_changed (closed_consumer (of_connection c.args.id)) c.self.inside.consumers.entries
+    c.close.ensures.consumers
     ∙ ap (λ (k : Known). map (closed_consumer (of_connection c.args.id)) k.consumers) c.self.view_is

@@ -1,24 +1,20 @@
-use Rattle.std.proofs.Common.{◌∙◌, ap, sym, subst}
+use Rattle.std.proofs.Common.{◌∙◌, ap}
 use Rattle.std.specs.Prelude.{map}
-use Rattle.std.specs.Map.{values_of}
 use Rattle.indexmap.specs.IndexMap.{values}
 use Rattle.jm_machine.specs.declared.call.Who.TheVariants.{Session}
 use Rattle.jm_machine.specs.declared.call.Request.TheVariants.{CloseSession}
 use Rattle.jm_machine.specs.Life.{life_after}
 use Rattle.jm_machine.specs.Machine.{closed_consumer, of_session}
 use Rattle.jm_session.specs.Known.{Known}
-use Rattle.jm_session.specs.Numbers.{IsNumbered, number_of}
 use Rattle.jm_session.proofs.Found.{life_of}
-use Rattle.jm_session.proofs.Changed.{values_changed, numbered_changed, consumer_keeps}
 use Rattle.jm_session.proofs.sessions.Sessions.close_session.Goals as goal
 
 pub invariant_of-self : goal.invariant_of-self
 invariant_of-self c = (
   c.self.invariant.0,
   (c.close_session.ensures.entries c.self.invariant.1).1,
-  subst (IsNumbered number_of) (sym c.close_consumers.ensures.entries) (numbered_changed (closed_consumer (of_session c.args.id.now)) number_of (consumer_keeps (of_session c.args.id.now)) c.self.inside.consumers.entries c.self.invariant.2),
+  c.self.invariant.2,
   c.self.invariant.3,
-  c.self.invariant.4,
 )
 
 pub returns-clause-life : goal.returns-clause-life
@@ -29,6 +25,5 @@ returns-clause-life c =
 
 pub returns-clause-consumers : goal.returns-clause-consumers
 returns-clause-consumers c =
-    ap values_of c.close_consumers.ensures.entries
-    ∙ values_changed (closed_consumer (of_session c.args.id.now)) c.self.inside.consumers.entries
+    c.close.ensures.consumers
     ∙ ap (λ (k : Known). map (closed_consumer (of_session c.args.id.now)) k.consumers) c.self.view_is

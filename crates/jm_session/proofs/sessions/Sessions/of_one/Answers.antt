@@ -5,7 +5,7 @@ use Rattle.indexmap.specs.IndexMap.{values}
 use Rattle.jm_machine.specs.declared.state.ConnectionState.{ConnectionState}
 use Rattle.jm_machine.specs.declared.state.SessionState.{SessionState}
 use Rattle.jm_session.specs.Clients.{AreClientsApart, IsIndexOf}
-use Rattle.jm_session.specs.Numbers.{IsNumbered, number_of}
+use Rattle.jm_session.specs.Numbers.{IsNumbered}
 use Rattle.jm_session.proofs.Found.{life_of, one_numbered, one_value}
 use Rattle.jm_session.proofs.Indexed.{apart_one}
 use Rattle.jm_session.proofs.sessions.Sessions.of_one.Goals as goal
@@ -16,7 +16,6 @@ invariant_of-result c =
     ap values_of c.in_ok-connections.ensures ∙ one_value (λ (x : ConnectionState). x.id) c.args.connection in (
       subst (IsNumbered (λ (x : ConnectionState). x.id)) (sym c.in_ok-connections.ensures) (one_numbered (λ (x : ConnectionState). x.id) c.args.connection),
       subst (IsNumbered (λ (x : SessionState). x.id)) (sym c.in_ok-sessions.ensures) (one_numbered (λ (x : SessionState). x.id) c.args.session),
-      subst (IsNumbered number_of) (sym c.in_ok-consumers.ensures) (one_numbered number_of c.args.consumer),
       subst AreClientsApart (sym one) (apart_one c.args.connection),
       λ all. subst (λ xs. IsIndexOf xs c.in_ok-clients.clients) (c.as_slice.ensures ∙ c.values.ensures.rest) c.in_ok-clients.ensures.clients,
     )

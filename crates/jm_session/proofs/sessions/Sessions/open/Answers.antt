@@ -21,10 +21,9 @@ invariant_of-self-2 c =
     let after = opened c.self.inside.connections c.reserve.new.self c.insert.new.self x c.self.invariant.0 absent c.reserve.ensures.entries (surely c.insert.result c.insert.ensures.entries (c.insert.ensures.succeeds (omega (arith, c.in_ok-reserve.ensures.ok)))) in (
       after.1,
       c.self.invariant.1,
-      c.self.invariant.2,
-      subst AreClientsApart (sym after.0) (apart_more (values c.self.inside.connections) x c.self.invariant.3 (free_client (values c.self.inside.connections) (values c.self.inside.sessions) x free)),
+      subst AreClientsApart (sym after.0) (apart_more (values c.self.inside.connections) x c.self.invariant.2 (free_client (values c.self.inside.connections) (values c.self.inside.sessions) x free)),
       λ all. subst (λ xs. IsIndexOf xs c.note.new.self) (sym after.0)
-          (index_of_more (values c.self.inside.connections) x c.self.inside.clients c.note.new.self (c.self.invariant.4 (c.note.ensures.all all)) (c.note.ensures.clients all)),
+          (index_of_more (values c.self.inside.connections) x c.self.inside.clients c.note.new.self (c.self.invariant.3 (c.note.ensures.all all)) (c.note.ensures.clients all)),
     )
 
 pub returns-clause-life : goal.returns-clause-life

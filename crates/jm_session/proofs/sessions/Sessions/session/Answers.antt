@@ -21,9 +21,8 @@ invariant_of-self c =
       (added session_eq session_sym (λ x. x.id) c.self.inside.sessions c.insert.new.self c.args.id.now (record { id = c.args.id.now; mode = c.args.mode; is_open = true }) refl c.self.invariant.1 (subst (λ (k : Known). is_some (session_of k.life.sessions c.args.id.now) ≡ false) (sym c.self.view_is) absent) is).1,
       c.self.invariant.2,
       c.self.invariant.3,
-      c.self.invariant.4,
     ))
-    (λ is. (c.self.invariant.0, subst (IsNumbered (λ (x : SessionState). x.id)) (sym is) c.self.invariant.1, c.self.invariant.2, c.self.invariant.3, c.self.invariant.4))
+    (λ is. (c.self.invariant.0, subst (IsNumbered (λ (x : SessionState). x.id)) (sym is) c.self.invariant.1, c.self.invariant.2, c.self.invariant.3))
 
 pub returns-clause-life : goal.returns-clause-life
 unfolding life_after

@@ -28,9 +28,8 @@ invariant_of-self c = (
   (changed_found (λ a b. a == b) num_sym num_same (λ (x : ConnectionState). x.id) (λ (x : ConnectionState). record x { is_started = c.args.on }) (λ x. refl) c.args.id c.index_mut.result.now c.self.inside.connections.entries c.in-Some.at
       c.index_mut.ensures.value c.self.invariant.0 c.get_index_of.ensures.unique (sym c.get_index_of.ensures.index ∙ c.in-Some.is)).1,
   c.self.invariant.1,
-  c.self.invariant.2,
-  apart_kept (record c.index_mut.result.now { is_started = c.args.on }) c.self.inside.connections.entries c.in-Some.at c.index_mut.result.now c.index_mut.ensures.value (λ client. refl) c.self.invariant.3,
-  λ all. index_kept (record c.index_mut.result.now { is_started = c.args.on }) c.self.inside.connections.entries c.in-Some.at c.index_mut.result.now c.self.inside.clients c.index_mut.ensures.value (λ client. refl) (c.self.invariant.4 all),
+  apart_kept (record c.index_mut.result.now { is_started = c.args.on }) c.self.inside.connections.entries c.in-Some.at c.index_mut.result.now c.index_mut.ensures.value (λ client. refl) c.self.invariant.2,
+  λ all. index_kept (record c.index_mut.result.now { is_started = c.args.on }) c.self.inside.connections.entries c.in-Some.at c.index_mut.result.now c.self.inside.clients c.index_mut.ensures.value (λ client. refl) (c.self.invariant.3 all),
 )
 
 pub returns-clause-ok : goal.returns-clause-ok

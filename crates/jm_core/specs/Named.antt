@@ -1,0 +1,134 @@
+-- Subscriptions that have names, as requests ask for them.
+use Rattle.std.specs.Prelude.{◌≡◌, ◌<◌, ◌&&◌, ℕ, Bool, true, false, List, [], ◌∷◌, ◌++◌, Option, Some, None, filter, is_some, not, if◌then◌else◌}
+use Rattle.std.specs.List.{list_any}
+use Rattle.jm_base.specs.declared.refusal.Refusal.{Refusal}
+use Rattle.jm_base.specs.declared.refusal.Refusal.TheVariants.{IllegalState, SubscriptionInUse}
+use Rattle.jm_dest.specs.declared.session.SessionId.{SessionId}
+use Rattle.jm_dest.specs.declared.key.Key.{Key}
+use Rattle.jm_dest.specs.Keys.{key_eq}
+use Rattle.jm_machine.specs.declared.answer.Answer.TheVariants.{Done}
+use Rattle.jm_machine.specs.declared.call.Request.{Request}
+use Rattle.jm_machine.specs.declared.call.Who.TheVariants.{Session}
+use Rattle.jm_machine.specs.declared.state.Consumer.{Consumer}
+use Rattle.jm_machine.specs.declared.state.Definition.{Definition}
+use Rattle.jm_machine.specs.Life.{Life, client_of}
+use Rattle.jm_machine.specs.Machine.{Holding, State, after, answer, asked, defined, definition_of, durable_of, first_cause, held, holding_of, is_home, is_idle, is_of_topic, is_same, may_begin, put, refusal, selected_by, shared_of, station_of, subscribed, subscription_refusal, unless}
+use Rattle.jm_machine.specs.Wants.{takes_memory}
+use Rattle.jm_selector.specs.Selectors.{selector_refusal}
+use Rattle.jm_session.specs.Sources.{Origin}
+use Rattle.jm_stations.specs.Backlogs.{Backlog, are_home, empty, kept_under}
+use Rattle.jm_stations.specs.Stations.{Stations, index_in}
+use Rattle.jm_sub.specs.declared.sharing.Sharing.{Sharing}
+use Rattle.jm_sub.specs.declared.sharing.Sharing.TheVariants.{Unshared, SharedDurable, Shared}
+use Rattle.jm_sub.specs.Sharing.{is_shared, may}
+use Rattle.jm_sub.specs.Subscriptions.{Subscription, Subscriptions, definition_at, put as put_last}
+use Rattle.jm_core.specs.declared.named.Wanted.{Wanted}
+use Rattle.jm_core.specs.Closing.{is_other, kept_keys}
+use Rattle.jm_core.specs.Provider.{Provider, state_of}
+use Rattle.jm_core.specs.State.{limit_of}
+use Rattle.jm_core.specs.Takings.{backlog_at, is_queue}
+
+-- the key of the subscription that a session means by the name, the connections having these clients
+abbrev pub named_key : Sharing → (ℕ → Option (List ℕ)) → SessionId → List ℕ → Key
+named_key Unshared = durable_of
+named_key SharedDurable = durable_of
+named_key Shared = shared_of
+
+-- the session's consumer of that number may be asked for: it may be made, and where the subscription is unshared the
+-- connection has a client identifier
+abbrev pub may_ask : Sharing → Life → List Consumer → SessionId → ℕ → Bool
+may_ask Unshared life consumers s c = may_begin life consumers s c && is_some (client_of life s.connection)
+may_ask SharedDurable life consumers s c = may_begin life consumers s c
+may_ask Shared life consumers s c = may_begin life consumers s c
+
+-- what a subscription of the topic asks for that is wanted
+abbrev pub asked_by : List ℕ → Wanted → Definition
+asked_by topic w = defined topic w.selector.now w.no_local (is_shared w.sharing)
+
+-- none of the consumers of the key is active
+abbrev pub idle_in : Key → List Consumer → Bool
+idle_in key consumers = not (list_any (λ x. x.is_active) (filter (λ x. key_eq x.key key) consumers))
+
+-- none of the rows is out of what is held, where something is
+abbrev pub home_at : Option Backlog → Bool
+home_at None = true
+home_at (Some b) = are_home b.rows
+
+-- none of the rows under the key is out
+abbrev pub home_in : Key → List Key → List Backlog → Bool
+home_in key keys list = home_at (backlog_at list (index_in keys key))
+
+-- the subscription of the key may be had, shared in that way, where it asks for that: by the consumers, the subscriptions
+-- and what is held under their keys
+abbrev pub may_have : Sharing → Key → Definition → List Consumer → List Subscription → List Key → List Backlog → Bool
+may_have sharing key d consumers subscriptions keys list = may sharing (definition_at key subscriptions) (idle_in key consumers) (home_in key keys list) d
+
+-- what the state holds of the key
+abbrev pub held_of : Key → State → Holding
+held_of key state = holding_of (selected_by None) key state
+
+-- the same by the state
+abbrev pub is_had : Sharing → Key → Definition → State → Bool
+is_had sharing key d state = may sharing (held_of key state).definition (is_idle (held_of key state)) (is_home (held_of key state)) d
+
+-- why a subscription is not had whose selector is that, and that may be had or not
+abbrev pub had_refusal : Option (List ℕ) → Bool → Option Refusal
+had_refusal selector had = first_cause (selector_refusal selector) (unless had SubscriptionInUse)
+
+-- the state with the subscription that was decided, where one was: the decision stands beside a copy of its key
+abbrev pub put_decided : Option (Key × Subscription) → State → State
+put_decided None state = state
+put_decided (Some d) state = put d.1.key d.1.definition state
+
+-- the decision, where there is one, is of that key, which is no queue's, and there is room for its subscription and its key
+abbrev pub IsDecided : Provider → Key → Option (Key × Subscription) → Type 0
+IsDecided p key None = Unit {0}
+IsDecided p key (Some d) = (d.0 ≡ key) × (d.1.key ≡ key) × (is_queue (Some key) ≡ false) × (0 < p.subscriptions.spare) × (0 < p.held.key_room)
+
+-- there is room for what was decided, where something was
+abbrev pub IsRoomy : Option (Key × Subscription) → Subscriptions → Stations → Type 0
+IsRoomy None subscriptions held = Unit {0}
+IsRoomy (Some d) subscriptions held = (0 < subscriptions.spare) × (0 < held.key_room)
+
+-- the subscriptions, and the keys, and what is held under them, after that
+abbrev pub subscriptions_with : Option (Key × Subscription) → List Subscription → List Subscription
+subscriptions_with None subscriptions = subscriptions
+subscriptions_with (Some d) subscriptions = put_last d.1 subscriptions
+
+abbrev pub keys_with : Option (Key × Subscription) → List Key → List Key
+keys_with None keys = keys
+keys_with (Some d) keys = kept_keys (is_other d.0) keys ++ d.0 ∷ []
+
+abbrev pub list_with : ℕ → Option (Key × Subscription) → List Key → List Backlog → List Backlog
+list_with limit None keys list = list
+list_with limit (Some d) keys list = kept_under (is_other d.0) keys list ++ empty (limit_of limit d.0) ∷ []
+
+-- a consumer's source and what was decided for it, the subscription of the key asking for that: the selector is read, the
+-- subscription may be had, a new one takes the place of what asks for another thing, and there is room for all
+pub record IsPrepared (p : Provider) (sharing : Sharing) (key : Key) (selector : Option (List ℕ)) (d : Definition) (source : Origin) (decision : Option (Key × Subscription)) : Type 0 where
+  pub source_is : source ≡ record { key = key; selector = None }
+  pub valid : selector_refusal selector ≡ None
+  pub had : is_had sharing key d (state_of p) ≡ true
+  pub left : put_decided decision (state_of p) ≡ (if is_same (definition_of (station_of key (state_of p).stations)) d then state_of p else put key d (state_of p))
+  pub room : 0 < p.known.spare
+  pub decided : IsDecided p key decision
+
+-- the key of the subscription that the session wants, and what it asks for
+abbrev pub key_wanted : State → SessionId → Wanted → Key
+key_wanted state s w = named_key w.sharing (client_of state.life) s w.name.now
+
+abbrev pub definition_wanted : Wanted → Definition
+definition_wanted w = asked w.destination.now w.selector.now w.no_local (is_shared w.sharing)
+
+-- why a request for the session's consumer of that number, of the subscription that is wanted, is refused
+abbrev pub naming_refusal : State → SessionId → ℕ → Wanted → Option Refusal
+naming_refusal state s c w =
+    first_cause (unless (may_ask w.sharing state.life state.consumers s c) IllegalState) (subscription_refusal w.destination.now w.selector.now (is_had w.sharing (key_wanted state s w) (definition_wanted w) state))
+
+-- the session's request asks for its consumer of that number, of the subscription that is wanted: it is refused, answered
+-- and carried out as such a request is, and takes memory as such a request does
+pub record IsNaming (state : State) (s : SessionId) (c : ℕ) (w : Wanted) (request : Request) : Type 0 where
+  pub refused : refusal state.life state.consumers (held state (Session s) request) (Session s) request ≡ naming_refusal state s c w
+  pub told : answer state.life state.consumers (held state (Session s) request) (Session s) request ≡ Done
+  pub left : after state (Session s) request ≡ subscribed s c (key_wanted state s w) (definition_wanted w) state
+  pub takes : takes_memory state (Session s) request ≡ (may_ask w.sharing state.life state.consumers s c && is_of_topic w.destination.now)

@@ -1,0 +1,2 @@
+pub mod OneConsumer
+pub mod Subscriptions

@@ -1,9 +1,0 @@
-use Rattle.std.specs.Prelude.{◌==◌}
-use Rattle.std.specs.HashMap.{get}
-use Rattle.jm_model.proofs.Courses.{noted_more}
-use Rattle.jm_model.proofs.transactions.connections_of.Goals as goal
-
-pub loop-connection-preserved : goal.loop-connection-preserved
-loop-connection-preserved c k =
-    noted_more (λ x. x.id == k) (λ x. x.is_open) c.args.connections.now c.loop-connection.connection-index c.connection-item.result (get (λ a b. a == b) c.loop-connection.made k) (get (λ a b. a == b) c.add_connection.new.connections k) _
-    c.loop-connection-test.true c.connection-item.is (c.in_ok-add_connection.ensures k) (c.loop-connection.invariant k)

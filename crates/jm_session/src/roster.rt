@@ -1,0 +1,184 @@
+//! The consumers, by number, and how many active ones the subscriptions that have names have.
+
+ghost use Rattle.std.specs.Prelude.{◌≡◌, ◌+◌, ◌<◌, ◌≤◌, ◌++◌, [], ◌∷◌, map, false, is_some, option_to_list, IfOk, OnOk, IsOk};
+ghost use Rattle.std.specs.Option.{option_copied};
+ghost use Rattle.indexmap.specs.IndexMap.{spare, values};
+ghost use Rattle.jm_machine.specs.Attached.{AreCounted};
+ghost use Rattle.jm_machine.specs.Machine as machine;
+ghost use Rattle.jm_session.specs.Numbers.{IsNumbered, number_of};
+
+use crate::closing::{close_consumer, close_consumers};
+use crate::number::ConsumerNumber;
+use crate::one::one_consumer;
+use crate::source::Source;
+use indexmap::IndexMap;
+use jm_dest::{ConsumerId, SessionId};
+use jm_machine::{Attached, Consumer, Consumers};
+use std::alloc::{AllocError, Global};
+use std::marker::Model;
+
+/// The consumers that were made, each in order and found by its number, and of the keys that have names how many active
+/// ones each has. Contracts see the consumers as the machine's list, and `spare`, for how many more there is room.
+#[derive(Drop)]
+pub(crate) struct Roster {
+    consumers: IndexMap<ConsumerNumber, Consumer>,
+    attached: Attached,
+    /// For so many more keys there is room in `attached`.
+    room: usize,
+}
+
+impl Model for Roster {
+    ghost use Rattle.std.specs.Prelude.{◌≤◌, min};
+    ghost use Rattle.indexmap.specs.IndexMap.{spare, values};
+    ghost use Rattle.jm_machine.specs.Attached.{AreCounted};
+    ghost use Rattle.jm_session.specs.Known.{Listed};
+    ghost use Rattle.jm_session.specs.Numbers.{IsNumbered, number_of};
+
+    ghost Value = { Listed };
+
+    ghost view = { λ r. record { consumers = values r.consumers; spare = min (spare r.consumers) r.room } };
+
+    ghost invariant = { λ r.
+        IsNumbered number_of r.consumers.entries
+        × AreCounted (values r.consumers) r.attached
+        × (r.room ≤ r.attached.spare) };
+}
+
+/// Adds the consumer, whose number none has yet. Takes no memory.
+fn append(consumers: &mut IndexMap<ConsumerNumber, Consumer>, consumer: Consumer)
+    requires room { 0 < spare consumers.old }
+    requires new { is_some (machine.consumer_of (values consumers.old) consumer.session consumer.id) ≡ false }
+    requires numbered { IsNumbered number_of consumers.old.entries }
+    ensures values { values consumers.new ≡ values consumers.old ++ consumer ∷ [] }
+    ensures numbered { IsNumbered number_of consumers.new.entries }
+    ensures spare { spare consumers.old ≤ spare consumers.new + 1 }
+{
+    let number = ConsumerNumber {
+        session: consumer.session,
+        consumer: consumer.id,
+    };
+    let _ = consumers.insert(number, consumer);
+}
+
+impl Roster {
+    /// No consumer was made. Takes no memory.
+    pub(crate) fn new(alloc: Global) -> Roster
+        ensures { result.consumers ≡ [] }
+    {
+        Roster {
+            consumers: IndexMap::new(alloc),
+            attached: Attached::new(alloc),
+            room: 0,
+        }
+    }
+
+    /// That consumer, if any, as it is. `AllocError` where a request for memory was refused.
+    pub(crate) fn of_one(alloc: Global, consumer: Option<Consumer>) -> Result<Roster, AllocError>
+        ensures { IfOk result (λ one. one.consumers ≡ option_to_list consumer) }
+    {
+        let consumers = one_consumer(alloc, consumer)?;
+        let attached = Attached::of(alloc, consumers.values().as_slice())?;
+        Ok(Roster {
+            consumers,
+            attached,
+            room: 0,
+        })
+    }
+
+    /// The same consumers; the room may differ. `AllocError` where a request for memory was refused.
+    pub(crate) fn copy(&self, alloc: Global) -> Result<Roster, AllocError>
+        ensures { IfOk result (λ copy. copy.consumers ≡ self.now.consumers) }
+    {
+        let attached = Attached::of(alloc, self.as_slice())?;
+        Ok(Roster {
+            consumers: self.consumers.clone()?,
+            attached,
+            room: 0,
+        })
+    }
+
+    /// The consumers, in order.
+    pub(crate) fn as_slice(&self) -> &[Consumer]
+        ensures { result.now ≡ self.now.consumers }
+    {
+        self.consumers.values().as_slice()
+    }
+
+    /// How many active ones the keys that have names have.
+    pub(crate) fn attached(&self) -> &Attached
+        ensures { AreCounted self.now.consumers result.now }
+    {
+        &self.attached
+    }
+
+    /// The session's consumer of that number, where it was made.
+    pub(crate) fn find(&self, session: &SessionId, id: ConsumerId) -> Option<&Consumer>
+        ensures { option_copied result ≡ machine.consumer_of self.now.consumers session.now id }
+    {
+        self.consumers.get(&ConsumerNumber {
+            session: *session,
+            consumer: id,
+        })
+    }
+
+    /// Makes room for `n` more. `AllocError` where a request for memory was refused, which does not come where there is
+    /// room.
+    pub(crate) fn reserve(&mut self, n: usize) -> Result<(), AllocError>
+        ensures room { OnOk result (n ≤ self.new.spare) }
+        ensures succeeds { n ≤ self.old.spare → IsOk result }
+        ensures spare { self.old.spare ≤ self.new.spare }
+        ensures consumers { self.new.consumers ≡ self.old.consumers }
+    {
+        self.consumers.reserve(n)?;
+        if self.room < n {
+            self.attached.reserve(n)?;
+            self.room = n;
+        }
+        Ok(())
+    }
+
+    /// Makes the session's consumer of that number, which was not made yet, of the source. Takes no memory.
+    pub(crate) fn add(&mut self, session: &SessionId, id: ConsumerId, source: Source)
+        requires room { 0 < self.old.spare }
+        requires new { is_some (machine.consumer_of self.old.consumers session.now id) ≡ false }
+        ensures consumers { self.new.consumers ≡
+            self.old.consumers ++ machine.new_consumer session.now id source.key source.selector ∷ [] }
+        ensures spare { self.old.spare ≤ self.new.spare + 1 }
+    {
+        let (key, selector, counted) = source.into_parts();
+        let consumer = Consumer {
+            session: *session,
+            id,
+            key,
+            selector,
+            is_active: true,
+        };
+        append(&mut self.consumers, consumer);
+        // The length is what says that one more can be counted.
+        let _number = self.consumers.len();
+        if let Some(key) = counted {
+            self.attached.join(key);
+            self.room -= 1;
+        }
+    }
+
+    /// Closes those that are meant, in a walk over all. Takes no memory.
+    pub(crate) fn close(&mut self, which: &Consumers)
+        ensures consumers { self.new.consumers ≡ map (machine.closed_consumer (machine.are_meant which.now)) self.old.consumers }
+        ensures spare { self.old.spare ≤ self.new.spare }
+    {
+        close_consumers(&mut self.consumers, &mut self.attached, which);
+    }
+
+    /// Closes the session's consumer of that number, where it was made. Takes no memory.
+    pub(crate) fn close_one(&mut self, session: &SessionId, id: ConsumerId)
+        ensures consumers { self.new.consumers ≡ map (machine.closed_consumer (machine.of_number session.now id)) self.old.consumers }
+        ensures spare { self.old.spare ≤ self.new.spare }
+    {
+        let number = ConsumerNumber {
+            session: *session,
+            consumer: id,
+        };
+        close_consumer(&mut self.consumers, &mut self.attached, number);
+    }
+}

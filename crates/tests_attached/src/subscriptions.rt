@@ -1,0 +1,444 @@
+//! Subscriptions in order of creation: who accepts a message, and what a new one replaces.
+
+use crate::keys::{Closing, meant};
+use crate::told::{holds, holds_at, is_text};
+use jm_base::{Cause, Refusal, Str};
+use jm_dest::{ClientId, ConsumerId, Key, Name, SubscriptionName};
+use jm_header::Message;
+use jm_machine::Attached;
+use jm_sub::Subs;
+use std::alloc::{AllocError, Global};
+use tests_calls::{At, selector, sent, session};
+
+/// The key of that consumer of session 1.1.
+fn key(consumer: u32) -> Result<Key, Refusal> {
+    Ok(Key::Own(session(1)?, ConsumerId::new(consumer)?))
+}
+
+/// A subscription: its consumer, its topic, and its selector.
+type Row = (u32, &'static str, Option<&'static str>);
+
+/// Four subscriptions; those of 1 and 4 are equal but for the topic.
+static FOUR: [Row; 4] = [
+    (1, "t", Some("x > 0")),
+    (3, "t", None),
+    (2, "t", Some("NOT x > 0")),
+    (4, "u", Some("x > 0")),
+];
+
+/// Makes the subscription of that consumer.
+fn put(
+    subs: &mut Subs,
+    consumer: u32,
+    topic: &Name,
+    selector: &Option<Str>,
+) -> Result<(), Refusal> {
+    let decision = subs.decide_create(key(consumer)?, topic, selector, false)?;
+    subs.apply(decision);
+    Ok(())
+}
+
+/// The same with the text of a selector, or with none.
+fn put_with(
+    alloc: Global,
+    subs: &mut Subs,
+    consumer: u32,
+    topic: &Name,
+    text: Option<&str>,
+) -> Result<(), Refusal> {
+    let selector = selector(alloc, text)?;
+    put(subs, consumer, topic, &selector)
+}
+
+fn create(alloc: Global, subs: &mut Subs, row: Row) -> Result<(), Refusal> {
+    let (consumer, topic, text) = row;
+    let topic = Name::new(alloc, topic)?;
+    put_with(alloc, subs, consumer, &topic, text)
+}
+
+/// Four subscriptions; a want of memory is seen by what is missing.
+fn four(alloc: Global) -> Subs {
+    let mut subs = Subs::new(alloc);
+    for row in &FOUR {
+        let _ = create(alloc, &mut subs, *row);
+    }
+    subs
+}
+
+/// The consumers of the keys, in order, each followed by a space.
+fn consumers(alloc: Global, keys: &[Key]) -> Result<String, AllocError> {
+    let mut text = String::new(alloc);
+    for key in keys {
+        if let Key::Own(_, consumer) = key {
+            let number = consumer.get();
+            text.push_str(format!(in alloc; "{number} ")?.as_str())?;
+        }
+    }
+    Ok(text)
+}
+
+/// The consumers whose subscriptions accept the message.
+fn takers_of(alloc: Global, subs: &Subs, message: &Message) -> Result<String, AllocError> {
+    match subs.accepting(message, None) {
+        Ok(keys) => consumers(alloc, &keys),
+        Err(_) => Err(AllocError),
+    }
+}
+
+/// The consumers whose subscriptions accept a message to that topic with that property x.
+fn takers(alloc: Global, topic: &'static str, x: Option<i64>) -> Result<String, AllocError> {
+    let Ok(message) = sent(alloc, 1, At::Topic(topic), x) else {
+        return Err(AllocError);
+    };
+    takers_of(alloc, &four(alloc), &message)
+}
+
+/// Topics and properties of messages, and who accepts each.
+static TAKERS: [(&str, Option<i64>, &str); 6] = [
+    ("t", Some(1), "1 3 "),
+    ("t", Some(0), "3 2 "),
+    ("t", None, "3 "),
+    ("u", Some(1), "4 "),
+    ("u", None, ""),
+    ("v", Some(1), ""),
+];
+
+#[test]
+fn selectors_in_order(rt: HostRuntime) {
+    for (topic, x, wanted) in &TAKERS {
+        is_text(&rt, wanted, takers(rt.alloc(), topic, *x));
+    }
+}
+
+/// The refusal of the first subscription, of that selector, if it leaves none.
+fn refusal(alloc: Global, selector: &'static str) -> Option<Refusal> {
+    let mut subs = Subs::new(alloc);
+    match create(alloc, &mut subs, (1, "t", Some(selector))) {
+        Err(refusal) if subs.is_empty() => Some(refusal),
+        _ => None,
+    }
+}
+
+/// Selectors that are refused, where, and why.
+static REFUSED: [(&str, usize, Cause); 2] = [
+    ("x = ", 4, Cause::Expected),
+    ("x = 7E3", 4, Cause::Floating),
+];
+
+#[test]
+fn refused_selectors(rt: HostRuntime) {
+    for (text, at, cause) in &REFUSED {
+        let wanted = Refusal::InvalidSelector {
+            at: *at,
+            cause: *cause,
+        };
+        holds(&rt, text, refusal(rt.alloc(), text) == Some(wanted));
+    }
+}
+
+/// Where the consumer's subscription stands, whether it has a selector, and whether it accepts the message.
+fn found(subs: &Subs, consumer: u32, message: &Message) -> Option<(usize, bool, bool)> {
+    let at = match key(consumer) {
+        Ok(key) => subs.position(&key)?,
+        Err(_) => return None,
+    };
+    if at >= subs.len() {
+        return None;
+    }
+    let has_selector = !subs.definition_at(at).selector.is_none();
+    Some((at, has_selector, subs.accepts_at(at, message, None)))
+}
+
+/// A copy of the four subscriptions, after the first was replaced.
+fn replaced(alloc: Global) -> Result<Subs, Refusal> {
+    let mut subs = four(alloc);
+    create(alloc, &mut subs, (1, "u", Some(" ")))?;
+    Ok(subs.copy()?)
+}
+
+/// Consumers, and where the subscription of each stands, whether it has a selector, and whether it accepts a message to u.
+static FOUND: [(u32, Option<(usize, bool, bool)>); 4] = [
+    (1, Some((3, false, true))),
+    (3, Some((0, false, false))),
+    (4, Some((2, true, false))),
+    (5, None),
+];
+
+/// Whether each of these consumers' subscriptions is found so.
+fn are_found(subs: &Subs, message: &Message) -> bool {
+    for (consumer, wanted) in &FOUND {
+        if found(subs, *consumer, message) != *wanted {
+            return false;
+        }
+    }
+    subs.len() == 4
+}
+
+#[test]
+fn replaced_subscription(rt: HostRuntime) {
+    let is_replaced = match (
+        replaced(rt.alloc()),
+        sent(rt.alloc(), 1, At::Topic("u"), None),
+    ) {
+        (Ok(subs), Ok(message)) => are_found(&subs, &message),
+        _ => false,
+    };
+    holds(&rt, "four", is_replaced);
+}
+
+/// Where that consumer's subscription stands.
+fn place(subs: &Subs, consumer: u32) -> Option<usize> {
+    match key(consumer) {
+        Ok(key) => subs.position(&key),
+        Err(_) => None,
+    }
+}
+
+/// Where the subscriptions of consumers 1 to 3 stand after that closing, and how many there are.
+fn kept(alloc: Global, closing: Closing) -> Result<([Option<usize>; 3], usize), Refusal> {
+    let consumers = meant(closing)?;
+    let mut subs = four(alloc);
+    subs.close(&consumers, &Attached::new(alloc));
+    let places = [place(&subs, 1), place(&subs, 2), place(&subs, 3)];
+    Ok((places, subs.len()))
+}
+
+/// Closings, and where the subscriptions of consumers 1 to 3 stand after each, and how many there are.
+const KEPT: [(Closing, ([Option<usize>; 3], usize)); 6] = [
+    (Closing::One(1, 3), ([Some(0), Some(1), None], 3)),
+    (Closing::One(2, 3), ([Some(0), Some(2), Some(1)], 4)),
+    (Closing::OfSession(1), ([None, None, None], 0)),
+    (Closing::OfSession(2), ([Some(0), Some(2), Some(1)], 4)),
+    (Closing::OfConnection(1), ([None, None, None], 0)),
+    (Closing::OfConnection(2), ([Some(0), Some(2), Some(1)], 4)),
+];
+
+#[test]
+fn closed_consumers(rt: HostRuntime) {
+    for (closing, wanted) in &KEPT {
+        holds(&rt, "a closing", kept(rt.alloc(), *closing) == Ok(*wanted));
+    }
+}
+
+/// Subscriptions of three topics, by turns.
+static TURNS: [Row; 6] = [
+    (1, "a", None),
+    (2, "b", None),
+    (3, "a", None),
+    (4, "c", None),
+    (5, "b", None),
+    (6, "a", None),
+];
+
+/// What happens to those.
+#[derive(Clone, Copy)]
+enum Change {
+    Nothing,
+    /// That consumer of session 1 of connection 1 closes.
+    Close(u32),
+    /// That consumer's subscription is made anew, to that topic.
+    Create(u32, &'static str),
+}
+
+fn make_change(alloc: Global, subs: &mut Subs, change: Change) -> Result<(), Refusal> {
+    match change {
+        Change::Nothing => Ok(()),
+        Change::Close(consumer) => {
+            subs.close(&meant(Closing::One(1, consumer))?, &Attached::new(alloc));
+            Ok(())
+        }
+        Change::Create(consumer, topic) => create(alloc, subs, (consumer, topic, None)),
+    }
+}
+
+/// The subscriptions after that change; a want of memory is seen by what is missing.
+fn changed(alloc: Global, it: Change) -> Subs {
+    let mut subs = Subs::new(alloc);
+    for row in &TURNS {
+        let _ = create(alloc, &mut subs, *row);
+    }
+    let _ = make_change(alloc, &mut subs, it);
+    subs
+}
+
+/// How many topics have subscriptions in a copy.
+fn topics_of_copy(subs: &Subs) -> Option<usize> {
+    match subs.copy() {
+        Ok(copy) => Some(copy.topics()),
+        Err(_) => None,
+    }
+}
+
+/// How many topics have subscriptions after that change, also in a copy.
+fn topics(alloc: Global, it: Change) -> (usize, Option<usize>) {
+    let subs = changed(alloc, it);
+    (subs.topics(), topics_of_copy(&subs))
+}
+
+/// The consumers whose subscriptions accept a message to that topic after that change.
+fn takers_after(alloc: Global, it: Change, topic: &'static str) -> Result<String, AllocError> {
+    let Ok(message) = sent(alloc, 1, At::Topic(topic), None) else {
+        return Err(AllocError);
+    };
+    takers_of(alloc, &changed(alloc, it), &message)
+}
+
+/// Changes, how many topics have subscriptions after each, and who accepts a message to each of a, b, c and d then.
+static CHANGES: [(Change, usize, [&str; 4]); 8] = [
+    (Change::Nothing, 3, ["1 3 6 ", "2 5 ", "4 ", ""]),
+    (Change::Close(1), 3, ["3 6 ", "2 5 ", "4 ", ""]),
+    (Change::Close(4), 2, ["1 3 6 ", "2 5 ", "", ""]),
+    (Change::Close(7), 3, ["1 3 6 ", "2 5 ", "4 ", ""]),
+    (Change::Create(1, "a"), 3, ["3 6 1 ", "2 5 ", "4 ", ""]),
+    (Change::Create(4, "a"), 2, ["1 3 6 4 ", "2 5 ", "", ""]),
+    (Change::Create(3, "d"), 4, ["1 6 ", "2 5 ", "4 ", "3 "]),
+    (Change::Create(7, "b"), 3, ["1 3 6 ", "2 5 7 ", "4 ", ""]),
+];
+
+#[test]
+fn many_topics(rt: HostRuntime) {
+    for (it, number, takers) in &CHANGES {
+        holds(
+            &rt,
+            "topics",
+            topics(rt.alloc(), *it) == (*number, Some(*number)),
+        );
+        is_text(&rt, takers[0], takers_after(rt.alloc(), *it, "a"));
+        is_text(&rt, takers[1], takers_after(rt.alloc(), *it, "b"));
+        is_text(&rt, takers[2], takers_after(rt.alloc(), *it, "c"));
+        is_text(&rt, takers[3], takers_after(rt.alloc(), *it, "d"));
+    }
+}
+
+/// The consumers whose subscriptions accept a message to t.
+fn takers_of_t(alloc: Global, subs: &Subs) -> Result<String, AllocError> {
+    match sent(alloc, 1, At::Topic("t"), None) {
+        Ok(message) => takers_of(alloc, subs, &message),
+        Err(_) => Err(AllocError),
+    }
+}
+
+/// Changes in turn, how many topics have subscriptions after each, and who accepts a message to t then.
+static IN_TURN: [(Change, usize, &str); 6] = [
+    (Change::Create(1, "t"), 1, "1 "),
+    (Change::Create(2, "u"), 2, "1 "),
+    (Change::Create(3, "t"), 2, "1 3 "),
+    (Change::Close(1), 2, "3 "),
+    (Change::Close(3), 1, ""),
+    (Change::Create(4, "t"), 2, "4 "),
+];
+
+/// Whether that is there after the change.
+fn comes_out(alloc: Global, subs: &mut Subs, row: &(Change, usize, &str)) -> bool {
+    let (it, number, takers) = row;
+    make_change(alloc, subs, *it).is_ok()
+        && topics_of_copy(subs) == Some(*number)
+        && subs.topics() == *number
+        && matches!(takers_of_t(alloc, subs), Ok(told) if told.as_str() == *takers)
+}
+
+/// The first change after which something else is there, or how many changes there are.
+fn first_other(alloc: Global, subs: &mut Subs) -> usize {
+    for (number, row) in IN_TURN.iter().enumerate() {
+        if !comes_out(alloc, subs, row) {
+            return number;
+        }
+    }
+    IN_TURN.len()
+}
+
+#[test]
+fn a_topic_that_comes_again(rt: HostRuntime) {
+    let mut subs = Subs::new(rt.alloc());
+    let first_other = first_other(rt.alloc(), &mut subs);
+    holds_at(&rt, first_other, first_other == IN_TURN.len());
+}
+
+/// Whose subscription it is: that of a consumer of session 1 of that connection, or a name with that client or none.
+#[derive(Clone, Copy)]
+enum Owner {
+    Consumer(u32),
+    Named(Option<&'static str>),
+}
+
+fn client(alloc: Global, client: Option<&str>) -> Result<Option<ClientId>, Refusal> {
+    match client {
+        Some(client) => Ok(Some(ClientId::new(alloc, client)?)),
+        None => Ok(None),
+    }
+}
+
+fn key_of(alloc: Global, owner: Owner) -> Result<Key, Refusal> {
+    match owner {
+        Owner::Consumer(c) => Ok(Key::Own(session(c)?, ConsumerId::new(1)?)),
+        Owner::Named(of) => {
+            let name = SubscriptionName::new(alloc, "s")?;
+            Ok(Key::Durable(client(alloc, of)?, name))
+        }
+    }
+}
+
+/// A subscription: whose it is, and whether it asks for no messages of local publishers; the client of the connection that
+/// publishes, connection 2; and whether the subscription accepts the message.
+type Local = (Owner, bool, Option<&'static str>, bool);
+
+static LOCAL: [Local; 12] = [
+    (Owner::Consumer(1), false, None, true),
+    (Owner::Consumer(1), true, None, true),
+    (Owner::Consumer(2), false, None, true),
+    (Owner::Consumer(2), true, None, false),
+    (Owner::Consumer(1), true, Some("c"), true),
+    (Owner::Consumer(2), true, Some("c"), false),
+    (Owner::Named(Some("c")), false, Some("c"), true),
+    (Owner::Named(Some("c")), true, Some("c"), false),
+    (Owner::Named(Some("c")), true, Some("d"), true),
+    (Owner::Named(Some("c")), true, None, true),
+    (Owner::Named(None), true, Some("c"), true),
+    (Owner::Named(None), true, None, true),
+];
+
+/// Whether the one subscription accepts the message, as all ways to ask say.
+fn says(subs: &Subs, message: &Message, publisher: Option<&ClientId>) -> Option<bool> {
+    if subs.is_empty() {
+        return None;
+    }
+    let accepts = subs.accepts_at(0, message, publisher);
+    match subs.accepting(message, publisher) {
+        Ok(keys) if keys.len() == usize::from(accepts) => Some(accepts),
+        _ => None,
+    }
+}
+
+/// Whether the row's subscription accepts a message that connection 2 publishes.
+fn accepted(alloc: Global, row: &Local) -> Result<Option<bool>, Refusal> {
+    let (owner, no_local, publisher, _) = *row;
+    let publisher = client(alloc, publisher)?;
+    let key = key_of(alloc, owner)?;
+    let topic = Name::new(alloc, "t")?;
+    let message = sent(alloc, 1, At::Topic("t"), None)?;
+    let mut subs = Subs::new(alloc);
+    let decision = subs.decide_create(key, &topic, &None, no_local)?;
+    subs.apply(decision);
+    Ok(says(&subs, &message, publisher.as_ref()))
+}
+
+#[test]
+fn local_publishers(rt: HostRuntime) {
+    for (i, row) in LOCAL.iter().enumerate() {
+        let is_accepted = accepted(rt.alloc(), row) == Ok(Some(row.3));
+        assert!(&rt; is_accepted, "row {i}");
+    }
+}
+
+/// The consumers whose subscriptions accept a message to the queue of that name.
+fn takers_of_queue(alloc: Global) -> Result<String, AllocError> {
+    let Ok(message) = sent(alloc, 1, At::Queue("t"), Some(1)) else {
+        return Err(AllocError);
+    };
+    takers_of(alloc, &four(alloc), &message)
+}
+
+#[test]
+fn no_subscription_accepts_what_goes_to_a_queue(rt: HostRuntime) {
+    is_text(&rt, "", takers_of_queue(rt.alloc()));
+}
