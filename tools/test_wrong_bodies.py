@@ -3,6 +3,7 @@ from __future__ import annotations
 
 import importlib
 import os
+import shutil
 import subprocess
 import sys
 import tempfile
@@ -158,6 +159,37 @@ class AlongsideTheChecker(unittest.TestCase):
                 for edit, *_ in edits:
                     os.remove(f"{top}/crates/{name}/wrong/{edit}.edit")
             self.assertEqual(said(top), (["0 passed, 0 failed"], 0))
+
+
+class AfterCi(unittest.TestCase):
+    """What rt ci proved, and what an earlier run saw refused."""
+
+    runs: list[list[str]]
+
+    @classmethod
+    def setUpClass(cls) -> None:
+        with tempfile.TemporaryDirectory() as top:
+            plant(top)
+            with open(f"{top}/crates.txt", "w", encoding="utf-8") as it:
+                it.write("whole:\n")
+            os.mkdir(f"{top}/.git")
+            for name in {*CRATES} - {"whole"}:
+                shutil.rmtree(f"{top}/crates/{name}")
+            subprocess.run(["rt", "ci"], cwd=top, stdin=subprocess.DEVNULL, stdout=subprocess.DEVNULL, check=True)
+            # (a text that no earlier run has seen)
+            with open(f"{top}/crates/whole/src/lib.rt", "a", encoding="utf-8") as it:
+                it.write(f"// {top}\n")
+            cls.runs = [said(top, "--after-ci")[0], said(top, "--after-ci")[0]]
+
+    def test_all_say_the_same(self) -> None:
+        self.assertEqual([it[-1] for it in self.runs], ["2 passed, 1 failed"] * 2)
+
+    def test_what_was_refused_is_not_tried_again(self) -> None:
+        for number, count in enumerate([0, 2]):
+            self.assertEqual(sum(it.endswith("(in an earlier run)") for it in self.runs[number]), count, self.runs[number])
+
+    def test_what_was_not_refused_is_tried_again(self) -> None:
+        self.assertIn("whole: 1 of 3 wrong bodies in", self.runs[1][-2])
 
 
 class Groups(unittest.TestCase):

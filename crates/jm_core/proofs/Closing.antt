@@ -18,7 +18,7 @@ use Rattle.jm_machine.specs.Attached.{AreCounted, Counts, active_at, ended, is_a
 use Rattle.jm_machine.specs.Rows.{is_out}
 use Rattle.jm_machine.specs.Machine.{are_meant, closed_consumer, consumer_of, ends, has_number, key_at, is_client, is_left, is_one_of, of_session, returned_rows, settled_rows, with_rows}
 use Rattle.jm_stations.specs.Backlogs.{Backlog, kept_under, settled}
-use Rattle.jm_stations.proofs.Keys.{key_refl, key_same}
+use Rattle.jm_machine.proofs.Keys.{key_refl, key_same}
 use Rattle.jm_sub.specs.Subscriptions.{Subscription}
 use Rattle.jm_core.specs.Accepted.{HoldsAccepted}
 use Rattle.jm_core.specs.Closing.{acknowledged, given_back, is_kept, kept_keys, kept_subscriptions}

@@ -9,7 +9,7 @@ use Rattle.jm_dest.specs.Keys.{key_eq}
 use Rattle.jm_machine.specs.declared.state.Consumer.{Consumer}
 use Rattle.jm_stations.specs.Backlogs.{Backlog, kept_under}
 use Rattle.jm_stations.specs.Stations.{index_in}
-use Rattle.jm_stations.proofs.Keys.{key_same, key_sym}
+use Rattle.jm_machine.proofs.Keys.{key_same, key_sym}
 use Rattle.jm_sub.specs.Subscriptions.{Subscription}
 use Rattle.jm_core.specs.Accepted.{HoldsAccepted}
 use Rattle.jm_core.specs.Closing.{is_other, kept_keys, kept_subscriptions}

@@ -21,7 +21,7 @@ use Rattle.jm_machine.specs.Rows.{fresh}
 use Rattle.jm_pending.specs.Rows.{is_at_limit}
 use Rattle.jm_stations.specs.Backlogs.{Backlog, IsPublished, HasMoreRoom, is_named, added, settled}
 use Rattle.jm_stations.specs.Stations.{Stations, index_in}
-use Rattle.jm_stations.proofs.Keys.{key_refl}
+use Rattle.jm_machine.proofs.Keys.{key_refl}
 use Rattle.jm_sub.specs.Subscriptions.{Subscription, takes, accepting}
 use Rattle.jm_core.specs.State.{AreLimited, limit_of, station, stations_of, keys_of}
 use Rattle.jm_core.specs.Steps.{published_stations}

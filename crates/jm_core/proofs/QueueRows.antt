@@ -15,10 +15,10 @@ use Rattle.jm_machine.specs.Machine.{at_queue, at_queues}
 use Rattle.jm_machine.specs.Rows.{fresh}
 use Rattle.jm_stations.specs.Backlogs.{Backlog, HasMoreRoom, IsPublished, added, changed_at, empty, without_room}
 use Rattle.jm_stations.specs.Stations.{Stations, index_in}
-use Rattle.jm_stations.proofs.Keys.{key_refl, key_same}
+use Rattle.jm_machine.proofs.Keys.{key_refl, key_same, text_same}
 use Rattle.jm_core.specs.Publications.{IsReserved}
 use Rattle.jm_core.specs.Queues.{HasNoLimit, HaveMoreRoom, rows_at}
-use Rattle.jm_core.proofs.Stations.{fails_all, found_at, found_none, with}
+use Rattle.jm_core.proofs.Stations.{fails_all, found_at, found_none, length-changed, with}
 
 -- ---- the same rows
 
@@ -131,9 +131,6 @@ none_here (k ∷ ks) (b ∷ bs) name h =
 pub rows_missing : (ks : List Key) (bs : List Backlog) (name : List ℕ) → index_in ks (Queue name) ≡ None → rows_at ks bs name ≡ []
 rows_missing ks bs name h = none_here ks bs name (fails_all (λ x. key_eq x (Queue name)) ks (found_none (λ x. key_eq x (Queue name)) ks h))
 
-text_same : (a b : List ℕ) → text_eq a b ≡ true → a ≡ b
-text_same a b h = let same : Queue a ≡ Queue b = key_same (Queue a) (Queue b) h in cc
-
 -- what is no change of nothing changes nothing where nothing is
 pub nothing_changed : (name : List ℕ) (g : List PlacedRow → List PlacedRow) (queues : List ℕ → List PlacedRow) → g [] ≡ [] → queues name ≡ [] → at_queue name g queues ≡ queues
 nothing_changed name g queues none e = λ i other. at other i
@@ -213,11 +210,6 @@ changed_rows (suc i) zero g (b ∷ bs) d l = let other : (suc i == zero) ≡ fal
 changed_rows (suc i) (suc k) g (b ∷ bs) d l =
     let same : (suc i == suc k) ≡ (i == k) = grind (arith, nat_tests) in
     changed_rows i k g bs d (omega arith) ∙ ap (λ t. cond t (g (get_or bs k d).rows) (get_or bs k d).rows) (sym same)
-
-length-changed : (i : ℕ) (f : Backlog → Backlog) (bs : List Backlog) → length (changed_at i f bs) ≡ length bs
-length-changed i f [] = refl
-length-changed zero f (b ∷ bs) = refl
-length-changed (suc i) f (b ∷ bs) = ap suc (length-changed i f bs)
 
 -- where there is no limit, the row of a message comes to the list that is named
 pub published_same : (i place : ℕ) (m : Content) (old new : List Backlog) → All HasNoLimit old → IsPublished (i ∷ []) place m old new → HaveSameRows (changed_at i (with (with_new place m)) old) new

@@ -10,7 +10,7 @@ use Rattle.jm_machine.specs.declared.state.Definition.{Definition}
 use Rattle.jm_machine.specs.Machine.{station_of}
 use Rattle.jm_stations.specs.Backlogs as spec
 use Rattle.jm_stations.specs.Backlogs.{Backlog, without_room}
-use Rattle.jm_stations.proofs.Keys.{key_same}
+use Rattle.jm_machine.proofs.Keys.{key_same}
 use Rattle.jm_sub.specs.Subscriptions.{Subscription}
 use Rattle.jm_core.specs.Accepted.{HoldsAccepted}
 use Rattle.jm_core.specs.Kept.{IsNumberOfMessages}

@@ -1,7 +1,6 @@
 -- What one call is to a run.
 use Rattle.std.proofs.Common.{◌≡◌, ◌+◌, ◌<◌, ℕ, Bool, true, false, true≢false, cond, List, [], ◌∷◌, ◌++◌, length, refl, ap, sym, subst, ◌∙◌, inl, inr, arith, Option, Some, None, Result, Ok, Err}
 use Rattle.std.specs.Prelude.{◌&&◌, ◌==◌, is_some, nat_lt, MatchBool}
-use Rattle.std.proofs.lemmas.List.{append-nil}
 use Rattle.jm_base.specs.declared.mode.Mode.{Mode}
 use Rattle.jm_base.specs.declared.mode.Mode.TheVariants.{Auto, Client, Dups, Transacted}
 use Rattle.jm_base.specs.declared.refusal.Refusal.{Refusal}
@@ -272,18 +271,6 @@ fits_more p [] [] mid call r end f g = (end, rw (← f) g, refl)
 fits_more p [] (x ∷ replies) mid call r end f g = absurd f
 fits_more p (c ∷ calls) [] mid call r end f g = absurd f
 fits_more p (c ∷ calls) (x ∷ replies) mid call r end f g = (f.0, f.1, fits_more f.0 calls replies mid call r end f.2 g)
-
-pub list_assoc : {A : Type 0} (a b c : List A) → a ++ (b ++ c) ≡ (a ++ b) ++ c
-list_assoc [] b c = refl
-list_assoc (x ∷ a) b c = ap (λ t. x ∷ t) (list_assoc a b c)
-
-nothing_in : {A : Type 0} (xs : List A) → length xs ≡ 0 → xs ≡ []
-nothing_in [] h = refl
-nothing_in (x ∷ xs) h = absurd (omega arith)
-
--- where nothing is left, all was yielded
-pub nothing_left : {A : Type 0} (all done rest : List A) → all ≡ done ++ rest → length rest ≡ 0 → done ≡ all
-nothing_left all done rest e h = sym (e ∙ ap (λ xs. done ++ xs) (nothing_in rest h) ∙ append-nil done)
 
 -- a run that begins has sent nothing
 pub begins : (state : State) (halves : Halves) → sent_of halves ≡ none_sent → kept_of halves ≡ none_kept → RunOwed (begun state) [] [] (progress state halves)

@@ -16,7 +16,7 @@ use Rattle.jm_machine.specs.Life.{Life, mode_of}
 use Rattle.jm_machine.specs.Rows.{deliver_placed, left_of}
 use Rattle.jm_machine.specs.Machine.{State, has_number, consumer_of, key_at, may_begin, new_consumer, places_end, without}
 use Rattle.jm_stations.specs.Backlogs.{Backlog, HasMoreRoom, changed_at, empty, kept_under}
-use Rattle.jm_stations.proofs.Keys.{key_refl}
+use Rattle.jm_machine.proofs.Keys.{key_refl}
 use Rattle.jm_sub.specs.Subscriptions as subs
 use Rattle.jm_sub.specs.Subscriptions.{Subscription}
 use Rattle.jm_core.specs.declared.publish.Publication.{Publication}

@@ -21,7 +21,7 @@ use Rattle.jm_machine.specs.Lone.{Scope, belongs, names_key, deletes_key}
 use Rattle.jm_machine.specs.Life.{Life, client_of, mode_of}
 use Rattle.jm_machine.specs.Entries.{life_after_entry}
 use Rattle.jm_law.proofs.Lists.{filter_map_same}
-use Rattle.jm_law.proofs.Same.{session_same, key_same}
+use Rattle.jm_machine.proofs.Keys.{session_same, key_same}
 
 -- the key is that of a subscription which no two consumers share
 abbrev pub Unshared : Key → Type 0

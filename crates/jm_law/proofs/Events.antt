@@ -24,7 +24,7 @@ use Rattle.jm_machine.specs.Machine.{State, is_transacted, is_untransacted, is_s
 use Rattle.jm_machine.specs.Entries.{drops, sent_entries, step_entries, expand, pending}
 use Rattle.jm_machine.specs.Client.{after_request}
 use Rattle.jm_machine.specs.Isolation.{IsLegal, IsolationOfEvents}
-use Rattle.jm_law.proofs.Same.{session_same}
+use Rattle.jm_machine.proofs.Keys.{session_same}
 use Rattle.jm_law.proofs.EntrySteps.{state_after_entry, EntriesFit, state_at_end, before_by}
 use Rattle.jm_law.proofs.Steps.{committed_by}
 use Rattle.jm_law.proofs.Transactions.{Agrees, transacted_not_plain, untransacted_plain, agrees_step, agrees_asked, agrees_plain}

@@ -16,7 +16,7 @@ use Rattle.jm_machine.specs.Machine.{State}
 use Rattle.jm_machine.specs.Entries.{life_after_entry}
 use Rattle.jm_machine.specs.Lone.{belongs, clients_in, names_key, deletes_key, own_sessions, scope_of}
 use Rattle.jm_machine.specs.Isolation.{Reached}
-use Rattle.jm_law.proofs.Same.{own_connection}
+use Rattle.jm_law.proofs.Owned.{own_connection}
 use Rattle.jm_law.proofs.Consumers.{Unshared, FairMade, FairEntry, FairAll}
 use Rattle.jm_law.proofs.EntrySteps.{state_after_entry, EntriesFit}
 use Rattle.jm_law.proofs.Run.{entry_life}

@@ -24,7 +24,7 @@ use Rattle.jm_machine.specs.Rows.{left_of, deliver_placed}
 use Rattle.jm_machine.specs.Machine.{State, publisher_of, offered, with_message, published, with_rows, at_key, station_of, definition_of, has_number, consumer_of, key_at, selected_by, new_consumer, standing_as, defined, durable_of, shared_of, asked, is_same, put, joined, subscribed, of_session, of_connection, of_number, settled_rows, returned_rows, settled, returned, closed_consumer, ends, closed, with_life, is_client, receive, held, refusal, publish_refusal, commit_refusal, after, after_commit, moved, step}
 use Rattle.jm_machine.specs.Isolation.{Reached}
 use Rattle.jm_machine.specs.Isolation.Reached.{New, Stepped}
-use Rattle.jm_law.proofs.Same.{key_same}
+use Rattle.jm_machine.proofs.Keys.{key_same}
 use Rattle.jm_law.proofs.Stations.{mapped, station_of-map, station_of-at, station_of_other-at, other-put, station-ended}
 use Rattle.jm_law.proofs.OneConsumer.{offered_parts}
 

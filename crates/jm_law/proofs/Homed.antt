@@ -28,7 +28,7 @@ use Rattle.jm_machine.specs.Rows.{bare, fresh, is_out, left_of, sent_out, settle
 use Rattle.jm_machine.specs.Machine.{State, Publisher, publisher_of, accepts, is_full, one_missed, brought, offered, with_message, published, with_rows, at_key, without, station_of, rows_of, consumer_of, key_at, defined, selected_by, durable_of, shared_of, asked, is_same, subscribed, put, joined, definition_of, of_session, of_connection, settled_rows, returned_rows, settled, returned, closed, with_life, is_client, receive, held, refusal, publish_refusal, commit_refusal, after, after_commit, moved, step}
 use Rattle.jm_machine.specs.Isolation.{Reached}
 use Rattle.jm_machine.specs.Isolation.Reached.{New, Stepped}
-use Rattle.jm_law.proofs.Same.{key_same}
+use Rattle.jm_machine.proofs.Keys.{key_same}
 use Rattle.jm_law.proofs.Consumers.{OutBy, OwnOut}
 use Rattle.jm_law.proofs.Keyed.{OwnFits, FitsOwn, found_fits, reached_keyed}
 

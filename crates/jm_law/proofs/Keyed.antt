@@ -20,7 +20,7 @@ use Rattle.jm_machine.specs.Rows.{left_of}
 use Rattle.jm_machine.specs.Machine.{State, durable_of, shared_of, asked, subscribed, selected_by, standing_as, new_consumer, has_number, consumer_of, key_at, closed_consumer, of_session, of_connection, of_number, settled, is_client, receive, held, refusal, publish_refusal, commit_refusal, after, after_commit, published, moved, step}
 use Rattle.jm_machine.specs.Isolation.{Reached}
 use Rattle.jm_machine.specs.Isolation.Reached.{New, Stepped}
-use Rattle.jm_law.proofs.Same.{session_same, session_refl}
+use Rattle.jm_machine.proofs.Keys.{session_same, session_refl}
 use Rattle.jm_machine.specs.declared.state.Definition.{Definition}
 use Rattle.jm_law.proofs.Run.{subscribed_consumers, published_consumers, received_consumers, committed_consumers}
 

@@ -1,4 +1,4 @@
-pub mod Same
+pub mod Owned
 pub mod Lists
 pub mod Life
 pub mod Stations

@@ -14,7 +14,8 @@ use Rattle.jm_machine.specs.Owns.{is_own, is_own_connection}
 use Rattle.jm_machine.specs.Life.{Life, client_of, connection_of, session_of, mode_of, is_started, is_new_session, with_started, closed_if, close_sessions, life_after, own_life}
 use Rattle.jm_law.proofs.Lists.{find_filter, filter_map_same, filter_map_out, push_in, push_out, cond_map, cond_one}
 use Rattle.jm_machine.specs.Machine.{may_close_session}
-use Rattle.jm_law.proofs.Same.{session_same, own_connection}
+use Rattle.jm_machine.proofs.Keys.{session_same}
+use Rattle.jm_law.proofs.Owned.{own_connection}
 
 -- what an own session sees of its connection and of itself is what there is
 pub own_connection_of : (sessions : List SessionId) (life : Life) (c : ℕ) → is_own_connection sessions c ≡ true → connection_of (own_life sessions life).connections c ≡ connection_of life.connections c

@@ -13,7 +13,7 @@ use Rattle.jm_machine.specs.declared.state.Consumer.{Consumer}
 use Rattle.jm_machine.specs.Machine.{State, has_number, consumer_of}
 use Rattle.jm_machine.specs.Lone.{belongs, clients_in, creates, entry_names, first_named, named_by, is_made_for, scope_of}
 use Rattle.jm_machine.specs.Isolation.{names_no_other, keeps_number}
-use Rattle.jm_law.proofs.Same.{session_same, session_refl}
+use Rattle.jm_machine.proofs.Keys.{session_same, session_refl}
 use Rattle.jm_law.proofs.Consumers.{Unshared, Placed}
 
 -- ---- a number that names nothing but the key

@@ -31,7 +31,7 @@ use Rattle.jm_machine.specs.Machine.{State, Publisher, publisher_of, accepts, is
 use Rattle.jm_machine.specs.Isolation.{Reached, is_shared}
 use Rattle.jm_machine.specs.Isolation.Reached.{New, Stepped}
 use Rattle.jm_law.specs.OneConsumer.{OneConsumerEach}
-use Rattle.jm_law.proofs.Same.{key_same}
+use Rattle.jm_machine.proofs.Keys.{key_same}
 use Rattle.jm_law.proofs.Lists.{push_out}
 use Rattle.jm_law.proofs.Stations.{mapped, station_of-map, station_of-at, station_of_other-at, station-put, other-put, station-without, other-without, station-ended}
 use Rattle.jm_law.proofs.Projection.{refused}

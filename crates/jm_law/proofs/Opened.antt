@@ -23,7 +23,7 @@ use Rattle.jm_machine.specs.Entries.{life_after_entry}
 use Rattle.jm_machine.specs.Lone.{client_opened, client_or, clients_in}
 use Rattle.jm_machine.specs.Isolation.{Reached}
 use Rattle.jm_machine.specs.Isolation.Reached.{New, Stepped}
-use Rattle.jm_law.proofs.Same.{session_same}
+use Rattle.jm_machine.proofs.Keys.{session_same}
 use Rattle.jm_law.proofs.EntrySteps.{Replied}
 use Rattle.jm_law.proofs.Run.{after_life, published_life, committed_life}
 use Rattle.jm_law.proofs.Transactions.{connection_life}

@@ -29,9 +29,11 @@ use Rattle.jm_machine.specs.Life.{Life, client_of, mode_of, is_started, life_aft
 use Rattle.jm_machine.specs.Rows.{is_out, goes_out, given_back, left_of, bare, deliver, deliver_placed}
 use Rattle.jm_machine.specs.Machine.{State, station_of, definition_of, missed_of, rows_of, with_rows, put, joined, made, subscribed, deleted, durable_of, shared_of, asked, is_same, may_resume, is_home, is_idle, may_begin, subscription_refusal, first_cause, is_free, holding_of, Holding, key_made, rows_under, selected_by, consumer_of, is_active, key_at, held, unless, defined, of_session, of_connection, of_number, settled_rows, returned_rows, settled, returned, closed_consumer, ends, closed, with_life, is_client, receive, refusal, answer, after, replied, reply}
 use Rattle.jm_machine.specs.Lone.{Scope, Lone, lone_of, lone_put, lone_joined, lone_made, lone_subscribed, lone_ended, lone_settled, lone_returned, lone_closed, lone_life, lone_receive, lone_did, about, belongs, true_or_none, is_true, lone_holding, lone_refusal, lone_reply}
-use Rattle.jm_law.proofs.Same.{session_same, own_connection, key_same, key_refl}
+use Rattle.jm_machine.proofs.Keys.{session_same, key_same, key_refl}
+use Rattle.jm_law.proofs.Owned.{own_connection}
 use Rattle.jm_law.proofs.Lists.{push_in, push_out, cond_map, cond_one}
-use Rattle.jm_law.proofs.Stations.{mapped, station_of-map, station_of-at, station_of_other-at, station-put, other-put, station-without, other-without, station-ended, bare-deliver, bare-settled, bare-returned}
+use Rattle.jm_machine.proofs.Bare.{bare-deliver, bare-settled, bare-returned}
+use Rattle.jm_law.proofs.Stations.{mapped, station_of-map, station_of-at, station_of_other-at, station-put, other-put, station-without, other-without, station-ended}
 use Rattle.jm_law.proofs.Life.{own_mode, own_client, own_started, own_session, own_new, own_closes, life_own, life_other}
 use Rattle.jm_law.proofs.Consumers.{Unshared, FairRequest, Placed, Sound, OutBy, OwnOut, Passes, IsOther, consumer_own, key_mine, key_not_mine, closed_in, closed_out, ends_in, ends_out}
 

@@ -28,9 +28,10 @@ use Rattle.jm_machine.specs.Lone.Item.{Called, Settled, Came}
 use Rattle.jm_base.specs.declared.mode.Mode.{Mode}
 use Rattle.jm_base.specs.declared.refusal.Refusal.TheVariants.{IllegalState}
 use Rattle.jm_law.proofs.Life.{own_mode}
-use Rattle.jm_law.proofs.Same.{key_same}
+use Rattle.jm_machine.proofs.Keys.{key_same}
 use Rattle.jm_law.proofs.Lists.{append_assoc, into_cond, moved_map, moved_one}
-use Rattle.jm_law.proofs.Stations.{mapped, station_of-map, bare-append, bare-length}
+use Rattle.jm_machine.proofs.Bare.{bare-append, bare-length}
+use Rattle.jm_law.proofs.Stations.{mapped, station_of-map}
 use Rattle.jm_law.proofs.Consumers.{Unshared, FairRequest, FairEntry, Placed, Sound}
 use Rattle.jm_law.proofs.EntrySteps.{state_after_entry, Replied}
 use Rattle.jm_law.proofs.Projection.{lone_at, three, refused, own_refusal, own_reply, own_after, Elsewhere, other_after, connection_own, connection_other, project_settled, settled_other, other_session}

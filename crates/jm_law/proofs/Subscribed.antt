@@ -31,7 +31,7 @@ use Rattle.jm_machine.specs.Queues.{rows_unless, state_after}
 use Rattle.jm_machine.specs.Isolation.{Reached}
 use Rattle.jm_machine.specs.Isolation.Reached.{New, Stepped}
 use Rattle.jm_law.specs.Subscriptions.{placed_of, held_under, is_key, next_row, settles_under, drops_under, goes_under, settled_under, dropped_under, gone_under, row_for, rows_for, came_under, all_settled_under, all_dropped_under, all_gone_under, all_came_under, SubscriptionKeeps}
-use Rattle.jm_law.proofs.Same.{key_same}
+use Rattle.jm_machine.proofs.Keys.{key_same}
 use Rattle.jm_law.proofs.Stations.{mapped, station_of-map, station_of-at, station_of_other-at, station-put, other-put, station-without, other-without, station-ended}
 use Rattle.jm_law.proofs.Projection.{refused}
 use Rattle.jm_law.proofs.Queues.{at_append, at_filter, at_returned, at_left, published_next, next_after, Brings, brings_none, brings_asked, below}

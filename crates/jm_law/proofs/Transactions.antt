@@ -20,7 +20,7 @@ use Rattle.jm_machine.specs.Life.{Life, session_of, open_mode, is_new_session, c
 use Rattle.jm_machine.specs.Machine.{State, is_transacted, is_untransacted, held, refusal, publish_refusal, commit_refusal, after, after_commit, published, moved, step}
 use Rattle.jm_machine.specs.Entries.{drops, pending}
 use Rattle.jm_machine.specs.Client.{with_kept, after_commit_of, after_request}
-use Rattle.jm_law.proofs.Same.{session_same}
+use Rattle.jm_machine.proofs.Keys.{session_same}
 use Rattle.jm_law.proofs.Run.{after_life, published_life, committed_life}
 
 -- a session that was opened, and not as a transacted one

@@ -22,7 +22,7 @@ use Rattle.jm_machine.specs.Machine.{State, station_of, rows_of}
 use Rattle.jm_machine.specs.Entries.{entries_of}
 use Rattle.jm_machine.specs.Lone.{clients_in, is_made_for, creates, entry_names, names_key, asks_for, askers, consuming, out_to, holding_rows, own_sessions, scope_of}
 use Rattle.jm_machine.specs.Isolation.{Reached, keeps_number, keeps_consumer, keeps_named, asks_no_shared, is_unshared, keeps_numbers, answered, alone, Isolation}
-use Rattle.jm_law.proofs.Same.{session_same, session_refl, key_same}
+use Rattle.jm_machine.proofs.Keys.{session_same, session_refl, key_same}
 use Rattle.jm_law.proofs.Consumers.{OutBy, OwnOut}
 use Rattle.jm_law.proofs.EntrySteps.{EntriesFit}
 use Rattle.jm_law.proofs.Run.{run_alone}

@@ -23,7 +23,7 @@ use Rattle.jm_machine.specs.Entries.{entries_of, life_after_entry, committed}
 use Rattle.jm_machine.specs.Lone.{Scope, Lone, Item, number_made, is_number, creates, is_made_for, numbers_of, scope_of, lone_of, lone_after, lone_end, lone_told, placed, lone_replies, came, accepted, fed, at_place, feed}
 use Rattle.jm_machine.specs.Lone.Item.{Called, Settled, Came}
 use Rattle.jm_machine.specs.Isolation.{keeps_number, is_unshared, alone, starts_with, feed_of, in_order, SameScope, TwoWorlds}
-use Rattle.jm_law.proofs.Same.{session_same, session_refl}
+use Rattle.jm_machine.proofs.Keys.{session_same, session_refl}
 use Rattle.jm_law.proofs.Numbers.{keeps, made_kept, and_both}
 use Rattle.jm_law.proofs.Unshared.{by_key}
 use Rattle.jm_law.proofs.Clients.{all_fit}

@@ -29,10 +29,10 @@ client_same None (Some b) h = cc
 client_same (Some a) None h = cc
 client_same (Some a) (Some b) h = ap (λ t. Some t) (text_same a b h)
 
-session_refl : (a : SessionId) → session_eq a a ≡ true
+pub session_refl : (a : SessionId) → session_eq a a ≡ true
 session_refl a = grind (arith, nat_tests)
 
-session_same : (a b : SessionId) → session_eq a b ≡ true → a ≡ b
+pub session_same : (a b : SessionId) → session_eq a b ≡ true → a ≡ b
 session_same a b h = grind (arith, nat_tests)
 
 pub key_refl : (a : Key) → key_eq a a ≡ true

@@ -4,3 +4,4 @@ pub mod Reaches
 pub mod Order
 pub mod Keys
 pub mod Counts
+pub mod Bare

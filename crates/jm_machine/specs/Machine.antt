@@ -310,13 +310,6 @@ are_meant (OfConnection c) = of_connection c
 are_meant (OfSession s) = of_session s
 are_meant (One s c) = of_number s c
 
--- the key is that of a consumer's own subscription, and the consumer is among those that are meant
-abbrev pub is_own_of : Consumers → Key → Bool
-is_own_of which (OfQueue name) = false
-is_own_of which (Own s c) = are_meant which s c
-is_own_of which (SharedOwn client name) = false
-is_own_of which (Durable client name) = false
-
 -- the rows that are out through consumers that pass are settled: they go
 abbrev pub settled_rows : (SessionId → ℕ → Bool) → List PlacedRow → List PlacedRow
 settled_rows p rows = filter (λ x. not (is_out p x.row)) rows

@@ -2,7 +2,7 @@ ghost use Rattle.std.specs.Prelude.{◌≡◌};
 ghost use Rattle.jm_machine.specs.Machine as machine;
 
 use crate::find::same_session;
-use jm_dest::{ConnectionId, ConsumerId, Key, SessionId};
+use jm_dest::{ConnectionId, ConsumerId, SessionId};
 
 /// Consumers that a call is about: those of the sessions of a connection, those of a session, or one.
 #[derive(Clone, Copy, Debug, PartialEq, Eq)]
@@ -21,16 +21,6 @@ impl Consumers {
             Consumers::OfConnection(connection) => session.connection == *connection,
             Consumers::OfSession(of) => same_session(session, of),
             Consumers::One(of, number) => same_session(session, of) && id == *number,
-        }
-    }
-
-    /// Whether the key is that of the own subscription of one of them.
-    pub fn own(&self, key: &Key) -> bool
-        ensures { result ≡ machine.is_own_of self.now key.now }
-    {
-        match key {
-            Key::Own(session, id) => self.include(session, *id),
-            _ => false,
         }
     }
 }

@@ -7,7 +7,7 @@ use Rattle.jm_machine.specs.declared.state.Station.{Station}
 use Rattle.jm_machine.specs.Machine.{station_of, is_limited}
 use Rattle.jm_core.specs.Limits.{AllWithin}
 use Rattle.jm_lone.specs.Parts.{limit_of}
-use Rattle.jm_law.proofs.Same.{key_same}
+use Rattle.jm_machine.proofs.Keys.{key_same}
 
 pub station_within : (limit : ℕ) (key : Key) (stations : List Station) → AllWithin limit stations → IfSome (station_of key stations) (λ x. IfSome (limit_of key limit) (λ l. length x.rows ≤ l))
 station_within limit key [] h = tt

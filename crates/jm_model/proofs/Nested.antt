@@ -18,7 +18,7 @@ use Rattle.jm_machine.specs.Life.{Life, connection_of, session_of, is_open_conne
 use Rattle.jm_machine.specs.Machine.{State, published, publish_refusal, refusal, held, after, commit_refusal, after_commit, moved, step}
 use Rattle.jm_machine.specs.Isolation.{Reached}
 use Rattle.jm_machine.specs.Isolation.Reached.{New, Stepped}
-use Rattle.jm_law.proofs.Same.{session_same}
+use Rattle.jm_machine.proofs.Keys.{session_same}
 use Rattle.jm_law.proofs.Run.{after_life, published_life, committed_life}
 use Rattle.jm_law.proofs.Transactions.{connection_life}
 use Rattle.jm_law.proofs.Opened.{reached_linked}

@@ -1,2 +1,1 @@
-pub mod Bare
 mod Loaded

@@ -11,7 +11,7 @@ use Rattle.jm_pending.specs.Rows.{is_at_limit}
 use Rattle.jm_stations.specs.Backlogs.{Backlog, HasMoreRoom, joined, answered, are_home, changed_at, settled, returned}
 use Rattle.jm_stations.specs.Stations.{Stations}
 use Rattle.jm_rows.specs.Rows.{Rows, AreWithin, HasLimit, HasRoom, missed_in, missed_since, rows_in, with_row}
-use Rattle.jm_rows.proofs.Bare.{bare-append, bare-deliver, bare-length, bare-settled, bare-returned}
+use Rattle.jm_machine.proofs.Bare.{bare-append, bare-deliver, bare-length, bare-settled, bare-returned}
 
 -- there is a first list
 pub first_there : (limit : Option ℕ) (list : List Backlog) → HasLimit limit list → 0 < length list

@@ -21,6 +21,7 @@ use Rattle.jm_machine.specs.Isolation.{names_no_other}
 use Rattle.jm_machine.specs.Lone.{client_opened, client_or, clients_in, names_key, consuming, holding_rows, askers, own_sessions, own_clients, creates, entry_names, named_by, first_named, is_made_for, scope_of}
 use Rattle.jm_machine.specs.Machine.{State, station_of, rows_of, has_number, consumer_of}
 use Rattle.jm_machine.specs.Owns.{is_own, is_own_connection}
+use Rattle.jm_machine.proofs.Keys.{session_same}
 use Rattle.jm_scope.specs.declared.numbers.ConsumerNumber.{ConsumerNumber}
 use Rattle.jm_scope.specs.Parts.{client_left, client_named, opens, clients_when, clients_for, sessions_for, is_of, may_be, made_for, belonging}
 
@@ -50,9 +51,6 @@ client_first connections entries c = go (connection_of connections c)
     go (Some x) = refl
 
 -- ---- numbers
-
-session_same : (a b : SessionId) → session_eq a b ≡ true → a ≡ b
-session_same a b h = grind (arith, nat_tests)
 
 nothing_more : {A : Type 0} (o : Option A) → o ≡ option_or o None
 nothing_more None = refl

@@ -12,6 +12,7 @@ use Rattle.jm_machine.specs.declared.state.Consumer.{Consumer}
 use Rattle.jm_machine.specs.declared.state.SessionState.{SessionState}
 use Rattle.jm_machine.specs.Life.{closed_where}
 use Rattle.jm_machine.specs.Machine.{closed_consumer}
+use Rattle.jm_machine.proofs.Keys.{session_same}
 use Rattle.jm_session.specs.declared.number.ConsumerNumber.{ConsumerNumber}
 use Rattle.jm_session.specs.Numbers.{IsNumbered, number_of, with_changed}
 use Rattle.jm_session.proofs.Found.{found_at, number_eq}
@@ -68,11 +69,6 @@ both false b h = absurd (true≢false (sym h))
 
 pub num_same : (a b : ℕ) → (a == b) ≡ true → a ≡ b
 num_same a b = eqb-true a b
-
-pub session_same : (a b : SessionId) → session_eq a b ≡ true → a ≡ b
-session_same a b h =
-    let parts = both (a.connection == b.connection) (a.number == b.number) h in
-    λ i. record { connection = eqb-true a.connection b.connection parts.0 i; number = eqb-true a.number b.number parts.1 i }
 
 pub number_same : (a b : ConsumerNumber) → number_eq a b ≡ true → a ≡ b
 number_same a b h =

@@ -21,7 +21,7 @@ use Rattle.jm_pending.proofs.Holding.{holder_there}
 use Rattle.std.proofs.lemmas.List.{get_or_default}
 use Rattle.jm_stations.specs.Backlogs as spec
 use Rattle.jm_stations.specs.Kept.{all_rows, all_shown, without_room, IsBacklog, IsKept}
-use Rattle.jm_stations.proofs.Keys.{set_eq, set_is, key_sym}
+use Rattle.jm_machine.proofs.Keys.{set_eq, set_is, key_sym}
 
 -- a key is not among those before it, where all are distinct
 none_later : (k : Key) (keys : List Key) (n : ℕ) (d : Key) → AllByRecursion (λ l. key_eq k l ≡ false) keys → n < length keys → key_eq k (get_or keys n d) ≡ false

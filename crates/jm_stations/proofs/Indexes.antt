@@ -14,7 +14,7 @@ use Rattle.jm_dest.specs.declared.key.Key.{Key}
 use Rattle.jm_dest.specs.Keys.{key_eq}
 use Rattle.jm_stations.specs.Backlogs.{changed_at}
 use Rattle.jm_stations.specs.Stations.{index_in}
-use Rattle.jm_stations.proofs.Keys.{set_eq, set_is, key_refl, key_same, key_sym}
+use Rattle.jm_machine.proofs.Keys.{set_eq, set_is, key_refl, key_same, key_sym}
 
 -- room for both is room for each
 pub room_left : (a b : ℕ) → 0 < min a b → 0 < a

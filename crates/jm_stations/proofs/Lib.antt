@@ -7,7 +7,6 @@ mod Publishing
 mod Receiving
 mod Room
 mod Wanted
-pub mod Keys
 mod Indexes
 mod Copied
 mod Removed

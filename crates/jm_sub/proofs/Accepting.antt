@@ -12,7 +12,7 @@ use Rattle.jm_machine.specs.Machine.{Publisher, accepts, is_to}
 use Rattle.jm_sub.specs.Entries.{found_wants, subscriptions_of, wanting}
 use Rattle.jm_sub.specs.Subscriptions.{Subscription, accepting, wants}
 use Rattle.jm_sub.specs.Topics.{at_least_one, keys_to}
-use Rattle.jm_sub.proofs.Keys.{key_refl, key_sym, set_eq, set_is}
+use Rattle.jm_machine.proofs.Keys.{key_refl, key_sym, set_eq, set_is}
 use Rattle.jm_sub.proofs.Listed.{lookup_key}
 
 -- no subscription accepts what goes to a queue

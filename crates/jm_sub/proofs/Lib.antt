@@ -1,6 +1,5 @@
 mod Left
 mod Entries
-mod Keys
 mod Table
 mod Listed
 mod Accepting

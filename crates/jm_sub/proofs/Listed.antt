@@ -9,7 +9,7 @@ use Rattle.jm_machine.specs.declared.state.Definition.{Definition}
 use Rattle.jm_sub.specs.Entries.{IsNew, subscription_of, subscriptions_of}
 use Rattle.jm_sub.specs.Subscriptions as spec
 use Rattle.jm_sub.specs.Subscriptions.{Subscription}
-use Rattle.jm_sub.proofs.Keys.{key_sym, position_sym, set_eq, set_is}
+use Rattle.jm_machine.proofs.Keys.{key_sym, position_sym, set_eq, set_is}
 
 -- what is found under a key
 pub lookup_key : (k : Key) (es : List (Key × Definition)) → lookup (set_eq k) es ≡ lookup (key_eq k) es

@@ -13,7 +13,7 @@ use Rattle.jm_sub.specs.declared.topics.Topics.{Topics}
 use Rattle.jm_sub.specs.Entries.{IsNew, subscription_of, subscriptions_of}
 use Rattle.jm_sub.specs.Subscriptions.{Subscription, without}
 use Rattle.jm_sub.specs.Topics.{IsTableOf, at_least_one, ends, keys_at, keys_to, left}
-use Rattle.jm_sub.proofs.Keys.{key_sym, set_eq, set_is, text_same}
+use Rattle.jm_machine.proofs.Keys.{key_sym, set_eq, set_is, text_same}
 
 -- those of the subscriptions that stay
 abbrev pub staying : Ending → List Subscription → List Subscription

@@ -26,7 +26,8 @@ use Rattle.jm_machine.specs.Entries.{life_after_entry, drops, pending, committed
 use Rattle.jm_transactions.specs.Transactions.{Course, Follows, AreNested, is_up, mode_left, mode_in, may_commit, committed_places, opened, shut, created, ended, left, kept, noted, message_in, messages_at}
 use Rattle.jm_transactions.specs.declared.transactions.Connected.{Connected}
 use Rattle.jm_transactions.specs.Courses.{connected_as}
-use Rattle.jm_transactions.proofs.Found.{session_same, Passes, found_passes, found_started, found_closed, found_session, still_there}
+use Rattle.jm_machine.proofs.Keys.{session_same}
+use Rattle.jm_transactions.proofs.Found.{Passes, found_passes, found_started, found_closed, found_session, still_there}
 
 -- whether a connection that was opened is open
 abbrev pub on : Option ConnectionState → Option Bool

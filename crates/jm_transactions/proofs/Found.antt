@@ -7,10 +7,7 @@ use Rattle.jm_dest.specs.Names.{session_eq}
 use Rattle.jm_machine.specs.declared.state.ConnectionState.{ConnectionState}
 use Rattle.jm_machine.specs.declared.state.SessionState.{SessionState}
 use Rattle.jm_machine.specs.Life.{connection_of, session_of, with_started, started_if, closed_if, closed_where, close_sessions}
-
--- the test on sessions decides equality
-pub session_same : (a b : SessionId) → session_eq a b ≡ true → a ≡ b
-session_same a b h = grind (arith, nat_tests)
+use Rattle.jm_machine.proofs.Keys.{session_same}
 
 -- a change that keeps what the test asks for
 find-map : {A : Type 0} (p : A → Bool) (f : A → A) → ((x : A) → p (f x) ≡ p x) → (xs : List A) → find p (map f xs) ≡ option_map f (find p xs)

@@ -1,7 +1,7 @@
 //! Subscriptions in order of creation: who accepts a message, and what a new one replaces.
 
 use crate::keys::{Closing, meant};
-use crate::told::{holds, holds_at, is_text};
+use crate::told::{holds, holds_at};
 use jm_base::{Cause, Refusal, Str};
 use jm_dest::{ClientId, ConsumerId, Key, Name, SubscriptionName};
 use jm_header::Message;
@@ -65,48 +65,53 @@ fn four(alloc: Global) -> Subs {
     subs
 }
 
-/// The consumers of the keys, in order, each followed by a space.
-fn consumers(alloc: Global, keys: &[Key]) -> Result<String, AllocError> {
-    let mut text = String::new(alloc);
+/// The numbers of the keys' consumers in order, 1 to 9, as the digits of one number.
+fn consumers(keys: &[Key]) -> u32 {
+    let mut digits: u32 = 0;
     for key in keys {
         if let Key::Own(_, consumer) = key {
-            let number = consumer.get();
-            text.push_str(format!(in alloc; "{number} ")?.as_str())?;
+            digits = digits.wrapping_mul(10).wrapping_add(consumer.get());
         }
     }
-    Ok(text)
+    digits
 }
 
 /// The consumers whose subscriptions accept the message.
-fn takers_of(alloc: Global, subs: &Subs, message: &Message) -> Result<String, AllocError> {
+fn takers_of(subs: &Subs, message: &Message) -> Option<u32> {
     match subs.accepting(message, None) {
-        Ok(keys) => consumers(alloc, &keys),
-        Err(_) => Err(AllocError),
+        Ok(keys) => Some(consumers(&keys)),
+        Err(_) => None,
     }
 }
 
-/// The consumers whose subscriptions accept a message to that topic with that property x.
-fn takers(alloc: Global, topic: &'static str, x: Option<i64>) -> Result<String, AllocError> {
-    let Ok(message) = sent(alloc, 1, At::Topic(topic), x) else {
-        return Err(AllocError);
-    };
-    takers_of(alloc, &four(alloc), &message)
+/// The consumers whose subscriptions accept a message to there with that property x.
+fn takers_at(alloc: Global, subs: &Subs, at: At, x: Option<i64>) -> Option<u32> {
+    match sent(alloc, 1, at, x) {
+        Ok(message) => takers_of(subs, &message),
+        Err(_) => None,
+    }
+}
+
+/// The same of the four subscriptions.
+fn takers(alloc: Global, at: At, x: Option<i64>) -> Option<u32> {
+    takers_at(alloc, &four(alloc), at, x)
 }
 
 /// Topics and properties of messages, and who accepts each.
-static TAKERS: [(&str, Option<i64>, &str); 6] = [
-    ("t", Some(1), "1 3 "),
-    ("t", Some(0), "3 2 "),
-    ("t", None, "3 "),
-    ("u", Some(1), "4 "),
-    ("u", None, ""),
-    ("v", Some(1), ""),
+static TAKERS: [(&str, Option<i64>, u32); 6] = [
+    ("t", Some(1), 13),
+    ("t", Some(0), 32),
+    ("t", None, 3),
+    ("u", Some(1), 4),
+    ("u", None, 0),
+    ("v", Some(1), 0),
 ];
 
 #[test]
 fn selectors_in_order(rt: HostRuntime) {
     for (topic, x, wanted) in &TAKERS {
-        is_text(&rt, wanted, takers(rt.alloc(), topic, *x));
+        let told = takers(rt.alloc(), At::Topic(topic), *x);
+        holds(&rt, topic, told == Some(*wanted));
     }
 }
 
@@ -149,11 +154,11 @@ fn found(subs: &Subs, consumer: u32, message: &Message) -> Option<(usize, bool, 
     Some((at, has_selector, subs.accepts_at(at, message, None)))
 }
 
-/// A copy of the four subscriptions, after the first was replaced.
-fn replaced(alloc: Global) -> Result<Subs, Refusal> {
+/// A copy of the four subscriptions, after the first was replaced; a want of memory is seen by what is missing.
+fn replaced(alloc: Global) -> Result<Subs, AllocError> {
     let mut subs = four(alloc);
-    create(alloc, &mut subs, (1, "u", Some(" ")))?;
-    Ok(subs.copy()?)
+    let _ = create(alloc, &mut subs, (1, "u", Some(" ")));
+    subs.copy()
 }
 
 /// Consumers, and where the subscription of each stands, whether it has a selector, and whether it accepts a message to u.
@@ -275,66 +280,52 @@ fn topics(alloc: Global, it: Change) -> (usize, Option<usize>) {
     (subs.topics(), topics_of_copy(&subs))
 }
 
-/// The consumers whose subscriptions accept a message to that topic after that change.
-fn takers_after(alloc: Global, it: Change, topic: &'static str) -> Result<String, AllocError> {
-    let Ok(message) = sent(alloc, 1, At::Topic(topic), None) else {
-        return Err(AllocError);
-    };
-    takers_of(alloc, &changed(alloc, it), &message)
+/// The consumers whose subscriptions accept a message to each of a, b, c and d after that change.
+fn takers_after(alloc: Global, it: Change) -> [Option<u32>; 4] {
+    let subs = changed(alloc, it);
+    let to = |topic| takers_at(alloc, &subs, At::Topic(topic), None);
+    [to("a"), to("b"), to("c"), to("d")]
 }
 
 /// Changes, how many topics have subscriptions after each, and who accepts a message to each of a, b, c and d then.
-static CHANGES: [(Change, usize, [&str; 4]); 8] = [
-    (Change::Nothing, 3, ["1 3 6 ", "2 5 ", "4 ", ""]),
-    (Change::Close(1), 3, ["3 6 ", "2 5 ", "4 ", ""]),
-    (Change::Close(4), 2, ["1 3 6 ", "2 5 ", "", ""]),
-    (Change::Close(7), 3, ["1 3 6 ", "2 5 ", "4 ", ""]),
-    (Change::Create(1, "a"), 3, ["3 6 1 ", "2 5 ", "4 ", ""]),
-    (Change::Create(4, "a"), 2, ["1 3 6 4 ", "2 5 ", "", ""]),
-    (Change::Create(3, "d"), 4, ["1 6 ", "2 5 ", "4 ", "3 "]),
-    (Change::Create(7, "b"), 3, ["1 3 6 ", "2 5 7 ", "4 ", ""]),
+static CHANGES: [(Change, usize, [u32; 4]); 8] = [
+    (Change::Nothing, 3, [136, 25, 4, 0]),
+    (Change::Close(1), 3, [36, 25, 4, 0]),
+    (Change::Close(4), 2, [136, 25, 0, 0]),
+    (Change::Close(7), 3, [136, 25, 4, 0]),
+    (Change::Create(1, "a"), 3, [361, 25, 4, 0]),
+    (Change::Create(4, "a"), 2, [1364, 25, 0, 0]),
+    (Change::Create(3, "d"), 4, [16, 25, 4, 3]),
+    (Change::Create(7, "b"), 3, [136, 257, 4, 0]),
 ];
 
 #[test]
 fn many_topics(rt: HostRuntime) {
-    for (it, number, takers) in &CHANGES {
-        holds(
-            &rt,
-            "topics",
-            topics(rt.alloc(), *it) == (*number, Some(*number)),
-        );
-        is_text(&rt, takers[0], takers_after(rt.alloc(), *it, "a"));
-        is_text(&rt, takers[1], takers_after(rt.alloc(), *it, "b"));
-        is_text(&rt, takers[2], takers_after(rt.alloc(), *it, "c"));
-        is_text(&rt, takers[3], takers_after(rt.alloc(), *it, "d"));
-    }
-}
-
-/// The consumers whose subscriptions accept a message to t.
-fn takers_of_t(alloc: Global, subs: &Subs) -> Result<String, AllocError> {
-    match sent(alloc, 1, At::Topic("t"), None) {
-        Ok(message) => takers_of(alloc, subs, &message),
-        Err(_) => Err(AllocError),
+    for (row, (it, number, takers)) in CHANGES.iter().enumerate() {
+        let are_known = topics(rt.alloc(), *it) == (*number, Some(*number));
+        holds_at(&rt, row, are_known);
+        let told = takers_after(rt.alloc(), *it);
+        holds_at(&rt, row, told == takers.map(|digits| Some(digits)));
     }
 }
 
 /// Changes in turn, how many topics have subscriptions after each, and who accepts a message to t then.
-static IN_TURN: [(Change, usize, &str); 6] = [
-    (Change::Create(1, "t"), 1, "1 "),
-    (Change::Create(2, "u"), 2, "1 "),
-    (Change::Create(3, "t"), 2, "1 3 "),
-    (Change::Close(1), 2, "3 "),
-    (Change::Close(3), 1, ""),
-    (Change::Create(4, "t"), 2, "4 "),
+static IN_TURN: [(Change, usize, u32); 6] = [
+    (Change::Create(1, "t"), 1, 1),
+    (Change::Create(2, "u"), 2, 1),
+    (Change::Create(3, "t"), 2, 13),
+    (Change::Close(1), 2, 3),
+    (Change::Close(3), 1, 0),
+    (Change::Create(4, "t"), 2, 4),
 ];
 
 /// Whether that is there after the change.
-fn comes_out(alloc: Global, subs: &mut Subs, row: &(Change, usize, &str)) -> bool {
-    let (it, number, takers) = row;
-    make_change(alloc, subs, *it).is_ok()
-        && topics_of_copy(subs) == Some(*number)
-        && subs.topics() == *number
-        && matches!(takers_of_t(alloc, subs), Ok(told) if told.as_str() == *takers)
+fn comes_out(alloc: Global, subs: &mut Subs, row: &(Change, usize, u32)) -> bool {
+    let (it, number, takers) = *row;
+    make_change(alloc, subs, it).is_ok()
+        && topics_of_copy(subs) == Some(number)
+        && subs.topics() == number
+        && takers_at(alloc, subs, At::Topic("t"), None) == Some(takers)
 }
 
 /// The first change after which something else is there, or how many changes there are.
@@ -409,36 +400,51 @@ fn says(subs: &Subs, message: &Message, publisher: Option<&ClientId>) -> Option<
     }
 }
 
-/// Whether the row's subscription accepts a message that connection 2 publishes.
-fn accepted(alloc: Global, row: &Local) -> Result<Option<bool>, Refusal> {
-    let (owner, no_local, publisher, _) = *row;
-    let publisher = client(alloc, publisher)?;
-    let key = key_of(alloc, owner)?;
-    let topic = Name::new(alloc, "t")?;
-    let message = sent(alloc, 1, At::Topic("t"), None)?;
-    let mut subs = Subs::new(alloc);
-    let decision = subs.decide_create(key, &topic, &None, no_local)?;
+/// The same, of a publisher on a connection for that client.
+fn says_of(alloc: Global, subs: &Subs, message: &Message, publisher: Option<&str>) -> Option<bool> {
+    match client(alloc, publisher) {
+        Ok(publisher) => says(subs, message, publisher.as_ref()),
+        Err(_) => None,
+    }
+}
+
+fn create_under(subs: &mut Subs, key: Key, topic: &Name, no_local: bool) -> Result<(), Refusal> {
+    let decision = subs.decide_create(key, topic, &None, no_local)?;
     subs.apply(decision);
-    Ok(says(&subs, &message, publisher.as_ref()))
+    Ok(())
+}
+
+fn create_for(alloc: Global, subs: &mut Subs, owner: Owner, no_local: bool) -> Result<(), Refusal> {
+    let topic = Name::new(alloc, "t")?;
+    create_under(subs, key_of(alloc, owner)?, &topic, no_local)
+}
+
+/// The one subscription of the topic t; a want of memory is seen by what is missing.
+fn one(alloc: Global, owner: Owner, no_local: bool) -> Subs {
+    let mut subs = Subs::new(alloc);
+    let _ = create_for(alloc, &mut subs, owner, no_local);
+    subs
+}
+
+/// Whether the row's subscription accepts a message that connection 2 publishes.
+fn accepted(alloc: Global, row: &Local) -> Option<bool> {
+    let (owner, no_local, publisher, _) = *row;
+    let subs = one(alloc, owner, no_local);
+    match sent(alloc, 1, At::Topic("t"), None) {
+        Ok(message) => says_of(alloc, &subs, &message, publisher),
+        Err(_) => None,
+    }
 }
 
 #[test]
 fn local_publishers(rt: HostRuntime) {
-    for (i, row) in LOCAL.iter().enumerate() {
-        let is_accepted = accepted(rt.alloc(), row) == Ok(Some(row.3));
-        assert!(&rt; is_accepted, "row {i}");
+    for (number, row) in LOCAL.iter().enumerate() {
+        holds_at(&rt, number, accepted(rt.alloc(), row) == Some(row.3));
     }
-}
-
-/// The consumers whose subscriptions accept a message to the queue of that name.
-fn takers_of_queue(alloc: Global) -> Result<String, AllocError> {
-    let Ok(message) = sent(alloc, 1, At::Queue("t"), Some(1)) else {
-        return Err(AllocError);
-    };
-    takers_of(alloc, &four(alloc), &message)
 }
 
 #[test]
 fn no_subscription_accepts_what_goes_to_a_queue(rt: HostRuntime) {
-    is_text(&rt, "", takers_of_queue(rt.alloc()));
+    let told = takers(rt.alloc(), At::Queue("t"), Some(1));
+    holds(&rt, "the queue t", told == Some(0));
 }

@@ -1,7 +1,6 @@
 //! What a test asserts of what it is told.
 
 use jm_base::Refusal;
-use std::alloc::AllocError;
 use std::process::Abort;
 
 /// Asserts that this holds of the row.
@@ -17,12 +16,4 @@ pub(crate) fn holds_at(rt: &impl Abort, row: usize, holds: bool) {
 /// Asserts that this holds of the row, and that nothing was refused on the way.
 pub(crate) fn is_true(rt: &impl Abort, row: &str, told: Result<bool, Refusal>) {
     assert!(rt; told == Ok(true), "{row}");
-}
-
-/// Asserts that this text is told.
-pub(crate) fn is_text(rt: &impl Abort, wanted: &str, told: Result<String, AllocError>) {
-    match told {
-        Ok(text) => assert!(rt; text.as_str() == wanted, "{text} and not {wanted}"),
-        Err(_) => assert!(rt; false, "no memory for {wanted}"),
-    }
 }

@@ -2,7 +2,8 @@ use Rattle.std.proofs.Common.{◌∙◌, sym, refl, false}
 use Rattle.jm_dest.specs.Names.{session_eq}
 use Rattle.jm_machine.specs.declared.state.SessionState.{SessionState}
 use Rattle.jm_session.proofs.Found.{session_sym}
-use Rattle.jm_session.proofs.Changed.{changed_found, changed_nowhere, session_same}
+use Rattle.jm_machine.proofs.Keys.{session_same}
+use Rattle.jm_session.proofs.Changed.{changed_found, changed_nowhere}
 use Rattle.jm_session.proofs.closing.close_session.Goals as goal
 
 pub returns-in-Some-clause-entries : goal.returns-in-Some-clause-entries

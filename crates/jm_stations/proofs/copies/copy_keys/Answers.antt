@@ -1,7 +1,7 @@
 use Rattle.std.proofs.Common.{◌≡◌, ◌∙◌, ap, sym, subst, get_or}
 use Rattle.indexmap.specs.IndexSet.{insert_key}
 use Rattle.jm_dest.specs.declared.key.Key.{Key}
-use Rattle.jm_stations.proofs.Keys.{set_eq}
+use Rattle.jm_machine.proofs.Keys.{set_eq}
 use Rattle.jm_stations.proofs.Copied.{key_more}
 use Rattle.jm_stations.proofs.copies.copy_keys.Goals as goal
 

@@ -1,7 +1,7 @@
 use Rattle.std.proofs.Common.{◌∙◌}
 use Rattle.indexmap.proofs.CallerLemmas.{insert_entry-new}
 use Rattle.jm_sub.proofs.Entries.{when_ok}
-use Rattle.jm_sub.proofs.Keys.{set_eq}
+use Rattle.jm_machine.proofs.Keys.{set_eq}
 use Rattle.jm_sub.proofs.Table.{none_found}
 use Rattle.jm_sub.proofs.subs.put_last.Goals as goal
 

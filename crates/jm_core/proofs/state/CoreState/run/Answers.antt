@@ -3,7 +3,8 @@ use Rattle.std.proofs.lemmas.List.{length-append}
 use Rattle.std.specs.Vec.Iter.{into_iter_items}
 use Rattle.jm_core.specs.Provider.{state_of}
 use Rattle.jm_core.specs.Runs.{progress}
-use Rattle.jm_core.proofs.Sends.{begins, fits_more, list_assoc, nothing_left}
+use Rattle.jm_core.proofs.Publishing.{list_assoc, nothing_left}
+use Rattle.jm_core.proofs.Sends.{begins, fits_more}
 use Rattle.jm_core.proofs.state.CoreState.run.Goals as goal
 
 pub loop-call-init : goal.loop-call-init

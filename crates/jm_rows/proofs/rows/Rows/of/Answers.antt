@@ -3,7 +3,7 @@ use Rattle.std.specs.Vec.Iter.{into_iter_items}
 use Rattle.jm_machine.specs.declared.state.Row.{Row}
 use Rattle.jm_machine.specs.declared.state.PlacedRow.{PlacedRow}
 use Rattle.jm_rows.specs.Rows.{AreWithin, HasRoom, missed_in, rows_in}
-use Rattle.jm_rows.proofs.Bare.{bare-append}
+use Rattle.jm_machine.proofs.Bare.{bare-append}
 use Rattle.jm_rows.proofs.Loaded.{room_rest, row_loaded, within_rest}
 use Rattle.jm_rows.proofs.rows.Rows.of.Goals as goal
 

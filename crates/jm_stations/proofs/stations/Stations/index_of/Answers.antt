@@ -1,6 +1,6 @@
 use Rattle.std.proofs.Common.{◌∙◌, ap}
 use Rattle.jm_stations.specs.Stations.{Stations, index_in}
-use Rattle.jm_stations.proofs.Keys.{position_sym}
+use Rattle.jm_machine.proofs.Keys.{position_sym}
 use Rattle.jm_stations.proofs.stations.Stations.index_of.Goals as goal
 
 pub returns-clause-index : goal.returns-clause-index
