@@ -38,15 +38,18 @@ pub fn limited(a: u64) -> u64
     if a < LIMIT { a } else { LIMIT }
 }
 """
+TOPMOST = LARGEST.replace("largest", "topmost").replace("larger(larger(a, b), c)", "larger(c, larger(a, b))")
 # Each crate's text, and its edits: a name, the function, the text and what takes its place.
 CRATES = {
     "whole": (
-        HEAD + LARGER + LARGEST + LIMITED,
+        HEAD + LARGER + LARGEST + TOPMOST + LIMITED,
         [
             ("larger_is_smaller", "larger", "if a < b { b }", "if b < a { b }"),
-            # A right body, over one that is wrong in the same check.
+            # A right body, with a proof of its own in a file, over one that is wrong in the same check.
             ("largest_in_another_order", "largest", "larger(larger(a, b), c)", "larger(a, larger(b, c))"),
             ("limit_is_ten", "limited", "const LIMIT: u64 = 9;", "const LIMIT: u64 = 10;"),
+            # The same without such a file.
+            ("topmost_in_another_order", "topmost", "larger(c, larger(a, b))", "larger(larger(c, a), b)"),
         ],
     ),
     "part": (
@@ -81,6 +84,9 @@ def plant(top: str) -> None:
         for edit, at, old, new in edits:
             with open(f"{top}/crates/{name}/wrong/{edit}.edit", "w", encoding="utf-8") as it:
                 it.write(f"at: {at}\nfile: src/lib.rt\nold: {old}\nnew: {new}\n")
+    os.makedirs(f"{top}/crates/whole/proofs/largest")
+    with open(f"{top}/crates/whole/proofs/largest/Answers.antt", "w", encoding="utf-8") as it:
+        it.write("use Rattle.whole.proofs.largest.Goals as goal\n")
 
 
 def said(top: str, *words: str) -> tuple[list[str], int]:
@@ -119,8 +125,8 @@ class OverTheChecker(unittest.TestCase):
         self.assertEqual(self.line("limits_to_nine"), "limited NOT REFUSED: it is still proved")
 
     def test_a_refusal_by_a_callee_alone_fails(self) -> None:
-        told = self.line("largest_in_another_order")
-        self.assertRegex(told, "^largest NOT REFUSED: it is still proved")
+        for name in "largest", "topmost":
+            self.assertRegex(self.line(f"{name}_in_another_order"), f"^{name} NOT REFUSED: it is still proved")
 
     def test_a_text_that_does_not_read_fails(self) -> None:
         self.assertRegex(self.line("names_nothing"), "^larger NOT REFUSED: it does not read: .*cannot find value `c`")
@@ -136,7 +142,7 @@ class OverTheChecker(unittest.TestCase):
         self.assertEqual(self.line("larger_is_first"), "NOT TRIED: unproved is not proved without it")
 
     def test_the_last_line_counts_them(self) -> None:
-        self.assertEqual((self.lines[-1], self.status), ("3 passed, 8 failed", 1))
+        self.assertEqual((self.lines[-1], self.status), ("3 passed, 9 failed", 1))
 
 
 class AlongsideTheChecker(unittest.TestCase):
@@ -144,7 +150,7 @@ class AlongsideTheChecker(unittest.TestCase):
         with tempfile.TemporaryDirectory() as top:
             plant(top)
             lines, status = said(top, "--after-ci", "whole")
-        self.assertEqual((lines[-1], status), ("0 passed, 3 failed", 1))
+        self.assertEqual((lines[-1], status), ("0 passed, 4 failed", 1))
         self.assertEqual({it.partition(": ")[2] for it in lines[:-1]}, {"NOT TRIED: whole is not proved without it"})
 
     def test_a_crate_that_is_not_there_stops_it(self) -> None:
@@ -182,14 +188,14 @@ class AfterCi(unittest.TestCase):
             cls.runs = [said(top, "--after-ci")[0], said(top, "--after-ci")[0]]
 
     def test_all_say_the_same(self) -> None:
-        self.assertEqual([it[-1] for it in self.runs], ["2 passed, 1 failed"] * 2)
+        self.assertEqual([it[-1] for it in self.runs], ["2 passed, 2 failed"] * 2)
 
     def test_what_was_refused_is_not_tried_again(self) -> None:
         for number, count in enumerate([0, 2]):
             self.assertEqual(sum(it.endswith("(in an earlier run)") for it in self.runs[number]), count, self.runs[number])
 
     def test_what_was_not_refused_is_tried_again(self) -> None:
-        self.assertIn("whole: 1 of 3 wrong bodies in", self.runs[1][-2])
+        self.assertIn("whole: 2 of 4 wrong bodies in", self.runs[1][-2])
 
 
 class Groups(unittest.TestCase):

@@ -141,12 +141,12 @@ enum Change {
 
 /// Counts one more of the key, of which there are few.
 pub(crate) fn join(attached: &mut Attached, key: Key) -> Result<(), Refusal> {
-    if attached.number(&key) > 100 {
-        return Err(Refusal::IllegalState);
+    if attached.number(&key) <= 100 && attached.reserve(1).is_ok() {
+        attached.join(key);
+        Ok(())
+    } else {
+        Err(Refusal::Memory)
     }
-    attached.reserve(1)?;
-    attached.join(key);
-    Ok(())
 }
 
 fn leave(attached: &mut Attached, key: &Key) -> Result<(), Refusal> {

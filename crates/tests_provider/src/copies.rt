@@ -13,9 +13,13 @@ use jm_machine::{
 use std::alloc::Global;
 use tests_calls::{At, Kind, Op, call, commit, publication, sent};
 
+fn copied(one: &ClientCall) -> Result<ClientCall, Refusal> {
+    Ok(one.copy()?)
+}
+
 /// Whether a copy of the one call is the other.
 fn copy_is(one: &ClientCall, other: &ClientCall) -> bool {
-    match one.copy() {
+    match copied(one) {
         Ok(copy) => copy.is(other),
         Err(_) => false,
     }
@@ -45,23 +49,39 @@ fn calls_are_told_apart(rt: HostRuntime) {
     }
 }
 
+fn copied_step(alloc: Global, step: &Step) -> Result<Step, Refusal> {
+    Ok(step.copy(alloc)?)
+}
+
 /// Whether a copy of the one step is the other.
 fn copied_step_is(alloc: Global, one: &Step, other: &Step) -> bool {
-    match one.copy(alloc) {
+    match copied_step(alloc, one) {
         Ok(copy) => copy.is(other),
         Err(_) => false,
     }
 }
 
+fn copied_request(request: &Request) -> Result<Request, Refusal> {
+    Ok(request.copy()?)
+}
+
+/// Whether a copy of the step is the same.
+fn step_is_copied(alloc: Global, who: Who, request: Request) -> bool {
+    let call = Call::Ask(request);
+    let step = Step { who, call };
+    copied_step_is(alloc, &step, &step)
+}
+
+/// Whether the copy of the request is the same, and makes a step whose copy is the same.
+fn is_that(alloc: Global, who: Who, copy: Request, request: &Request) -> bool {
+    let is_same = copy.is(request);
+    step_is_copied(alloc, who, copy) && is_same
+}
+
 /// Whether a copy of the request is the same, and makes a step whose copy is the same.
 fn is_copied(alloc: Global, who: Who, request: &Request) -> bool {
-    match request.copy() {
-        Ok(copy) => {
-            let is_same = copy.is(request);
-            let call = Call::Ask(copy);
-            let step = Step { who, call };
-            is_same && copied_step_is(alloc, &step, &step)
-        }
+    match copied_request(request) {
+        Ok(copy) => is_that(alloc, who, copy, request),
         Err(_) => false,
     }
 }
@@ -182,11 +202,18 @@ fn step(alloc: Global, count: u32, is_commit: bool) -> Result<Step, Refusal> {
     }
 }
 
+fn copy_is_step(alloc: Global, one: &Step, (count, is_commit): (u32, bool)) -> bool {
+    match step(alloc, count, is_commit) {
+        Ok(other) => copied_step_is(alloc, one, &other),
+        Err(_) => false,
+    }
+}
+
 /// Whether a copy of the one step is the other.
-fn is_copy(alloc: Global, one: (u32, bool), other: (u32, bool)) -> bool {
-    match (step(alloc, one.0, one.1), step(alloc, other.0, other.1)) {
-        (Ok(one), Ok(other)) => copied_step_is(alloc, &one, &other),
-        _ => false,
+fn is_copy(alloc: Global, (count, is_commit): (u32, bool), other: (u32, bool)) -> bool {
+    match step(alloc, count, is_commit) {
+        Ok(one) => copy_is_step(alloc, &one, other),
+        Err(_) => false,
     }
 }
 
@@ -237,8 +264,12 @@ fn first_delivery_is_not_redelivered(rt: HostRuntime) {
     );
 }
 
+fn copied_station(alloc: Global, station: &Station) -> Result<Station, Refusal> {
+    Ok(station.copy(alloc)?)
+}
+
 fn station_is_copied(alloc: Global, station: &Station) -> bool {
-    match station.copy(alloc) {
+    match copied_station(alloc, station) {
         Ok(copy) => copy == *station,
         Err(_) => false,
     }

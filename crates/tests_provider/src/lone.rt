@@ -8,8 +8,9 @@ use jm_core::Core;
 use jm_dest::{ConsumerId, Key, Name, Number};
 use jm_machine::{Answer, Entry, Event, Reply, copy_reply};
 use jm_model::{
-    LoneFault, entries, expand, law_isolation, law_isolation_of_events, law_reached,
-    law_two_worlds, lone_replies,
+    LoneFault, entries, expand, law_isolation, law_isolation_of_events, law_one_consumer,
+    law_one_place, law_queue, law_reached, law_runs_fit, law_subscription, law_two_worlds,
+    lone_replies,
 };
 use std::alloc::{AllocError, Global};
 use tests_calls::{At, Op, calls, commit, publication, session, shown};
@@ -412,4 +413,9 @@ fn laws_are_stated() {
     law_isolation_of_events();
     law_two_worlds();
     law_reached();
+    law_runs_fit();
+    law_one_place();
+    law_queue();
+    law_one_consumer();
+    law_subscription();
 }

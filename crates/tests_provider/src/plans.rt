@@ -10,21 +10,28 @@ use jm_machine::{ClientCall, same_reply};
 use std::alloc::Global;
 use tests_calls::{At, Kind, Op, call, publication};
 
-/// The step of the call; that of a send publishes a message of session 2.1, and that of a commit carries none.
-fn step(alloc: Global, op: Op) -> Result<Step, Refusal> {
-    match (op, call(alloc, op)?) {
-        (Op::Send(_, _, x), _) => publication(alloc, 1, At::Topic("t"), x, 1),
-        (Op::SendTo(_, at, _, x), _) => publication(alloc, 1, at, x, 1),
-        (_, ClientCall::Ask { who, request }) => {
+/// The step of a call that is no send; that of a commit carries no message.
+fn asked(alloc: Global, call: ClientCall) -> Result<Step, Refusal> {
+    match call {
+        ClientCall::Ask { who, request } => {
             let call = Call::Ask(request);
             Ok(Step { who, call })
         }
-        (_, ClientCall::CommitSession(session)) => {
+        ClientCall::CommitSession(session) => {
             let who = Who::Session(session);
             let call = Call::Commit(List::new(Vec::new(alloc)));
             Ok(Step { who, call })
         }
-        _ => Err(Refusal::Store),
+        ClientCall::Send { .. } => Err(Refusal::Store),
+    }
+}
+
+/// The step of the call; that of a send publishes a message of session 2.1.
+fn step(alloc: Global, op: Op) -> Result<Step, Refusal> {
+    match op {
+        Op::Send(_, _, x) => publication(alloc, 1, At::Topic("t"), x, 1),
+        Op::SendTo(_, at, _, x) => publication(alloc, 1, at, x, 1),
+        _ => asked(alloc, call(alloc, op)?),
     }
 }
 

@@ -161,10 +161,17 @@ fn is_answered(alloc: Global, core: &mut Core, stamp: &Stamp, step: &Step) -> bo
     }
 }
 
+fn is_told_by(alloc: Global, core: &mut Core, stamp: &Stamp) -> bool {
+    match step_of(alloc, stamp) {
+        Ok(step) => is_answered(alloc, core, stamp, &step),
+        Err(_) => false,
+    }
+}
+
 fn is_told(alloc: Global, stamp: &Stamp) -> bool {
-    match (Core::new(alloc, 1, 100_000), step_of(alloc, stamp)) {
-        (Ok(mut core), Ok(step)) => is_answered(alloc, &mut core, stamp, &step),
-        _ => false,
+    match Core::new(alloc, 1, 100_000) {
+        Ok(mut core) => is_told_by(alloc, &mut core, stamp),
+        Err(_) => false,
     }
 }
 
