@@ -20,13 +20,21 @@ pub fn larger(a: u64, b: u64) -> u64
     if a < b { b } else { a }
 }
 """
+GREATER = """
+pub fn greater(a: u64, b: u64) -> u64
+    ensures left { a ≤ result }
+    ensures right { b ≤ result }
+{
+    if b < a { a } else { b }
+}
+"""
 LARGEST = """
 pub fn largest(a: u64, b: u64, c: u64) -> u64
     ensures first { a ≤ result }
     ensures second { b ≤ result }
     ensures third { c ≤ result }
 {
-    larger(larger(a, b), c)
+    larger(greater(a, b), c)
 }
 """
 LIMITED = """
@@ -38,15 +46,17 @@ pub fn limited(a: u64) -> u64
     if a < LIMIT { a } else { LIMIT }
 }
 """
-TOPMOST = LARGEST.replace("largest", "topmost").replace("larger(larger(a, b), c)", "larger(c, larger(a, b))")
+TOPMOST = LARGEST.replace("largest", "topmost").replace("larger(greater(a, b), c)", "larger(c, larger(a, b))")
 # Each crate's text, and its edits: a name, the function, the text and what takes its place.
 CRATES = {
     "whole": (
-        HEAD + LARGER + LARGEST + TOPMOST + LIMITED,
+        HEAD + LARGER + GREATER + LARGEST + TOPMOST + LIMITED,
         [
             ("larger_is_smaller", "larger", "if a < b { b }", "if b < a { b }"),
             # A right body, with a proof of its own in a file, over one that is wrong in the same check.
-            ("largest_in_another_order", "largest", "larger(larger(a, b), c)", "larger(a, larger(b, c))"),
+            ("largest_in_another_order", "largest", "larger(greater(a, b), c)", "larger(a, greater(b, c))"),
+            # What that one calls, with a proof of its own in a file too.
+            ("greater_is_smaller", "greater", "if b < a { a } else { b }", "if a < b { a } else { b }"),
             ("limit_is_ten", "limited", "const LIMIT: u64 = 9;", "const LIMIT: u64 = 10;"),
             # The same without such a file.
             ("topmost_in_another_order", "topmost", "larger(c, larger(a, b))", "larger(larger(c, a), b)"),
@@ -84,9 +94,10 @@ def plant(top: str) -> None:
         for edit, at, old, new in edits:
             with open(f"{top}/crates/{name}/wrong/{edit}.edit", "w", encoding="utf-8") as it:
                 it.write(f"at: {at}\nfile: src/lib.rt\nold: {old}\nnew: {new}\n")
-    os.makedirs(f"{top}/crates/whole/proofs/largest")
-    with open(f"{top}/crates/whole/proofs/largest/Answers.antt", "w", encoding="utf-8") as it:
-        it.write("use Rattle.whole.proofs.largest.Goals as goal\n")
+    for name in "greater", "largest":
+        os.makedirs(f"{top}/crates/whole/proofs/{name}")
+        with open(f"{top}/crates/whole/proofs/{name}/Answers.antt", "w", encoding="utf-8") as it:
+            it.write(f"use Rattle.whole.proofs.{name}.Goals as goal\n")
 
 
 def said(top: str, *words: str) -> tuple[list[str], int]:
@@ -113,6 +124,9 @@ class OverTheChecker(unittest.TestCase):
 
     def test_a_wrong_body_is_refused(self) -> None:
         self.assertRegex(self.line("larger_is_smaller"), r"^larger refused: `returns-then-b-a-clause-left`")
+
+    def test_a_wrong_body_with_a_proof_of_its_own_is_refused(self) -> None:
+        self.assertRegex(self.line("greater_is_smaller"), r"^greater refused: `returns-then-a-b-clause-right")
 
     def test_a_wrong_constant_is_refused(self) -> None:
         self.assertRegex(self.line("limit_is_ten"), "^limited refused: ")
@@ -142,7 +156,7 @@ class OverTheChecker(unittest.TestCase):
         self.assertEqual(self.line("larger_is_first"), "NOT TRIED: unproved is not proved without it")
 
     def test_the_last_line_counts_them(self) -> None:
-        self.assertEqual((self.lines[-1], self.status), ("3 passed, 9 failed", 1))
+        self.assertEqual((self.lines[-1], self.status), ("4 passed, 9 failed", 1))
 
 
 class AlongsideTheChecker(unittest.TestCase):
@@ -150,7 +164,7 @@ class AlongsideTheChecker(unittest.TestCase):
         with tempfile.TemporaryDirectory() as top:
             plant(top)
             lines, status = said(top, "--after-ci", "whole")
-        self.assertEqual((lines[-1], status), ("0 passed, 4 failed", 1))
+        self.assertEqual((lines[-1], status), ("0 passed, 5 failed", 1))
         self.assertEqual({it.partition(": ")[2] for it in lines[:-1]}, {"NOT TRIED: whole is not proved without it"})
 
     def test_a_crate_that_is_not_there_stops_it(self) -> None:
@@ -188,14 +202,14 @@ class AfterCi(unittest.TestCase):
             cls.runs = [said(top, "--after-ci")[0], said(top, "--after-ci")[0]]
 
     def test_all_say_the_same(self) -> None:
-        self.assertEqual([it[-1] for it in self.runs], ["2 passed, 2 failed"] * 2)
+        self.assertEqual([it[-1] for it in self.runs], ["3 passed, 2 failed"] * 2)
 
     def test_what_was_refused_is_not_tried_again(self) -> None:
-        for number, count in enumerate([0, 2]):
+        for number, count in enumerate([0, 3]):
             self.assertEqual(sum(it.endswith("(in an earlier run)") for it in self.runs[number]), count, self.runs[number])
 
     def test_what_was_not_refused_is_tried_again(self) -> None:
-        self.assertIn("whole: 2 of 4 wrong bodies in", self.runs[1][-2])
+        self.assertIn("whole: 2 of 5 wrong bodies in", self.runs[1][-2])
 
 
 class Groups(unittest.TestCase):

@@ -19,10 +19,10 @@ def path_of(room: str, name: str) -> str:
     return f"{room}/proofs/{name.replace('::', '/')}"
 
 
-def is_started(room: str, edit: Edit) -> bool:
+def is_started(edit: Edit) -> bool:
     """Returns whether rattle can search for the function's proof alone, without those of what it calls: nothing of it is given
     by hand, and it is in no cycle."""
-    return not path.isdir(path_of(room, edit.name)) and not (edit.group or "").startswith("#")
+    return not path.isdir(path_of(edit.crate.folder, edit.at)) and not (edit.group or "").startswith("#")
 
 
 def unread(edits: list[Edit], said: list[str]) -> str:
