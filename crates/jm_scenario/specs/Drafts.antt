@@ -128,6 +128,10 @@ abbrev pub with_properties : Data → Settings → Option Settings
 with_properties value =
     changed (λ found draft. option_and_then (λ entries. with_entries entries draft) (as_array found)) (get (codes "props") value)
 
--- the draft of a send: its header fields, then its properties, then its body
+-- with what a send spells: its header fields, then its properties, then its body
+abbrev pub changed_draft : Data → Settings → Option Settings
+changed_draft value draft = option_and_then (with_body value) (option_and_then (with_properties value) (with_header value draft))
+
+-- the draft of a send
 abbrev pub draft : Data → Option Settings
-draft value = option_and_then (with_body value) (option_and_then (with_properties value) (with_header value defaults))
+draft value = changed_draft value defaults

@@ -5,6 +5,7 @@ ghost use Rattle.jm_scenario.specs.Reading.{Reads, ReadsExactly};
 
 use crate::draft::draft;
 use crate::field::{Field, Owner, not_known, unknown};
+use crate::held::Held;
 use crate::misfit::Misfit;
 use crate::value::{
     client, connection, consumer, destination, mode, no_local, now, selector, session, subscription,
@@ -28,7 +29,9 @@ fn operation(object: &Value) -> Result<Owner, Misfit>
 fn by_connection(object: &Value, request: Request) -> Result<ClientCall, Misfit>
     ensures { ReadsExactly result (spec.connection_call request (view object.now)) }
 {
+    let request = Held::new(request);
     let who = Who::Connection(connection(object)?);
+    let request = request.into_value();
     Ok(ClientCall::Ask { who, request })
 }
 
@@ -46,7 +49,9 @@ fn open(alloc: Global, object: &Value) -> Result<ClientCall, Misfit>
 fn by_session(object: &Value, request: Request) -> Result<ClientCall, Misfit>
     ensures { ReadsExactly result (spec.session_request request (view object.now)) }
 {
+    let request = Held::new(request);
     let who = Who::Session(session(object)?);
+    let request = request.into_value();
     Ok(ClientCall::Ask { who, request })
 }
 
@@ -71,13 +76,13 @@ fn create_consumer(alloc: Global, object: &Value) -> Result<ClientCall, Misfit>
 {
     let who = Who::Session(session(object)?);
     let consumer = consumer(object)?;
-    let destination = destination(alloc, object)?;
-    let selector = selector(alloc, object)?;
+    let destination = Held::new(destination(alloc, object)?);
+    let selector = Held::new(selector(alloc, object)?);
     let no_local = no_local(object)?;
     let request = Request::CreateConsumer {
         consumer,
-        destination,
-        selector,
+        destination: destination.into_value(),
+        selector: selector.into_value(),
         no_local,
     };
     Ok(ClientCall::Ask { who, request })
@@ -88,15 +93,15 @@ fn create_durable(alloc: Global, object: &Value) -> Result<ClientCall, Misfit>
 {
     let who = Who::Session(session(object)?);
     let consumer = consumer(object)?;
-    let destination = destination(alloc, object)?;
-    let name = subscription(alloc, object)?;
-    let selector = selector(alloc, object)?;
+    let destination = Held::new(destination(alloc, object)?);
+    let name = Held::new(subscription(alloc, object)?);
+    let selector = Held::new(selector(alloc, object)?);
     let no_local = no_local(object)?;
     let request = Request::CreateDurable {
         consumer,
-        destination,
-        name,
-        selector,
+        destination: destination.into_value(),
+        name: name.into_value(),
+        selector: selector.into_value(),
         no_local,
     };
     Ok(ClientCall::Ask { who, request })
@@ -107,13 +112,13 @@ fn create_shared(alloc: Global, object: &Value) -> Result<ClientCall, Misfit>
 {
     let who = Who::Session(session(object)?);
     let consumer = consumer(object)?;
-    let destination = destination(alloc, object)?;
-    let name = subscription(alloc, object)?;
+    let destination = Held::new(destination(alloc, object)?);
+    let name = Held::new(subscription(alloc, object)?);
     let selector = selector(alloc, object)?;
     let request = Request::CreateShared {
         consumer,
-        destination,
-        name,
+        destination: destination.into_value(),
+        name: name.into_value(),
         selector,
     };
     Ok(ClientCall::Ask { who, request })
@@ -124,13 +129,13 @@ fn create_shared_durable(alloc: Global, object: &Value) -> Result<ClientCall, Mi
 {
     let who = Who::Session(session(object)?);
     let consumer = consumer(object)?;
-    let destination = destination(alloc, object)?;
-    let name = subscription(alloc, object)?;
+    let destination = Held::new(destination(alloc, object)?);
+    let name = Held::new(subscription(alloc, object)?);
     let selector = selector(alloc, object)?;
     let request = Request::CreateSharedDurable {
         consumer,
-        destination,
-        name,
+        destination: destination.into_value(),
+        name: name.into_value(),
         selector,
     };
     Ok(ClientCall::Ask { who, request })
@@ -179,13 +184,13 @@ fn send(alloc: Global, object: &Value) -> Result<ClientCall, Misfit>
     ensures { Reads result (spec.send_call (view object.now)) }
 {
     let session = session(object)?;
-    let destination = destination(alloc, object)?;
+    let destination = Held::new(destination(alloc, object)?);
     let now = now(object)?;
     let draft = draft(alloc, object)?;
     Ok(ClientCall::Send {
         session,
         draft,
-        destination,
+        destination: destination.into_value(),
         now,
     })
 }
@@ -223,9 +228,9 @@ pub(crate) fn call(alloc: Global, object: &Value) -> Result<ClientCall, Misfit>
     ensures { Reads result (spec.call_of (view object.now)) }
 {
     let operation = operation(object)?;
-    let call = call_as(alloc, object, operation)?;
+    let call = Held::new(call_as(alloc, object, operation)?);
     match unknown(object, operation) {
         Some(name) => Err(not_known(alloc, name)),
-        None => Ok(call),
+        None => Ok(call.into_value()),
     }
 }

@@ -2,7 +2,7 @@ ghost use Rattle.std.specs.Prelude.{◌≡◌, ◌≢◌, Some, None, MatchResul
 ghost use Rattle.std.specs.List.{list_all};
 ghost use Rattle.serde_json.specs.View.{view, items_view};
 ghost use Rattle.jm_scenario.specs.Drafts as spec;
-ghost use Rattle.jm_scenario.specs.Reading.{Reads, ReadsExactly};
+ghost use Rattle.jm_scenario.specs.Reading.{Leaves, LeavesExactly, Makes, Reads, ReadsExactly};
 
 use crate::field::Field;
 use crate::misfit::Misfit;
@@ -14,82 +14,79 @@ use jm_property::Property;
 use serde_json::Value;
 use std::alloc::Global;
 
-/// The draft with the priority of the field `priority`, where it stands.
-fn with_priority(object: &Value, draft: Draft) -> Result<Draft, Misfit>
-    ensures { ReadsExactly result (spec.with_priority (view object.now) draft) }
+/// Sets the priority of the field `priority`, where it stands.
+fn set_priority(object: &Value, draft: &mut Draft) -> Result<(), Misfit>
+    ensures { LeavesExactly result draft.old draft.new (spec.with_priority (view object.now) draft.old) }
 {
-    let mut draft = draft;
     let Some(value) = optional(object, Field::Priority) else {
-        return Ok(draft);
+        return Ok(());
     };
     match value.as_u64() {
         Some(priority) if priority <= 9 => match draft.set_priority(priority as u8) {
-            Ok(()) => Ok(draft),
+            Ok(()) => Ok(()),
             Err(_) => Err(Misfit::Shape(Field::Priority)),
         },
         _ => Err(misfit(value, Field::Priority)),
     }
 }
 
-/// The draft with the delivery mode of the field `persistent`, where it stands.
-fn with_persistence(object: &Value, draft: Draft) -> Result<Draft, Misfit>
-    ensures { ReadsExactly result (spec.with_persistence (view object.now) draft) }
+/// Sets the delivery mode of the field `persistent`, where it stands.
+fn set_persistence(object: &Value, draft: &mut Draft) -> Result<(), Misfit>
+    ensures { LeavesExactly result draft.old draft.new (spec.with_persistence (view object.now) draft.old) }
 {
-    let mut draft = draft;
     let Some(value) = optional(object, Field::Persistent) else {
-        return Ok(draft);
+        return Ok(());
     };
     match value.as_bool() {
         Some(true) => draft.set_mode(DeliveryMode::Persistent),
         Some(false) => draft.set_mode(DeliveryMode::NonPersistent),
         None => return Err(misfit(value, Field::Persistent)),
     }
-    Ok(draft)
+    Ok(())
 }
 
-/// The draft with the time to live of the field `ttl`, where it stands.
-fn with_time_to_live(object: &Value, draft: Draft) -> Result<Draft, Misfit>
-    ensures { ReadsExactly result (spec.with_time_to_live (view object.now) draft) }
+/// Sets the time to live of the field `ttl`, where it stands.
+fn set_time_to_live(object: &Value, draft: &mut Draft) -> Result<(), Misfit>
+    ensures { LeavesExactly result draft.old draft.new (spec.with_time_to_live (view object.now) draft.old) }
 {
-    let mut draft = draft;
     let Some(value) = optional(object, Field::TimeToLive) else {
-        return Ok(draft);
+        return Ok(());
     };
     let Some(milliseconds) = value.as_i64() else {
         return Err(misfit(value, Field::TimeToLive));
     };
     match draft.set_time_to_live(milliseconds) {
-        Ok(()) => Ok(draft),
+        Ok(()) => Ok(()),
         Err(_) => Err(Misfit::Shape(Field::TimeToLive)),
     }
 }
 
-/// The draft with JMSCorrelationID of the field `correlation`, where it stands. `Memory` where a
-/// request for memory was refused.
-fn with_correlation(object: &Value, draft: Draft) -> Result<Draft, Misfit>
-    ensures { Reads result (spec.with_correlation (view object.now) draft) }
+/// Sets JMSCorrelationID of the field `correlation`, where it stands. `Memory` where a request for
+/// memory was refused.
+fn set_correlation(object: &Value, draft: &mut Draft) -> Result<(), Misfit>
+    ensures { Leaves result draft.old draft.new (spec.with_correlation (view object.now) draft.old) }
 {
-    let mut draft = draft;
-    if let Some(correlation) = optional_text(object, Field::Correlation)? {
-        if draft.set_correlation(correlation).is_err() {
-            return Err(Misfit::Memory);
-        }
+    let Some(correlation) = optional_text(object, Field::Correlation)? else {
+        return Ok(());
+    };
+    match draft.set_correlation(correlation) {
+        Ok(()) => Ok(()),
+        Err(_) => Err(Misfit::Memory),
     }
-    Ok(draft)
 }
 
-/// The draft with JMSType of the field `type`, where it stands. `Memory` where a request for memory
-/// was refused.
-fn with_type(object: &Value, draft: Draft) -> Result<Draft, Misfit>
-    ensures { Reads result (spec.with_type (view object.now) draft) }
+/// Sets JMSType of the field `type`, where it stands. `Memory` where a request for memory was
+/// refused.
+fn set_type(object: &Value, draft: &mut Draft) -> Result<(), Misfit>
+    ensures { Leaves result draft.old draft.new (spec.with_type (view object.now) draft.old) }
 {
-    let mut draft = draft;
-    if let Some(message_type) = optional_text(object, Field::Type)? {
-        if draft.set_type(message_type).is_err() {
-            return Err(Misfit::Memory);
-        }
+    let Some(message_type) = optional_text(object, Field::Type)? else {
+        return Ok(());
+    };
+    match draft.set_type(message_type) {
+        Ok(()) => Ok(()),
+        Err(_) => Err(Misfit::Memory),
     }
-    Ok(draft)
 }
 
 fn has_no_capital(digits: &[u8]) -> bool
@@ -114,41 +111,39 @@ fn bytes_of(alloc: Global, pairs: &str) -> Result<Vec<u8>, Misfit>
     }
 }
 
-/// The draft with the body of that text.
-fn with_text(value: &Value, draft: Draft) -> Result<Draft, Misfit>
-    ensures { Reads result (spec.with_text (view value.now) draft) }
+/// Sets the body to that text. `Memory` where a request for memory was refused.
+fn set_text(value: &Value, draft: &mut Draft) -> Result<(), Misfit>
+    ensures { Leaves result draft.old draft.new (spec.with_text (view value.now) draft.old) }
 {
-    let mut draft = draft;
     match draft.set_text(text(value, Field::Text)?) {
-        Ok(()) => Ok(draft),
+        Ok(()) => Ok(()),
         Err(_) => Err(Misfit::Memory),
     }
 }
 
-/// The draft with the body of those bytes.
-fn with_bytes(alloc: Global, value: &Value, draft: Draft) -> Result<Draft, Misfit>
-    ensures { Reads result (spec.with_bytes (view value.now) draft) }
+/// Sets the body to those bytes. `Memory` where a request for memory was refused.
+fn set_bytes(alloc: Global, value: &Value, draft: &mut Draft) -> Result<(), Misfit>
+    ensures { Leaves result draft.old draft.new (spec.with_bytes (view value.now) draft.old) }
 {
-    let mut draft = draft;
     let bytes = bytes_of(alloc, text(value, Field::Bytes)?)?;
     match draft.set_bytes(&bytes) {
-        Ok(()) => Ok(draft),
+        Ok(()) => Ok(()),
         Err(_) => Err(Misfit::Memory),
     }
 }
 
-/// The draft with the body of the field `text` or `bytes`, where one of them stands. `Memory` where
-/// a request for memory was refused.
-fn with_body(alloc: Global, object: &Value, draft: Draft) -> Result<Draft, Misfit>
-    ensures { Reads result (spec.with_body (view object.now) draft) }
+/// Sets the body of the field `text` or `bytes`, where one of them stands. `Memory` where a request
+/// for memory was refused.
+fn set_body(alloc: Global, object: &Value, draft: &mut Draft) -> Result<(), Misfit>
+    ensures { Leaves result draft.old draft.new (spec.with_body (view object.now) draft.old) }
 {
     match (
         optional(object, Field::Text),
         optional(object, Field::Bytes),
     ) {
-        (None, None) => Ok(draft),
-        (Some(text), None) => with_text(text, draft),
-        (None, Some(bytes)) => with_bytes(alloc, bytes, draft),
+        (None, None) => Ok(()),
+        (Some(text), None) => set_text(text, draft),
+        (None, Some(bytes)) => set_bytes(alloc, bytes, draft),
         (Some(_), Some(_)) => Err(Misfit::Shape(Field::Bytes)),
     }
 }
@@ -191,8 +186,7 @@ fn property(alloc: Global, type_name: &str, value: &Value) -> Result<Property, M
 /// Sets the property, where its name may have that value. `Memory` where a request for memory was
 /// refused.
 fn set_allowed(draft: &mut Draft, name: &str, property: Property) -> Result<(), Misfit>
-    ensures { MatchResult result (λ _. spec.with_allowed name.now draft.old property ≡ Some draft.new)
-        (λ misfit. misfit ≢ Misfit.Memory → spec.with_allowed name.now draft.old property ≡ None) }
+    ensures { Leaves result draft.old draft.new (spec.with_allowed name.now draft.old property) }
 {
     match draft.set_property(name, property) {
         Ok(()) => Ok(()),
@@ -209,8 +203,7 @@ fn set_property(
     type_name: &Value,
     value: &Value,
 ) -> Result<(), Misfit>
-    ensures { MatchResult result (λ _. spec.with_named (view name.now) (view type_name.now) (view value.now) draft.old ≡ Some draft.new) (λ misfit. misfit ≢ Misfit.Memory
-        → spec.with_named (view name.now) (view type_name.now) (view value.now) draft.old ≡ None) }
+    ensures { Leaves result draft.old draft.new (spec.with_named (view name.now) (view type_name.now) (view value.now) draft.old) }
 {
     let name = text(name, Field::Properties)?;
     let type_name = text(type_name, Field::Properties)?;
@@ -221,8 +214,7 @@ fn set_property(
 /// Sets the property of an array of name, type and value. `Memory` where a request for memory was
 /// refused.
 fn set_entry(alloc: Global, draft: &mut Draft, entry: &Value) -> Result<(), Misfit>
-    ensures { MatchResult result (λ _. spec.with_entry (view entry.now) draft.old ≡ Some draft.new)
-        (λ misfit. misfit ≢ Misfit.Memory → spec.with_entry (view entry.now) draft.old ≡ None) }
+    ensures { Leaves result draft.old draft.new (spec.with_entry (view entry.now) draft.old) }
 {
     let Some(parts) = entry.as_array() else {
         return Err(misfit(entry, Field::Properties));
@@ -236,8 +228,7 @@ fn set_entry(alloc: Global, draft: &mut Draft, entry: &Value) -> Result<(), Misf
 
 /// Sets the properties of the entries in turn. `Memory` where a request for memory was refused.
 fn set_entries(alloc: Global, draft: &mut Draft, entries: &[Value]) -> Result<(), Misfit>
-    ensures { MatchResult result (λ _. spec.with_entries (items_view entries.now) draft.old ≡ Some draft.new)
-        (λ misfit. misfit ≢ Misfit.Memory → spec.with_entries (items_view entries.now) draft.old ≡ None) }
+    ensures { Makes result draft.new (spec.with_entries (items_view entries.now) draft.old) }
 {
     for entry in entries {
         set_entry(alloc, draft, entry)?;
@@ -245,38 +236,47 @@ fn set_entries(alloc: Global, draft: &mut Draft, entries: &[Value]) -> Result<()
     Ok(())
 }
 
-/// The draft with the properties of the field `props`, where it stands. `Memory` where a request for
-/// memory was refused.
-fn with_properties(alloc: Global, object: &Value, draft: Draft) -> Result<Draft, Misfit>
-    ensures { Reads result (spec.with_properties (view object.now) draft) }
+/// Sets the properties of the field `props`, where it stands. `Memory` where a request for memory was
+/// refused.
+fn set_properties(alloc: Global, object: &Value, draft: &mut Draft) -> Result<(), Misfit>
+    ensures { Makes result draft.new (spec.with_properties (view object.now) draft.old) }
 {
-    let mut draft = draft;
     let Some(value) = optional(object, Field::Properties) else {
-        return Ok(draft);
+        return Ok(());
     };
-    let Some(entries) = value.as_array() else {
-        return Err(misfit(value, Field::Properties));
-    };
-    set_entries(alloc, &mut draft, entries.as_slice())?;
-    Ok(draft)
+    match value.as_array() {
+        Some(entries) => set_entries(alloc, draft, entries.as_slice()),
+        None => Err(misfit(value, Field::Properties)),
+    }
 }
 
-/// The draft with the header fields of the object.
-fn with_header(object: &Value, draft: Draft) -> Result<Draft, Misfit>
-    ensures { Reads result (spec.with_header (view object.now) draft) }
+/// Sets the header fields of the object.
+fn set_header(object: &Value, draft: &mut Draft) -> Result<(), Misfit>
+    ensures { Makes result draft.new (spec.with_header (view object.now) draft.old) }
 {
-    let draft = with_priority(object, draft)?;
-    let draft = with_persistence(object, draft)?;
-    let draft = with_time_to_live(object, draft)?;
-    let draft = with_correlation(object, draft)?;
-    with_type(object, draft)
+    set_priority(object, draft)?;
+    set_persistence(object, draft)?;
+    set_time_to_live(object, draft)?;
+    set_correlation(object, draft)?;
+    set_type(object, draft)
+}
+
+/// Sets what the object spells. `Memory` where a request for memory was refused.
+fn set_fields(alloc: Global, object: &Value, draft: &mut Draft) -> Result<(), Misfit>
+    ensures { Makes result draft.new (spec.changed_draft (view object.now) draft.old) }
+{
+    set_header(object, draft)?;
+    set_properties(alloc, object, draft)?;
+    set_body(alloc, object, draft)
 }
 
 /// The draft that the object spells. `Memory` where a request for memory was refused.
 pub(crate) fn draft(alloc: Global, object: &Value) -> Result<Draft, Misfit>
     ensures { Reads result (spec.draft (view object.now)) }
 {
-    let draft = with_header(object, Draft::new(alloc))?;
-    let draft = with_properties(alloc, object, draft)?;
-    with_body(alloc, object, draft)
+    let mut draft = Draft::new(alloc);
+    match set_fields(alloc, object, &mut draft) {
+        Ok(()) => Ok(draft),
+        Err(misfit) => Err(misfit),
+    }
 }

@@ -4,6 +4,7 @@
 mod call;
 mod draft;
 mod field;
+mod held;
 mod key;
 mod lines;
 mod misfit;

@@ -126,18 +126,25 @@ pub(crate) fn consumer(object: &Value) -> Result<ConsumerId, Misfit>
     consumer_of(required(object, Field::Consumer)?)
 }
 
-/// The session's mode of the field `mode`.
-pub(crate) fn mode(object: &Value) -> Result<Mode, Misfit>
-    ensures { ReadsExactly result (spec.required spec.mode (codes "mode") (view object.now)) }
+/// The session's mode of that name.
+fn mode_named(name: &str) -> Result<Mode, Misfit>
+    ensures { ReadsExactly result (spec.mode_named name.now) }
 {
-    let value = required(object, Field::Mode)?;
-    match text(value, Field::Mode)? {
+    match name {
         "auto" => Ok(Mode::Auto),
         "client" => Ok(Mode::Client),
         "dups" => Ok(Mode::Dups),
         "transacted" => Ok(Mode::Transacted),
         _ => Err(Misfit::Shape(Field::Mode)),
     }
+}
+
+/// The session's mode of the field `mode`.
+pub(crate) fn mode(object: &Value) -> Result<Mode, Misfit>
+    ensures { ReadsExactly result (spec.required spec.mode (codes "mode") (view object.now)) }
+{
+    let value = required(object, Field::Mode)?;
+    mode_named(text(value, Field::Mode)?)
 }
 
 /// The name of that text, in that field. `Memory` where a request for memory was refused.

@@ -7,4 +7,4 @@ use Rattle.jm_scenario.proofs.draft.set_allowed.Goals as goal
 pub returns-in-Err-BadName : goal.returns-in-Err-BadName
 returns-in-Err-BadName c =
     let e : BadName ≡ set_fault c.args.name.now c.args.property = rw c.in-Err-BadName.field-0-is at c.in-Err-BadName.ensures.1 in
-    λ _. where_true-bad_name (is_allowed c.args.name.now c.args.property) _ e
+    (c.in-Err-BadName.ensures.0, λ _. where_true-bad_name (is_allowed c.args.name.now c.args.property) _ e)
