@@ -1,5 +1,5 @@
 ghost use Rattle.std.specs.Prelude.{◌≡◌, ◌++◌, ◌∷◌, [], map, codes, false, IfOk, MatchResult};
-ghost use Rattle.clap.specs.Words.{app_of, found_of, rows_of, rule_of};
+ghost use Rattle.clap.specs.Words.{app_of, found_of, rows_of, rule_of, subcommand_rows_of};
 ghost use Rattle.jm_words.specs.Words as spec;
 
 use clap::builder::ValueParser;
@@ -200,6 +200,18 @@ fn asked(alloc: Global, name: &str, matches: &ArgMatches<'_>) -> Result<Words, A
     }
 }
 
+/// What the command that is found asks for; without one, to run the scenario on standard input.
+/// `AllocError` where a request for memory was refused.
+fn asked_by(alloc: Global, matches: &ArgMatches<'_>) -> Result<Words, AllocError>
+    ensures asked { IfOk result (λ asked. asked ≡ spec.words_of (subcommand_rows_of matches.now)) }
+    ensures limit { IfOk result spec.HasLimit }
+{
+    match matches.subcommand() {
+        Some((name, found)) => asked(alloc, name, found),
+        None => Ok(Words::Input),
+    }
+}
+
 /// What the words ask for, of which the first is the program's name. `Refused` exactly where clap
 /// refuses them, or they ask for help or the version; a selector that begins with `-` is no option
 /// (ours), and a limit of held rows is from 1 to 1,000,000. `Memory` where a request for memory was refused.
@@ -212,10 +224,7 @@ pub fn read_words(alloc: Global, words: &[&str]) -> Result<Words, WordsFault>
 {
     let words = marked(alloc, words)?;
     match program(alloc)?.try_get_matches_from(words.as_slice()) {
-        Ok(matches) => match matches.subcommand() {
-            Some((name, found)) => Ok(asked(alloc, name, found)?),
-            None => Ok(Words::Input),
-        },
+        Ok(matches) => Ok(asked_by(alloc, &matches)?),
         Err(error) => match error.kind() {
             ErrorKind::OutOfMemory => Err(WordsFault::Memory),
             _ => Err(WordsFault::Refused(error)),

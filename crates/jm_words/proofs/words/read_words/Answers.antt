@@ -4,12 +4,6 @@ use Rattle.jm_words.specs.Words.{marked}
 use Rattle.jm_words.proofs.CommandLine.{program_is_simple}
 use Rattle.jm_words.proofs.words.read_words.Goals as goal
 
-pub returns-in-Some-clause-faults : goal.returns-in-Some-clause-faults
-returns-in-Some-clause-faults c =
-    let words_are : map (λ word. word.now) c.as_slice.result.now ≡ marked (map (λ word. word.now) c.args.words.now) =
-    ap (map (λ word. word.now)) c.as_slice.ensures.value ∙ c.in_ok-words.ensures in
-    sym (ap₂ fault_of c.in_ok-program.ensures words_are) ∙ c.in-Ok.ensures.kinds (ap is_simple_and_free c.in_ok-program.ensures ∙ program_is_simple)
-
 pub returns-in-Ok-clause-faults : goal.returns-in-Ok-clause-faults
 returns-in-Ok-clause-faults c =
     let words_are : map (λ word. word.now) c.as_slice.result.now ≡ marked (map (λ word. word.now) c.args.words.now) =
