@@ -11,10 +11,18 @@ use std::alloc::{AllocError, Global};
 
 /// The clients of open connections, each with the connection that has it. An entry is a copy, for which memory may be
 /// refused: then a client is not here, and a look-up is by a walk, until all are gathered again.
-#[derive(Drop)]
 pub(crate) struct Clients {
     owners: IndexMap<ClientId, ConnectionId>,
     has_all: bool,
+}
+
+impl Drop for Clients {
+    fn drop(self) {
+        let Clients {
+            owners: _owners,
+            has_all: _,
+        } = self;
+    }
 }
 
 fn has(connection: &ConnectionState, client: &ClientId) -> bool

@@ -17,7 +17,7 @@ pub(crate) fn one_connection(
 {
     let mut one = IndexMap::new(alloc);
     if let Some(connection) = connection {
-        one.insert(connection.id, connection)?;
+        drop(one.insert(connection.id, connection)?);
     }
     Ok(one)
 }
@@ -30,7 +30,7 @@ pub(crate) fn one_session(
 {
     let mut one = IndexMap::new(alloc);
     if let Some(session) = session {
-        one.insert(session.id, session)?;
+        drop(one.insert(session.id, session)?);
     }
     Ok(one)
 }
@@ -47,7 +47,7 @@ pub(crate) fn one_consumer(
             session: consumer.session,
             consumer: consumer.id,
         };
-        one.insert(number, consumer)?;
+        drop(one.insert(number, consumer)?);
     }
     Ok(one)
 }

@@ -19,12 +19,21 @@ use std::marker::Model;
 
 /// The consumers that were made, each in order and found by its number, and of the keys that have names how many active
 /// ones each has. Contracts see the consumers as the machine's list, and `spare`, for how many more there is room.
-#[derive(Drop)]
 pub(crate) struct Roster {
     consumers: IndexMap<ConsumerNumber, Consumer>,
     attached: Attached,
     /// For so many more keys there is room in `attached`.
     room: usize,
+}
+
+impl Drop for Roster {
+    fn drop(self) {
+        let Roster {
+            consumers: _consumers,
+            attached: _attached,
+            room: _,
+        } = self;
+    }
 }
 
 impl Model for Roster {
@@ -57,7 +66,17 @@ fn append(consumers: &mut IndexMap<ConsumerNumber, Consumer>, consumer: Consumer
         session: consumer.session,
         consumer: consumer.id,
     };
-    let _ = consumers.insert(number, consumer);
+    drop(consumers.insert(number, consumer));
+}
+
+/// The same consumers, under the same numbers. `AllocError` where a request for memory was refused.
+#[tactic(auto, using(crate::proofs::Found::same_entries))]
+fn copied_consumers(
+    consumers: &IndexMap<ConsumerNumber, Consumer>,
+) -> Result<IndexMap<ConsumerNumber, Consumer>, AllocError>
+    ensures { IfOk result (λ copy. copy.entries ≡ consumers.now.entries) }
+{
+    consumers.clone()
 }
 
 impl Roster {
@@ -91,7 +110,7 @@ impl Roster {
     {
         let attached = Attached::of(alloc, self.as_slice())?;
         Ok(Roster {
-            consumers: self.consumers.clone()?,
+            consumers: copied_consumers(&self.consumers)?,
             attached,
             room: 0,
         })

@@ -27,13 +27,24 @@ use std::marker::Model;
 /// The connections and sessions that were opened, and the consumers that were made in them, each in
 /// order and found by its number. Contracts see the connections and sessions as the machine's `Life`,
 /// the consumers as its list, and `spare`, for how many more calls there is room.
-#[derive(Drop)]
 pub struct Sessions {
     alloc: Global,
     connections: IndexMap<ConnectionId, ConnectionState>,
     sessions: IndexMap<SessionId, SessionState>,
     roster: Roster,
     clients: Clients,
+}
+
+impl Drop for Sessions {
+    fn drop(self) {
+        let Sessions {
+            alloc: _alloc,
+            connections: _connections,
+            sessions: _sessions,
+            roster: _roster,
+            clients: _clients,
+        } = self;
+    }
 }
 
 impl Model for Sessions {
@@ -57,6 +68,38 @@ impl Model for Sessions {
         × IsNumbered (λ x. x.id) s.sessions.entries
         × AreClientsApart (values s.connections)
         × (s.clients.has_all ≡ true → IsIndexOf (values s.connections) s.clients) };
+}
+
+/// The same connections, under the same numbers. `AllocError` where a request for memory was refused.
+#[tactic(auto, using(crate::proofs::Found::same_entries))]
+fn copied_connections(
+    connections: &IndexMap<ConnectionId, ConnectionState>,
+) -> Result<IndexMap<ConnectionId, ConnectionState>, AllocError>
+    ensures { IfOk result (λ copy. copy.entries ≡ connections.now.entries) }
+{
+    connections.clone()
+}
+
+/// The same sessions, under the same numbers. `AllocError` where a request for memory was refused.
+#[tactic(auto, using(crate::proofs::Found::same_entries))]
+fn copied_sessions(
+    sessions: &IndexMap<SessionId, SessionState>,
+) -> Result<IndexMap<SessionId, SessionState>, AllocError>
+    ensures { IfOk result (λ copy. copy.entries ≡ sessions.now.entries) }
+{
+    sessions.clone()
+}
+
+/// The connection of that number, open and stopped, of the client, if any.
+fn new_connection(id: ConnectionId, client: Option<ClientId>) -> ConnectionState
+    ensures { result ≡ record { id = id; client = client; is_started = false; is_open = true } }
+{
+    ConnectionState {
+        id,
+        client,
+        is_started: false,
+        is_open: true,
+    }
 }
 
 impl Sessions {
@@ -85,9 +128,9 @@ impl Sessions {
         ensures life { IfOk result (λ one. one.life ≡ record { connections = option_to_list connection; sessions = option_to_list session }) }
         ensures consumers { IfOk result (λ one. one.consumers ≡ option_to_list consumer) }
     {
-        let connections = one_connection(alloc, connection)?;
-        let sessions = one_session(alloc, session)?;
         let roster = Roster::of_one(alloc, consumer)?;
+        let sessions = one_session(alloc, session)?;
+        let connections = one_connection(alloc, connection)?;
         let clients = Clients::of(alloc, connections.values().as_slice())?;
         Ok(Sessions {
             alloc,
@@ -103,12 +146,15 @@ impl Sessions {
     pub fn copy(&self) -> Result<Sessions, AllocError>
         ensures { IfOk result (λ copy. copy ≡ record self.now { spare = copy.spare }) }
     {
+        let clients = Clients::of(self.alloc, self.connections())?;
+        let roster = self.roster.copy(self.alloc)?;
+        let sessions = copied_sessions(&self.sessions)?;
         Ok(Sessions {
             alloc: self.alloc,
-            connections: self.connections.clone()?,
-            sessions: self.sessions.clone()?,
-            roster: self.roster.copy(self.alloc)?,
-            clients: Clients::of(self.alloc, self.connections())?,
+            connections: copied_connections(&self.connections)?,
+            sessions,
+            roster,
+            clients,
         })
     }
 
@@ -141,6 +187,7 @@ impl Sessions {
     }
 
     /// Whether no consumer of the key is active. The subscription of the key has a name; else the answer says nothing.
+    #[tactic(auto, using(crate::proofs::Counted::idle))]
     pub fn is_idle(&self, key: &Key) -> bool
         ensures { is_named key.now ≡ true → result ≡ not (list_any (λ x. x.is_active) (filter (λ x. key_eq x.key key.now) self.now.consumers)) }
     {
@@ -311,6 +358,23 @@ impl Sessions {
         self.clients.reserve(self.alloc, connections, n)
     }
 
+    /// Whether the connection may be opened for the client, if any. `IllegalState` where the number was used; else
+    /// `InvalidClientId` where an open connection has the client.
+    fn may_open(&self, id: ConnectionId, client: &Option<ClientId>) -> Result<(), Refusal>
+        ensures unused { OnOk result (is_some (life.connection_of self.now.life.connections id) ≡ false) }
+        ensures free { OnOk result (life.is_client_taken self.now.life client.now ≡ false) }
+        ensures refused { IfErr result (λ refusal. refusal ≡ open_cause (is_some (life.connection_of self.now.life.connections id)) (life.is_client_taken self.now.life client.now)) }
+        ensures allowed { is_some (life.connection_of self.now.life.connections id) ≡ false → life.is_client_taken self.now.life client.now ≡ false → is_ok result ≡ true }
+    {
+        if self.is_used(id) {
+            return Err(Refusal::IllegalState);
+        }
+        if self.is_client_taken(client) {
+            return Err(Refusal::InvalidClientId);
+        }
+        Ok(())
+    }
+
     /// Opens the connection, stopped, for the client, if any. `IllegalState` where the number was used; else
     /// `InvalidClientId` where an open connection has the client (Jakarta Messaging 3.1, section 6.1.2); else `Memory`
     /// where a request for memory was refused, which does not come where there is room. A refusal leaves all as it was.
@@ -325,21 +389,11 @@ impl Sessions {
         ensures consumers { self.new.consumers ≡ self.old.consumers }
         ensures spare { self.old.spare ≤ self.new.spare + 1 }
     {
-        if self.is_used(id) {
-            return Err(Refusal::IllegalState);
-        }
-        if self.is_client_taken(&client) {
-            return Err(Refusal::InvalidClientId);
-        }
+        self.may_open(id, &client)?;
         self.connections.reserve(1)?;
-        let connection = ConnectionState {
-            id,
-            client,
-            is_started: false,
-            is_open: true,
-        };
+        let connection = new_connection(id, client);
         self.clients.note(&connection);
-        let _ = self.connections.insert(id, connection);
+        drop(self.connections.insert(id, connection));
         Ok(())
     }
 

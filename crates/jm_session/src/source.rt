@@ -12,11 +12,20 @@ use std::marker::Model;
 
 /// What a new consumer receives from: its key, and which messages of a queue it takes. It has a second copy of a key whose
 /// subscription has a name, by which the consumer is counted. Contracts see the key and the selector.
-#[derive(Drop)]
 pub struct Source {
     key: Key,
     selector: Selector,
     counted: Option<Key>,
+}
+
+impl Drop for Source {
+    fn drop(self) {
+        let Source {
+            key: _key,
+            selector: _selector,
+            counted: _counted,
+        } = self;
+    }
 }
 
 impl Model for Source {
@@ -71,6 +80,11 @@ impl Source {
         ensures selector { result.1 ≡ self.selector }
         ensures counted { result.2 ≡ counted_as result.0 }
     {
-        (self.key, self.selector, self.counted)
+        let Source {
+            key,
+            selector,
+            counted,
+        } = self;
+        (key, selector, counted)
     }
 }
