@@ -50,10 +50,9 @@ pub(crate) fn prepare_create(
     if !sessions.may_begin(session, id) {
         return Err(Refusal::IllegalState);
     }
-    let decision = subs.decide_create(Key::Own(*session, id), topic, selector, no_local)?;
     sessions.reserve(1)?;
     stations.reserve_key()?;
-    Ok(decision)
+    subs.decide_create(Key::Own(*session, id), topic, selector, no_local)
 }
 
 /// Finds why the consumer of a queue may not be made, and else reads its selector and makes room for it; the queue's name
@@ -82,10 +81,9 @@ pub(crate) fn prepare_create_of(
     if !sessions.may_begin(session, id) {
         return Err(Refusal::IllegalState);
     }
-    let selector = Selector::read(alloc, selector)?;
-    let queue = queue.copy()?;
     sessions.reserve(1)?;
-    Ok((queue, selector))
+    let selector = Selector::read(alloc, selector)?;
+    Ok((queue.copy()?, selector))
 }
 
 /// How many rows may be held under the key, where there is a limit: under that of a durable subscription or of a queue

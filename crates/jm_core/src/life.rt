@@ -45,9 +45,8 @@ pub(crate) fn prepare_open(
     if sessions.is_client_taken(client) {
         return Err(Refusal::InvalidClientId);
     }
-    let copy = copy_client(client)?;
     sessions.reserve(1)?;
-    Ok(copy)
+    Ok(copy_client(client)?)
 }
 
 /// Opens the connection for the client, or for none, stopped.

@@ -34,6 +34,49 @@ pub(crate) struct Wanted<'a> {
     pub sharing: Sharing,
 }
 
+/// A key. It is dropped by one call, so that a function with several ways out does not drop a key, variant by variant, on
+/// each.
+struct HeldKey {
+    key: Key,
+}
+
+impl Drop for HeldKey {
+    fn drop(self) {
+        let HeldKey { key: _key } = self;
+    }
+}
+
+impl HeldKey {
+    fn into_key(self) -> Key
+        ensures { result ≡ self.key }
+    {
+        let HeldKey { key } = self;
+        key
+    }
+}
+
+/// The subscription that was decided, where one was, beside its key. It is dropped by one call, as a `HeldKey` is.
+struct Asked {
+    decision: Option<(Key, Decision)>,
+}
+
+impl Drop for Asked {
+    fn drop(self) {
+        let Asked {
+            decision: _decision,
+        } = self;
+    }
+}
+
+impl Asked {
+    fn into_decision(self) -> Option<(Key, Decision)>
+        ensures { result ≡ self.decision }
+    {
+        let Asked { decision } = self;
+        decision
+    }
+}
+
 /// Whether the session's consumer of that number may be asked for: it may be made, and where the subscription is
 /// unshared the connection has a client identifier (Jakarta Messaging 3.1, section 8.3.3).
 pub(crate) fn may_ask(
@@ -101,13 +144,21 @@ pub(crate) fn is_home(stations: &Stations, key: &Key) -> bool
     }
 }
 
+/// The decision beside a copy of its key.
+fn beside(key: &Key, decision: Decision) -> Result<(Key, Decision), AllocError>
+    ensures { IfOk result (λ pair. pair ≡ (key.now, decision)) }
+{
+    let key = key.copy()?;
+    Ok((key, decision))
+}
+
 /// The decision, where there is one, beside a copy of its key.
 fn with_key(key: &Key, decision: Option<Decision>) -> Result<Option<(Key, Decision)>, AllocError>
     ensures { IfOk result (λ pair. pair ≡ option_map (λ d. (key.now, d)) decision) }
 {
     match decision {
         None => Ok(None),
-        Some(decision) => Ok(Some((key.copy()?, decision))),
+        Some(decision) => Ok(Some(beside(key, decision)?)),
     }
 }
 
@@ -184,10 +235,9 @@ fn prepare_source(
     ensures consumers { sessions.new.consumers ≡ sessions.old.consumers }
     ensures stations { stations.new ≡ record stations.old { key_room = stations.new.key_room } }
 {
-    let source = Source::named(alloc, key.copy()?)?;
     sessions.reserve(1)?;
     stations.reserve_key()?;
-    Ok(source)
+    Source::named(alloc, key.copy()?)
 }
 
 /// Finds why the subscription of the key, which has a name, may not be had, and else decides it, and makes room for it
@@ -220,8 +270,9 @@ fn prepare_under(
     ensures stations { stations.new ≡ record stations.old { key_room = stations.new.key_room } }
 {
     let decision = decide_under(sessions, subs, stations, key, topic, wanted)?;
+    let asked = Asked { decision };
     let source = prepare_source(alloc, sessions, stations, key)?;
-    Ok((source, decision))
+    Ok((source, asked.into_decision()))
 }
 
 impl CoreState {
@@ -243,12 +294,13 @@ impl CoreState {
             (asked_by topic.now wanted.now) (state_of self.old)) ≡ Some refusal) }
     {
         let key = key_of(&self.sessions, session, wanted.name, wanted.sharing)?;
+        let held = HeldKey { key };
         prepare_under(
             self.alloc,
             &mut self.sessions,
             &mut self.subs,
             &mut self.stations,
-            &key,
+            &held.key,
             topic,
             wanted,
         )
@@ -286,9 +338,10 @@ impl CoreState {
             return Err(Refusal::IllegalState);
         }
         let key = durable_key(&self.sessions, session, name)?;
-        let is_idle = self.sessions.is_idle(&key);
-        let is_home = is_home(&self.stations, &key);
-        self.subs.decide_unsubscribe(&key, is_idle, is_home)?;
-        Ok(Change::Unsubscribe(key))
+        let held = HeldKey { key };
+        let is_idle = self.sessions.is_idle(&held.key);
+        let is_home = is_home(&self.stations, &held.key);
+        self.subs.decide_unsubscribe(&held.key, is_idle, is_home)?;
+        Ok(Change::Unsubscribe(held.into_key()))
     }
 }

@@ -1,19 +1,23 @@
 //! Publishes messages. A publication is prepared first, which finds where the message goes and takes all
 //! room, and then made, which takes no memory.
 
-ghost use Rattle.std.specs.Prelude.{◌≡◌, ◌≤◌, ◌<◌, ◌+◌, All, map, length, IfOk, IfErr, OnOk};
+ghost use Rattle.std.specs.Prelude.{◌≡◌, ◌≤◌, ◌<◌, ◌+◌, ℕ, List, [], ◌∷◌, Some, All, map, length, IfOk, IfErr, OnOk};
 ghost use Rattle.std.specs.List.{IsDistinct};
 ghost use Rattle.jm_base.specs.declared.refusal.Refusal.TheVariants.{Memory};
+ghost use Rattle.jm_dest.specs.declared.destination.Destination.TheVariants as destination;
+ghost use Rattle.jm_dest.specs.declared.key.Key.TheVariants as key;
 ghost use Rattle.jm_dest.specs.Keys.{key_eq};
-ghost use Rattle.jm_machine.specs.Machine.{places_end, queued};
+ghost use Rattle.jm_machine.specs.Machine.{places_end, publisher_of, queued};
 ghost use Rattle.jm_stations.specs.Backlogs.{HasMoreRoom, IsPublished};
+ghost use Rattle.jm_stations.specs.Stations.{index_in};
+ghost use Rattle.jm_sub.specs.Subscriptions.{accepting};
 ghost use Rattle.jm_core.specs.State.{keys_of};
 ghost use Rattle.jm_core.specs.Queues.{HaveMoreRoom, IsQueued, published_queues, rows_in};
 ghost use Rattle.jm_core.specs.Publications.{ArePublished, HasRoom, IsReady, IsReserved, IsRouted, queue_indexes, station_indexes};
 
 use crate::queues::Queues;
 use jm_base::Refusal;
-use jm_dest::Destination;
+use jm_dest::{Destination, Key};
 use jm_header::Message;
 use jm_session::Sessions;
 use jm_stations::Stations;
@@ -36,6 +40,16 @@ pub(crate) struct Publication {
     pub goal: Goal,
 }
 
+/// The keys of the subscriptions that accept the message of its publisher.
+fn keys_accepting(sessions: &Sessions, subs: &Subs, message: &Message) -> Result<Vec<Key>, Refusal>
+    ensures ok { IfOk result (λ keys.
+        keys.items ≡ accepting (publisher_of sessions.now.life message.now) message.now subs.now.list) }
+    ensures err { IfErr result (λ refusal. refusal ≡ Memory) }
+{
+    let client = sessions.client_of(message.sender().session.connection);
+    subs.accepting(message, client)
+}
+
 /// Finds the subscriptions that accept the message of its publisher, and makes room for that many more messages there.
 fn prepare_subscriptions(
     sessions: &Sessions,
@@ -56,14 +70,42 @@ fn prepare_subscriptions(
     ensures next_place { stations.new.next_place ≡ stations.old.next_place }
     ensures room { stations.old.message_room ≤ stations.new.message_room }
 {
-    let client = sessions.client_of(message.sender().session.connection);
-    let keys = subs.accepting(message, client)?;
+    let keys = keys_accepting(sessions, subs, message)?;
     let indexes = stations.indexes_of(&keys)?;
     stations.reserve(&indexes, additional)?;
     Ok(indexes)
 }
 
 /// Finds where the message goes, and makes room for that many more messages there.
+fn prepare_goal(
+    sessions: &Sessions,
+    subs: &Subs,
+    stations: &mut Stations,
+    queues: &mut Queues,
+    message: &Message,
+    additional: usize,
+) -> Result<Goal, Refusal>
+    requires same { keys_of subs.now.list ≡ stations.old.keys }
+    requires number { length stations.old.list ≡ length subs.now.list }
+    requires once { IsDistinct key_eq stations.old.keys }
+    ensures ready { IfOk result (λ goal. IsReady additional sessions.now.life subs.now.list stations.new queues.new
+        (record { message = message.now; goal = goal })) }
+    ensures err { IfErr result (λ refusal. refusal ≡ Memory) }
+    ensures keys { stations.new.keys ≡ stations.old.keys }
+    ensures list { HasMoreRoom stations.old.list stations.new.list }
+    ensures next_place { stations.new.next_place ≡ stations.old.next_place }
+    ensures room { stations.old.message_room ≤ stations.new.message_room }
+    ensures queues { HaveMoreRoom queues.old queues.new }
+{
+    match message.destination() {
+        Destination::Queue(name) => Ok(Goal::Queue(queues.reserve(name, additional)?)),
+        Destination::Topic(_) => Ok(Goal::Subscriptions(prepare_subscriptions(
+            sessions, subs, stations, message, additional,
+        )?)),
+    }
+}
+
+/// Prepares the publication of the message, with room for that many more messages where it goes.
 pub(crate) fn prepare_publication(
     sessions: &Sessions,
     subs: &Subs,
@@ -84,13 +126,33 @@ pub(crate) fn prepare_publication(
     ensures room { stations.old.message_room ≤ stations.new.message_room }
     ensures queues { HaveMoreRoom queues.old queues.new }
 {
-    let goal = match message.destination() {
-        Destination::Queue(name) => Goal::Queue(queues.reserve(name, additional)?),
-        Destination::Topic(_) => Goal::Subscriptions(prepare_subscriptions(
-            sessions, subs, stations, &message, additional,
-        )?),
-    };
+    let goal = prepare_goal(sessions, subs, stations, queues, &message, additional)?;
     Ok(Publication { message, goal })
+}
+
+/// Prepares the publication of a copy of the message, as `prepare_publication` does.
+fn prepare_copy(
+    sessions: &Sessions,
+    subs: &Subs,
+    stations: &mut Stations,
+    queues: &mut Queues,
+    message: &Message,
+    additional: usize,
+) -> Result<Publication, Refusal>
+    requires same { keys_of subs.now.list ≡ stations.old.keys }
+    requires number { length stations.old.list ≡ length subs.now.list }
+    requires once { IsDistinct key_eq stations.old.keys }
+    ensures message { IfOk result (λ x. x.message ≡ message.now) }
+    ensures ready { IfOk result (λ x. IsReady additional sessions.now.life subs.now.list stations.new queues.new x) }
+    ensures err { IfErr result (λ refusal. refusal ≡ Memory) }
+    ensures keys { stations.new.keys ≡ stations.old.keys }
+    ensures list { HasMoreRoom stations.old.list stations.new.list }
+    ensures next_place { stations.new.next_place ≡ stations.old.next_place }
+    ensures room { stations.old.message_room ≤ stations.new.message_room }
+    ensures queues { HaveMoreRoom queues.old queues.new }
+{
+    let copy = message.copy()?;
+    prepare_publication(sessions, subs, stations, queues, copy, additional)
 }
 
 /// Finds where copies of the messages go, and makes room for all of them there.
@@ -116,18 +178,30 @@ pub(crate) fn prepare_publications(
 {
     let mut publications = Vec::with_capacity(alloc, messages.len())?;
     for message in messages {
-        let copy = message.copy()?;
-        let publication = prepare_publication(
-            sessions,
-            subs,
-            stations,
-            queues,
-            copy,
-            messages.len(),
-        )?;
+        let number = messages.len();
+        let publication = prepare_copy(sessions, subs, stations, queues, message, number)?;
         publications.push_reserved(publication);
     }
     Ok(publications)
+}
+
+/// A message comes to the queue with that index: it takes the next place.
+fn make_queued(stations: &mut Stations, queues: &mut Queues, message: Message, index: usize)
+    requires places { stations.old.next_place < places_end }
+    requires from { queues.old.next_place ≤ stations.old.next_place }
+    requires messages { 0 < queues.old.message_room }
+    requires reserved { IsReserved 1 queues.old.list (index ∷ []) }
+    ensures skipped { stations.new ≡ record stations.old { next_place = stations.old.next_place + 1 } }
+    ensures keys { queues.new.keys ≡ queues.old.keys }
+    ensures list { IsPublished (index ∷ []) stations.old.next_place message queues.old.list queues.new.list }
+    ensures rows { (name : List ℕ) → index_in queues.old.keys (key.Queue name) ≡ Some index →
+        rows_in queues.new ≡ queued (destination.Queue name) message stations.old.next_place (rows_in queues.old) }
+    ensures next_place { queues.new.next_place ≡ stations.old.next_place + 1 }
+    ensures room { queues.old.message_room ≤ queues.new.message_room + 1 }
+{
+    let place = stations.next_place();
+    queues.publish(message, index, place);
+    stations.skip_to(place + 1);
 }
 
 /// Publishes a message: it takes the next place.
@@ -156,11 +230,7 @@ pub(crate) fn make_publication(
     let Publication { message, goal } = publication;
     match goal {
         Goal::Subscriptions(indexes) => stations.publish(message, &indexes),
-        Goal::Queue(index) => {
-            let place = stations.next_place();
-            queues.publish(message, index, place);
-            stations.skip_to(place + 1);
-        }
+        Goal::Queue(index) => make_queued(stations, queues, message, index),
     }
 }
 

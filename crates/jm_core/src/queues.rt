@@ -1,6 +1,6 @@
 //! What the queues hold.
 
-ghost use Rattle.std.specs.Prelude.{◌≡◌, ◌≤◌, ◌<◌, ◌+◌, ◌&&◌, ℕ, true, false, List, [], ◌∷◌, not, is_some, map, length, slice_index_or, Some, IfSome, IfOk, OnOk, OnErr};
+ghost use Rattle.std.specs.Prelude.{◌≡◌, ◌≤◌, ◌<◌, ◌+◌, ◌++◌, ◌&&◌, ℕ, true, false, List, [], ◌∷◌, not, is_some, map, length, slice_index_or, None, Some, IfSome, IfOk, OnOk, OnErr};
 ghost use Rattle.jm_dest.specs.declared.key.Key.TheVariants as key;
 ghost use Rattle.jm_dest.specs.declared.destination.Destination.TheVariants as destination;
 ghost use Rattle.jm_machine.specs.Machine.{are_meant, at_queue, at_queues, places_end, queued, returned_rows, settled_rows};
@@ -24,10 +24,17 @@ use std::slice::from_ref;
 
 /// What the queues hold, in a table of messages of its own: a message is sent to a queue or to a topic, and is held in
 /// one of both tables. A queue has a key from the first message on that is sent to it; one that holds nothing is as if it
-/// had none.
-#[derive(Drop)]
+/// had none. Its drop is its own, so that a function with several ways out does not drop part by part on each.
 pub(crate) struct Queues {
     stations: Stations,
+}
+
+impl Drop for Queues {
+    fn drop(self) {
+        let Queues {
+            stations: _stations,
+        } = self;
+    }
 }
 
 impl Model for Queues {
@@ -39,6 +46,24 @@ impl Model for Queues {
     ghost view = { λ q. q.stations };
 
     ghost invariant = { λ q. AreQueues q.stations.list q.stations.next_place };
+}
+
+/// Adds the key of a queue behind all others, which holds nothing and may hold any number of messages: where it stands.
+fn add(stations: &mut Stations, key: Key) -> Result<usize, AllocError>
+    requires absent { index_in stations.old.keys key ≡ None }
+    ensures at { IfOk result (λ i. i ≡ length stations.old.keys) }
+    ensures end { IfOk result (λ i. i ≡ length stations.old.list) }
+    ensures added { OnOk result (stations.new ≡ record stations.old {
+      keys = stations.old.keys ++ key ∷ [];
+      list = stations.old.list ++ backlogs.empty None ∷ [];
+      key_room = stations.new.key_room;
+    }) }
+    ensures same { OnErr result (stations.new ≡ record stations.old { key_room = stations.new.key_room }) }
+{
+    let end = stations.len();
+    stations.reserve_key()?;
+    stations.create(key, None);
+    Ok(end)
 }
 
 impl Queues {
@@ -74,8 +99,7 @@ impl Queues {
     pub(crate) fn rows(&self, alloc: Global, name: &Name) -> Result<Vec<PlacedRow>, AllocError>
         ensures { IfOk result (λ rows. rows.items ≡ rows_in self.now name.now) }
     {
-        let key = Key::Queue(name.copy()?);
-        match self.stations.index_of(&key) {
+        match self.index_named(name)? {
             None => Ok(Vec::new(alloc)),
             Some(index) => self.stations.rows_of(index),
         }
@@ -89,6 +113,15 @@ impl Queues {
         self.stations.index_of(key)
     }
 
+    /// Where the key of that queue stands. `AllocError` where a request for memory was refused.
+    fn index_named(&self, name: &Name) -> Result<Option<usize>, AllocError>
+        ensures index { IfOk result (λ i. i ≡ index_in self.now.keys (key.Queue name.now)) }
+        ensures within { IfOk result (λ i. IfSome i (λ i. i < length self.now.list)) }
+    {
+        let key = Key::Queue(name.copy()?);
+        Ok(self.index_of(&key))
+    }
+
     /// Where the key of that queue stands, which is made where there was none.
     fn index_made(&mut self, name: &Name) -> Result<usize, AllocError>
         ensures more { HaveMoreRoom self.old self.new }
@@ -98,12 +131,7 @@ impl Queues {
         let key = Key::Queue(name.copy()?);
         match self.stations.index_of(&key) {
             Some(index) => Ok(index),
-            None => {
-                let index = self.stations.len();
-                self.stations.reserve_key()?;
-                self.stations.create(key, None);
-                Ok(index)
-            }
+            None => Ok(add(&mut self.stations, key)?),
         }
     }
 

@@ -1,6 +1,6 @@
 //! What the core holds, and each call on it.
 
-ghost use Rattle.std.specs.Prelude.{◌≡◌, ◌+◌, ◌≤◌, ◌&&◌, [], ◌∷◌, true, false, nat_le, is_some, length, MatchResult, IfOk, IfErr, OnOk, OnErr, Some, None};
+ghost use Rattle.std.specs.Prelude.{◌≡◌, ◌+◌, ◌≤◌, ◌<◌, ◌&&◌, [], ◌∷◌, true, false, nat_le, is_some, length, map, slice_index_or, MatchResult, IfOk, IfErr, OnOk, OnErr, Some, None};
 ghost use Rattle.std.specs.Option.{option_copied};
 ghost use Rattle.jm_base.specs.declared.refusal.Refusal.TheVariants.{OutOfRange, Memory};
 ghost use Rattle.jm_machine.specs.Life as life;
@@ -8,8 +8,10 @@ ghost use Rattle.jm_machine.specs.Machine as machine;
 ghost use Rattle.jm_core.specs.Accepted.{HoldsAccepted};
 ghost use Rattle.jm_core.specs.Kept.{IsNumberOfMessages};
 ghost use Rattle.jm_stations.specs.Backlogs as backlogs;
-ghost use Rattle.jm_core.specs.Provider.{may_open, state_of};
+ghost use Rattle.jm_stations.specs.Backlogs.{Backlog};
+ghost use Rattle.jm_core.specs.Provider.{greatest_limit, may_open, state_of};
 ghost use Rattle.jm_core.specs.Publications.{ArePrepared, unprepared};
+ghost use Rattle.jm_core.specs.Queues.{rows_in};
 ghost use Rattle.jm_core.specs.Steps.{CommitFits, StepFits, PublishFits};
 
 use crate::publish::{Publication, make_publication, prepare_publication, prepare_publications};
@@ -31,8 +33,8 @@ use std::slice::from_ref;
 
 /// What the core holds. Contracts see it as a `Provider`: the parts of the machine's state, each with its
 /// room. In that state (`state_of`) the stations are the subscriptions, each with what is held under its key, and a queue
-/// without a key holds nothing.
-#[derive(Drop)]
+/// without a key holds nothing. Its drop is its own, so that a function with several ways out does not drop part by part
+/// on each.
 pub(crate) struct CoreState {
     pub alloc: Global,
     pub opening: Number,
@@ -42,6 +44,20 @@ pub(crate) struct CoreState {
     pub subs: Subs,
     pub stations: Stations,
     pub queues: Queues,
+}
+
+impl Drop for CoreState {
+    fn drop(self) {
+        let CoreState {
+            alloc: _alloc,
+            opening: _opening,
+            limit: _limit,
+            sessions: _sessions,
+            subs: _subs,
+            stations: _stations,
+            queues: _queues,
+        } = self;
+    }
 }
 
 impl Model for CoreState {
@@ -71,6 +87,86 @@ const GREATEST_LIMIT: u32 = 1_000_000;
 /// The first number that is no place (ours).
 const PLACES_END: u64 = 1 << 63;
 
+/// Whether there may be a limit of so many rows.
+fn is_limit(limit: u32) -> bool
+    ensures { result ≡ (nat_le 1 limit && nat_le limit greatest_limit) }
+{
+    limit != 0 && limit <= GREATEST_LIMIT
+}
+
+/// A copy of what is known by number, and of the subscriptions. It is dropped by one call, so that a function with several
+/// ways out does not drop both on each.
+struct KnownParts {
+    sessions: Sessions,
+    subs: Subs,
+}
+
+impl Drop for KnownParts {
+    fn drop(self) {
+        let KnownParts {
+            sessions: _sessions,
+            subs: _subs,
+        } = self;
+    }
+}
+
+impl KnownParts {
+    fn into_parts(self) -> (Sessions, Subs)
+        ensures { result ≡ (self.sessions, self.subs) }
+    {
+        let KnownParts { sessions, subs } = self;
+        (sessions, subs)
+    }
+}
+
+fn copy_known(sessions: &Sessions, subs: &Subs) -> Result<KnownParts, AllocError>
+    ensures life { IfOk result (λ x. x.sessions.life ≡ sessions.now.life) }
+    ensures consumers { IfOk result (λ x. x.sessions.consumers ≡ sessions.now.consumers) }
+    ensures subs { IfOk result (λ x. x.subs.list ≡ subs.now.list) }
+{
+    let sessions = sessions.copy()?;
+    let subs = subs.copy()?;
+    Ok(KnownParts { sessions, subs })
+}
+
+/// A copy of what is held for subscriptions, and of what queues hold.
+fn copy_held(stations: &Stations, queues: &Queues) -> Result<(Stations, Queues), AllocError>
+    ensures keys { IfOk result (λ x. x.0.keys ≡ stations.now.keys) }
+    ensures list { IfOk result (λ x. x.0.list ≡ map backlogs.without_room stations.now.list) }
+    ensures next_place { IfOk result (λ x. x.0.next_place ≡ stations.now.next_place) }
+    ensures queues { IfOk result (λ x. rows_in x.1 ≡ rows_in queues.now) }
+    ensures queue_place { IfOk result (λ x. x.1.next_place ≡ queues.now.next_place) }
+{
+    let stations = stations.copy()?;
+    let queues = queues.copy()?;
+    Ok((stations, queues))
+}
+
+/// A copy of the subscription of the key, of that definition, with the rows that stand at that index.
+fn station_at(
+    stations: &Stations,
+    key: &Key,
+    index: usize,
+    definition: &Definition,
+) -> Result<Station, AllocError>
+    requires { index < length stations.now.list }
+    ensures { (d : Backlog) → IfOk result (λ station. station ≡ record {
+      key = key.now;
+      definition = definition.now;
+      missed = (slice_index_or stations.now.list index d).missed;
+      rows = (slice_index_or stations.now.list index d).rows;
+    }) }
+{
+    let rows = stations.rows_of(index)?;
+    let definition = definition.copy()?;
+    Ok(Station {
+        key: key.copy()?,
+        definition,
+        missed: stations.missed(index),
+        rows: List::new(rows),
+    })
+}
+
 /// Whether each message was stamped by this session in this opening.
 fn is_stamped(opening: Number, session: &SessionId, messages: &[Message]) -> bool
     ensures { result ≡ machine.is_stamped opening session.now messages.now }
@@ -90,7 +186,7 @@ impl CoreState {
             (λ refusal. (refusal ≡ OutOfRange) × (may_open opening held_limit ≡ false)) }
     {
         let opening = Number::new(opening)?;
-        if held_limit == 0 || held_limit > GREATEST_LIMIT {
+        if !is_limit(held_limit) {
             return Err(Refusal::OutOfRange);
         }
         Ok(CoreState {
@@ -154,10 +250,9 @@ impl CoreState {
     pub(crate) fn copy(&self) -> Result<CoreState, AllocError>
         ensures { IfOk result (λ copy. state_of copy ≡ state_of self.now) }
     {
-        let sessions = self.sessions.copy()?;
-        let subs = self.subs.copy()?;
-        let stations = self.stations.copy()?;
-        let queues = self.queues.copy()?;
+        let known = copy_known(&self.sessions, &self.subs)?;
+        let (stations, queues) = copy_held(&self.stations, &self.queues)?;
+        let (sessions, subs) = known.into_parts();
         Ok(CoreState {
             alloc: self.alloc,
             opening: self.opening,
@@ -205,14 +300,8 @@ impl CoreState {
         match self.stations.index_of(key) {
             None => Ok(None),
             Some(index) => {
-                let definition = self.subs.definition_at(index).copy()?;
-                let rows = self.stations.rows_of(index)?;
-                Ok(Some(Station {
-                    key: key.copy()?,
-                    definition,
-                    missed: self.stations.missed(index),
-                    rows: List::new(rows),
-                }))
+                let definition = self.subs.definition_at(index);
+                Ok(Some(station_at(&self.stations, key, index, definition)?))
             }
         }
     }

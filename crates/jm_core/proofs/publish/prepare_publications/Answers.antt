@@ -9,12 +9,12 @@ loop-message-preserved c =
     let w = c.loop-message.invariant in
     let h = c.in_ok-publication.ensures in
     let old = c.loop-message.stations in
-    let new = c.prepare_publication.new.stations in
+    let new = c.prepare_copy.new.stations in
     let queues = c.loop-message.queues in
-    let after = c.prepare_publication.new.queues in
+    let after = c.prepare_copy.new.queues in
     let x = c.in_ok-publication.publication in
     record {
-      messages = rw c.push_reserved.ensures.items (messages_more c.loop-message.publications.items x c.loop-message.message-index c.args.messages.now c.message-item.result c.loop-message-test.true c.message-item.is w.messages (h.message ∙ c.in_ok-copy.ensures));
+      messages = rw c.push_reserved.ensures.items (messages_more c.loop-message.publications.items x c.loop-message.message-index c.args.messages.now c.message-item.result c.loop-message-test.true c.message-item.is w.messages h.message);
       ready = rw c.push_reserved.ensures.items (ready_push (length c.args.messages.now) c.args.sessions.now.life c.args.subs.now.list old queues new after c.loop-message.publications.items x h.list h.room h.queues w.ready h.ready);
       keys = h.keys ∙ w.keys;
       list = room_again c.args.stations.now.list old.list new.list w.list h.list;
@@ -25,4 +25,4 @@ loop-message-preserved c =
     }
 
 pub returns-in_err-publication-clause-queues : goal.returns-in_err-publication-clause-queues
-returns-in_err-publication-clause-queues c = queues_again c.args.queues.now c.loop-message.queues c.prepare_publication.new.queues c.loop-message.invariant.queues c.in_err-publication.ensures.queues
+returns-in_err-publication-clause-queues c = queues_again c.args.queues.now c.loop-message.queues c.prepare_copy.new.queues c.loop-message.invariant.queues c.in_err-publication.ensures.queues

@@ -33,7 +33,7 @@ pub returns : goal.returns
 returns c =
     let i = c.self.inside in
     let opened = sym c.is_open.ensures ∙ c.if-not-is_open.false in
-    rw (← c.self.view_is) (
+    rw (c.into_key.ensures, ← c.self.view_is) (
       refl,
       delete_planned i.limit i.stations.next_place (of_parts i.opening i.limit i.sessions i.subs i.stations i.queues) c.args.session.now c.args.name.now c.in_ok-key.key c.is_idle-is_idle.result c.is_home-is_home.result
           c.in_ok-key.ensures c.is_idle-is_idle.ensures c.is_home-is_home.ensures c.self.invariant.0 opened c.in_ok-decide_unsubscribe.ensures,

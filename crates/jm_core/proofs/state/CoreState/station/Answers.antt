@@ -8,9 +8,9 @@ returns-in-None c =
     let at = rw (← c.self.invariant.0.same) at c.in-None.ensures.index in
     rw (← c.self.view_is) (station_missing c.args.key.now c.self.inside.subs.list c.self.inside.stations.list (sym at))
 
-pub returns-in_ok-copy-in-Some : goal.returns-in_ok-copy-in-Some
-returns-in_ok-copy-in-Some c =
+pub returns-in_ok-station_at-in-Some : goal.returns-in_ok-station_at-in-Some
+returns-in_ok-station_at-in-Some c =
     let d : Backlog = empty None in
     let at = rw (← c.self.invariant.0.same) at c.in-Some.ensures.index in
-    rw (c.in_ok-copy-in-Some.ensures, c.in_ok-definition-in-Some.ensures, c.new.ensures, c.in_ok-rows-in-Some.ensures d, c.missed.ensures d, ← c.self.view_is)
-    (station_found c.args.key.now c.self.inside.subs.list c.self.inside.stations.list c.in-Some.index c.definition_at.result.now d c.self.invariant.0.number (sym at) c.definition_at.ensures)
+    rw (c.in_ok-station_at-in-Some.ensures d, ← c.self.view_is)
+    (station_found c.args.key.now c.self.inside.subs.list c.self.inside.stations.list c.in-Some.index c.definition_at-definition.result.now d c.self.invariant.0.number (sym at) c.definition_at-definition.ensures)
