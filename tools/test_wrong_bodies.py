@@ -28,6 +28,11 @@ pub fn greater(a: u64, b: u64) -> u64
     if b < a { a } else { b }
 }
 """
+ANSWERS = """use Rattle.std.proofs.Common.{rules}
+
+pub returns-else-b-a-clause-right : goal.returns-else-b-a-clause-right
+returns-else-b-a-clause-right c = search rules
+"""
 LARGEST = """
 pub fn largest(a: u64, b: u64, c: u64) -> u64
     ensures first { a ≤ result }
@@ -53,10 +58,10 @@ CRATES = {
         HEAD + LARGER + GREATER + LARGEST + TOPMOST + LIMITED,
         [
             ("larger_is_smaller", "larger", "if a < b { b }", "if b < a { b }"),
-            # A right body, with a proof of its own in a file, over one that is wrong in the same check.
+            # A right body, with a proof of its own in a file, over one that is wrong in the same copy.
             ("largest_in_another_order", "largest", "larger(greater(a, b), c)", "larger(a, greater(b, c))"),
-            # What that one calls, with a proof of its own in a file too.
-            ("greater_is_smaller", "greater", "if b < a { a } else { b }", "if a < b { a } else { b }"),
+            # Its goal is one that is answered by hand: a check decides.
+            ("greater_is_first", "greater", "else { b }", "else { a }"),
             ("limit_is_ten", "limited", "const LIMIT: u64 = 9;", "const LIMIT: u64 = 10;"),
             # The same without such a file.
             ("topmost_in_another_order", "topmost", "larger(c, larger(a, b))", "larger(larger(c, a), b)"),
@@ -94,10 +99,10 @@ def plant(top: str) -> None:
         for edit, at, old, new in edits:
             with open(f"{top}/crates/{name}/wrong/{edit}.edit", "w", encoding="utf-8") as it:
                 it.write(f"at: {at}\nfile: src/lib.rt\nold: {old}\nnew: {new}\n")
-    for name in "greater", "largest":
+    for name, answers in ("greater", ANSWERS), ("largest", ""):
         os.makedirs(f"{top}/crates/whole/proofs/{name}")
         with open(f"{top}/crates/whole/proofs/{name}/Answers.antt", "w", encoding="utf-8") as it:
-            it.write(f"use Rattle.whole.proofs.{name}.Goals as goal\n")
+            it.write(f"use Rattle.whole.proofs.{name}.Goals as goal\n{answers}")
 
 
 def said(top: str, *words: str) -> tuple[list[str], int]:
@@ -125,8 +130,8 @@ class OverTheChecker(unittest.TestCase):
     def test_a_wrong_body_is_refused(self) -> None:
         self.assertRegex(self.line("larger_is_smaller"), r"^larger refused: `returns-then-b-a-clause-left`")
 
-    def test_a_wrong_body_with_a_proof_of_its_own_is_refused(self) -> None:
-        self.assertRegex(self.line("greater_is_smaller"), r"^greater refused: `returns-then-a-b-clause-right")
+    def test_a_wrong_body_is_refused_whose_goal_is_answered_by_hand(self) -> None:
+        self.assertRegex(self.line("greater_is_first"), r"^greater refused: `returns-else-b-a-clause-right`: ")
 
     def test_a_wrong_constant_is_refused(self) -> None:
         self.assertRegex(self.line("limit_is_ten"), "^limited refused: ")

@@ -1,11 +1,17 @@
 """verdicts: says for tools/wrong-bodies what rattle's lines and files tell of an edit."""
 from __future__ import annotations
 
+import contextlib
+import os
 import re
 from os import path
 from typing import NamedTuple
 
 from edits import Edit, rt
+
+
+# Where a search leaves what is answered by hand alone, a check decides.
+BY_HAND = "no goal but one that is answered by hand is left"
 
 
 class Verdict(NamedTuple):
@@ -20,9 +26,21 @@ def path_of(room: str, name: str) -> str:
 
 
 def is_started(edit: Edit) -> bool:
-    """Returns whether rattle can search for the function's proof alone, without those of what it calls: nothing of it is given
-    by hand, and it is in no cycle."""
-    return not path.isdir(path_of(edit.crate.folder, edit.at)) and not (edit.group or "").startswith("#")
+    """Returns whether rattle can search for the function's proof alone, without those of what it calls: it is in no cycle, and
+    of its proof at most answers and invariants are given by hand."""
+    return not (edit.group or "").startswith("#") and not path.exists(f"{path_of(edit.crate.folder, edit.at)}/Proof.antt")
+
+
+def answered(edit: Edit) -> set[str]:
+    """Returns the goals of the function that are answered by hand."""
+    text = rt.rtlib.text_of(f"{path_of(edit.crate.folder, edit.at)}/Answers.antt") or ""
+    return {*re.findall(r"(?m)^(?:pub )?(\S+) : goal\.", text)}
+
+
+def hide_answers(room: str, edit: Edit) -> None:
+    """Takes the answers out of a copy, in which a search then writes down what it leaves."""
+    with contextlib.suppress(FileNotFoundError):
+        os.remove(f"{path_of(room, edit.name)}/Answers.antt")
 
 
 def unread(edits: list[Edit], said: list[str]) -> str:
@@ -35,11 +53,15 @@ def unread(edits: list[Edit], said: list[str]) -> str:
 
 
 def judge_started(room: str, edit: Edit, said: list[str]) -> Verdict:
-    """Returns whether the search for the function's proof left a goal: rattle has written a file for what it left."""
+    """Returns whether the search for the function's proof left a goal that is not answered by hand: rattle has written a file
+    for what it left."""
     file = f"{path_of(room, edit.name)}/Answers.antt"
-    goals = re.findall(r"(?m)^(\S+) .*= \?$", rt.rtlib.text_of(file) or "")
+    left = re.findall(r"(?m)^(\S+) .*= \?$", rt.rtlib.text_of(file) or "")
+    goals = [it for it in left if it not in answered(edit)]
     if goals:
         return Verdict(edit.path, True, f"`{goals[0]}`")
+    if left:
+        return Verdict(edit.path, False, f"{BY_HAND}: `{left[0]}`")
     line = next((it for it in said if f"`{edit.crate.name}::{edit.name}`" in it), "the search does not name it")
     is_proved = line.endswith("needs no file: nothing is left to choose or to answer")
     return Verdict(edit.path, False, "it is still proved" if is_proved else f"no goal of its own is refused: {line}")
