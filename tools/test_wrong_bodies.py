@@ -58,9 +58,9 @@ CRATES = {
         HEAD + LARGER + GREATER + LARGEST + TOPMOST + LIMITED,
         [
             ("larger_is_smaller", "larger", "if a < b { b }", "if b < a { b }"),
-            # A right body, with a proof of its own in a file, over one that is wrong in the same copy.
+            # A right body, with a proof of its own in a file, over one that is wrong in the same check.
             ("largest_in_another_order", "largest", "larger(greater(a, b), c)", "larger(a, greater(b, c))"),
-            # Its goal is one that is answered by hand: a check decides.
+            # What that one calls: its goal is one that is answered by hand.
             ("greater_is_first", "greater", "else { b }", "else { a }"),
             ("limit_is_ten", "limited", "const LIMIT: u64 = 9;", "const LIMIT: u64 = 10;"),
             # The same without such a file.

@@ -10,10 +10,6 @@ from typing import NamedTuple
 from edits import Edit, rt
 
 
-# Where a search leaves what is answered by hand alone, a check decides.
-BY_HAND = "no goal but one that is answered by hand is left"
-
-
 class Verdict(NamedTuple):
     path: str
     is_refused: bool
@@ -29,6 +25,11 @@ def is_started(edit: Edit) -> bool:
     """Returns whether rattle can search for the function's proof alone, without those of what it calls: it is in no cycle, and
     of its proof at most answers and invariants are given by hand."""
     return not (edit.group or "").startswith("#") and not path.exists(f"{path_of(edit.crate.folder, edit.at)}/Proof.antt")
+
+
+def is_by_hand(edit: Edit) -> bool:
+    """Returns whether a part of the function's proof is given by hand: where a search refuses nothing, a check decides."""
+    return path.isdir(path_of(edit.crate.folder, edit.at))
 
 
 def answered(edit: Edit) -> set[str]:
@@ -60,8 +61,6 @@ def judge_started(room: str, edit: Edit, said: list[str]) -> Verdict:
     goals = [it for it in left if it not in answered(edit)]
     if goals:
         return Verdict(edit.path, True, f"`{goals[0]}`")
-    if left:
-        return Verdict(edit.path, False, f"{BY_HAND}: `{left[0]}`")
     line = next((it for it in said if f"`{edit.crate.name}::{edit.name}`" in it), "the search does not name it")
     is_proved = line.endswith("needs no file: nothing is left to choose or to answer")
     return Verdict(edit.path, False, "it is still proved" if is_proved else f"no goal of its own is refused: {line}")
