@@ -60,8 +60,9 @@ CRATES = {
             ("larger_is_smaller", "larger", "if a < b { b }", "if b < a { b }"),
             # A right body, with a proof of its own in a file, over one that is wrong in the same check.
             ("largest_in_another_order", "largest", "larger(greater(a, b), c)", "larger(a, greater(b, c))"),
-            # What that one calls: its goal is one that is answered by hand.
+            # What that one calls: its goal is one that is answered by hand, and then one of a way out more.
             ("greater_is_first", "greater", "else { b }", "else { a }"),
+            ("greater_is_early", "greater", "if b < a { a }", "if a < 7 { return a; } if b < a { a }"),
             ("limit_is_ten", "limited", "const LIMIT: u64 = 9;", "const LIMIT: u64 = 10;"),
             # The same without such a file.
             ("topmost_in_another_order", "topmost", "larger(c, larger(a, b))", "larger(larger(c, a), b)"),
@@ -133,6 +134,9 @@ class OverTheChecker(unittest.TestCase):
     def test_a_wrong_body_is_refused_whose_goal_is_answered_by_hand(self) -> None:
         self.assertRegex(self.line("greater_is_first"), r"^greater refused: `returns-else-b-a-clause-right`: ")
 
+    def test_a_wrong_way_out_is_refused_beside_answers_by_hand(self) -> None:
+        self.assertEqual(self.line("greater_is_early"), "greater refused: `returns-then-a-lt7-clause-right`")
+
     def test_a_wrong_constant_is_refused(self) -> None:
         self.assertRegex(self.line("limit_is_ten"), "^limited refused: ")
 
@@ -161,7 +165,7 @@ class OverTheChecker(unittest.TestCase):
         self.assertEqual(self.line("larger_is_first"), "NOT TRIED: unproved is not proved without it")
 
     def test_the_last_line_counts_them(self) -> None:
-        self.assertEqual((self.lines[-1], self.status), ("4 passed, 9 failed", 1))
+        self.assertEqual((self.lines[-1], self.status), ("5 passed, 9 failed", 1))
 
 
 class AlongsideTheChecker(unittest.TestCase):
@@ -169,7 +173,7 @@ class AlongsideTheChecker(unittest.TestCase):
         with tempfile.TemporaryDirectory() as top:
             plant(top)
             lines, status = said(top, "--after-ci", "whole")
-        self.assertEqual((lines[-1], status), ("0 passed, 5 failed", 1))
+        self.assertEqual((lines[-1], status), ("0 passed, 6 failed", 1))
         self.assertEqual({it.partition(": ")[2] for it in lines[:-1]}, {"NOT TRIED: whole is not proved without it"})
 
     def test_a_crate_that_is_not_there_stops_it(self) -> None:
@@ -207,14 +211,14 @@ class AfterCi(unittest.TestCase):
             cls.runs = [said(top, "--after-ci")[0], said(top, "--after-ci")[0]]
 
     def test_all_say_the_same(self) -> None:
-        self.assertEqual([it[-1] for it in self.runs], ["3 passed, 2 failed"] * 2)
+        self.assertEqual([it[-1] for it in self.runs], ["4 passed, 2 failed"] * 2)
 
     def test_what_was_refused_is_not_tried_again(self) -> None:
-        for number, count in enumerate([0, 3]):
+        for number, count in enumerate([0, 4]):
             self.assertEqual(sum(it.endswith("(in an earlier run)") for it in self.runs[number]), count, self.runs[number])
 
     def test_what_was_not_refused_is_tried_again(self) -> None:
-        self.assertIn("whole: 2 of 5 wrong bodies in", self.runs[1][-2])
+        self.assertIn("whole: 2 of 6 wrong bodies in", self.runs[1][-2])
 
 
 class Groups(unittest.TestCase):

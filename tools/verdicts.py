@@ -21,15 +21,23 @@ def path_of(room: str, name: str) -> str:
     return f"{room}/proofs/{name.replace('::', '/')}"
 
 
-def is_started(edit: Edit) -> bool:
-    """Returns whether rattle can search for the function's proof alone, without those of what it calls: it is in no cycle, and
-    of its proof at most answers and invariants are given by hand."""
-    return not (edit.group or "").startswith("#") and not path.exists(f"{path_of(edit.crate.folder, edit.at)}/Proof.antt")
-
-
 def is_by_hand(edit: Edit) -> bool:
     """Returns whether a part of the function's proof is given by hand: where a search refuses nothing, a check decides."""
     return path.isdir(path_of(edit.crate.folder, edit.at))
+
+
+def adds_return(edit: Edit) -> bool:
+    """Returns whether the edited text has a way out more, whose goals nobody answered by hand."""
+    texts = re.findall(r"(?m)^(old|new): (.*)$", rt.rtlib.text_of(edit.path) or "")
+    count = lambda word: sum(len(re.findall(r"\breturn\b", text)) for it, text in texts if it == word)
+    return count("old") < count("new")
+
+
+def is_started(edit: Edit) -> bool:
+    """Returns whether rattle can search for the function's proof alone, without those of what it calls, and is likely to refuse
+    it: the function is in no cycle, and of its proof nothing is given by hand, or invariants and answers to other goals are."""
+    in_cycle, folder = (edit.group or "").startswith("#"), path_of(edit.crate.folder, edit.at)
+    return not in_cycle and not path.exists(f"{folder}/Proof.antt") and (not is_by_hand(edit) or adds_return(edit))
 
 
 def answered(edit: Edit) -> set[str]:

@@ -30,13 +30,24 @@ pub struct Taken {
 
 /// The rows that a subscription holds (ours). Contracts see them as a list by place, with the limit of
 /// their number, how many publications were missed at the limit, and for how many more rows there is room.
-#[derive(Drop)]
 pub struct Held {
     lanes: [Lane; 30],
     receivers: Receivers,
     limit: Option<u32>,
     missed: u64,
     room: usize,
+}
+
+impl Drop for Held {
+    fn drop(self) {
+        let Held {
+            lanes: _lanes,
+            receivers: _,
+            limit: _,
+            missed: _,
+            room: _,
+        } = self;
+    }
 }
 
 impl Model for Held {

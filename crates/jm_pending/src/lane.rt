@@ -24,7 +24,6 @@ use std::marker::Model;
 /// them back moves nothing. Three bounds spare walks: none of the first `low` rows waits, none from `high`
 /// on is out, and none that waits expires before `least`. Where the lane is steady, its rows expire in
 /// turn.
-#[derive(Drop)]
 pub(crate) struct Lane {
     rows: VecDeque<Row>,
     priority: u8,
@@ -32,6 +31,19 @@ pub(crate) struct Lane {
     high: usize,
     least: u64,
     steady: bool,
+}
+
+impl Drop for Lane {
+    fn drop(self) {
+        let Lane {
+            rows: _rows,
+            priority: _,
+            low: _,
+            high: _,
+            least: _,
+            steady: _,
+        } = self;
+    }
 }
 
 impl Model for Lane {

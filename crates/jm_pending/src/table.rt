@@ -30,9 +30,16 @@ impl Clone for Stored {
 /// Messages by the places of their publications (ours). Each stands once, beside the number of its
 /// holders, and goes with the last of them. Contracts see for each place the message and how many hold
 /// it, and `spare`, for how many more messages there is room.
-#[derive(Drop)]
 pub struct Table {
     messages: IndexMap<u64, Stored>,
+}
+
+impl Drop for Table {
+    fn drop(self) {
+        let Table {
+            messages: _messages,
+        } = self;
+    }
 }
 
 impl Model for Table {

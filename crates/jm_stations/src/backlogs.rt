@@ -20,12 +20,22 @@ use std::marker::Model;
 /// What is held under each key: rows by place, with the messages that they hold, of which each stands once
 /// (ours). Contracts see the list of what is held under each key, in order of creation, the place of the next
 /// publication, and for how many more messages and keys there is room.
-#[derive(Drop)]
 pub(crate) struct Backlogs {
     alloc: Global,
     lists: Vec<Held>,
     table: Table,
     next_place: u64,
+}
+
+impl Drop for Backlogs {
+    fn drop(self) {
+        let Backlogs {
+            alloc: _alloc,
+            lists: _lists,
+            table: _table,
+            next_place: _,
+        } = self;
+    }
 }
 
 impl Model for Backlogs {
@@ -144,10 +154,12 @@ impl Backlogs {
           list_room = copy.list_room;
         }) }
     {
+        let table = self.table.copy()?;
+        let lists = copies::copy_lists(self.alloc, self.lists.as_slice())?;
         Ok(Backlogs {
             alloc: self.alloc,
-            lists: copies::copy_lists(self.alloc, self.lists.as_slice())?,
-            table: self.table.copy()?,
+            lists,
+            table,
             next_place: self.next_place,
         })
     }

@@ -25,11 +25,20 @@ use std::marker::Model;
 /// What is held under each key, in order of creation, each found by its key (ours): rows by place, with the
 /// messages that they hold, of which each stands once. Contracts see the keys, what is held under each, the place
 /// of the next publication, and for how many more messages and keys there is room.
-#[derive(Drop)]
 pub struct Stations {
     alloc: Global,
     keys: IndexSet<Key>,
     backlogs: Backlogs,
+}
+
+impl Drop for Stations {
+    fn drop(self) {
+        let Stations {
+            alloc: _alloc,
+            keys: _keys,
+            backlogs: _backlogs,
+        } = self;
+    }
 }
 
 impl Model for Stations {
@@ -99,10 +108,12 @@ impl Stations {
           key_room = copy.key_room;
         }) }
     {
+        let backlogs = self.backlogs.copy()?;
+        let keys = copies::copy_keys(self.alloc, self.keys.as_slice())?;
         Ok(Stations {
             alloc: self.alloc,
-            keys: copies::copy_keys(self.alloc, self.keys.as_slice())?,
-            backlogs: self.backlogs.copy()?,
+            keys,
+            backlogs,
         })
     }
 

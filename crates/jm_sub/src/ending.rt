@@ -7,7 +7,7 @@ use jm_dest::Key;
 use jm_machine::{Attached, Consumers};
 
 /// Which subscriptions end with a change.
-#[derive(Drop)]
+#[derive(Clone, Copy)]
 pub(crate) enum Ending<'a> {
     /// Those that end once the consumers are closed, where so many active ones are left at each key.
     With(&'a Consumers, &'a Attached),

@@ -30,11 +30,20 @@ use std::marker::Model;
 
 /// The subscriptions in order of creation, each found by its key, and those of each topic by the table of topics. Contracts see the list of keys and
 /// definitions, and `spare`, for how many more there is room.
-#[derive(Drop)]
 pub struct Subs {
     alloc: Global,
     items: IndexMap<Key, Definition>,
     topics: Topics,
+}
+
+impl Drop for Subs {
+    fn drop(self) {
+        let Subs {
+            alloc: _alloc,
+            items: _items,
+            topics: _topics,
+        } = self;
+    }
 }
 
 impl Model for Subs {
@@ -123,8 +132,9 @@ fn put_last(items: &mut IndexMap<Key, Definition>, key: Key, created: Definition
 fn link(alloc: Global, key: &Key) -> Result<LinkedList<Key>, AllocError>
     ensures { IfOk result (λ keys. keys ≡ key.now ∷ []) }
 {
+    let key = key.copy()?;
     let mut keys = LinkedList::new(alloc);
-    keys.push_back(key.copy()?)?;
+    keys.push_back(key)?;
     Ok(keys)
 }
 
@@ -364,9 +374,8 @@ impl Subs {
         ensures room { OnOk result (0 < self.new.spare) }
         ensures unchanged { self.new.list ≡ self.old.list }
     {
-        let decision = Decision::new(self.alloc, key, created)?;
         self.reserve()?;
-        Ok(decision)
+        Decision::new(self.alloc, key, created)
     }
 
     /// Makes the change that was decided: the new subscription stands last, in place of any other of

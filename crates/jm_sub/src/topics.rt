@@ -15,10 +15,18 @@ use std::collections::LinkedList;
 /// The keys of the subscriptions of each topic, in order of creation, found by the topic. A topic without
 /// subscriptions has no entry. Keys are linked one behind the other, so that a key which has its memory
 /// already joins its topic without more.
-#[derive(Drop)]
 pub(crate) struct Topics {
     alloc: Global,
     entries: IndexMap<Name, LinkedList<Key>>,
+}
+
+impl Drop for Topics {
+    fn drop(self) {
+        let Topics {
+            alloc: _alloc,
+            entries: _entries,
+        } = self;
+    }
 }
 
 /// Takes the keys that end out, and leaves the others in their order. Takes no memory.

@@ -8,17 +8,17 @@ use Rattle.jm_stations.proofs.backlogs.Backlogs.copy.Goals as goal
 pub invariant_of-result : goal.invariant_of-result
 invariant_of-result c =
     let t = c.self.inside.table in
-    let t' = c.in_ok-copy.field-0 in
+    let t' = c.in_ok-table.table in
     let lists = c.self.inside.lists.items in
-    let copied : c.in_ok-copy_lists.field-0.items ≡ map without_room lists = c.in_ok-copy_lists.ensures ∙ ap (map without_room) c.as_slice.ensures.value in
-    rw copied (table_kept t t' c.self.inside.next_place (map without_room lists) c.in_ok-copy.ensures (copied_kept t c.self.inside.next_place lists c.self.invariant))
+    let copied : c.in_ok-lists.lists.items ≡ map without_room lists = c.in_ok-lists.ensures ∙ ap (map without_room) c.as_slice.ensures.value in
+    rw copied (table_kept t t' c.self.inside.next_place (map without_room lists) c.in_ok-table.ensures (copied_kept t c.self.inside.next_place lists c.self.invariant))
 
 pub returns : goal.returns
 returns c =
     let t = c.self.inside.table in
-    let t' = c.in_ok-copy.field-0 in
+    let t' = c.in_ok-table.table in
     let lists = c.self.inside.lists.items in
-    let copied : c.in_ok-copy_lists.field-0.items ≡ map without_room lists = c.in_ok-copy_lists.ensures ∙ ap (map without_room) c.as_slice.ensures.value in
-    let shown : all_shown t' c.in_ok-copy_lists.field-0.items ≡ map spec.without_room (all_shown t lists) =
-    ap (all_shown t') copied ∙ table_shown t t' (map without_room lists) c.in_ok-copy.ensures ∙ copied_shown t lists in
+    let copied : c.in_ok-lists.lists.items ≡ map without_room lists = c.in_ok-lists.ensures ∙ ap (map without_room) c.as_slice.ensures.value in
+    let shown : all_shown t' c.in_ok-lists.lists.items ≡ map spec.without_room (all_shown t lists) =
+    ap (all_shown t') copied ∙ table_shown t t' (map without_room lists) c.in_ok-table.ensures ∙ copied_shown t lists in
     rw (← c.self.view_is, shown) refl
