@@ -11,9 +11,14 @@ use std::hash::{Hash, Hasher};
 use std::marker::Model;
 
 /// A `String` that contracts see as its bytes, so that a copy equals what it copies.
-#[derive(Drop)]
 pub struct Str {
     text: String,
+}
+
+impl Drop for Str {
+    fn drop(self) {
+        let Str { text: _text } = self;
+    }
 }
 
 impl Model for Str {

@@ -8,9 +8,15 @@ use std::alloc::{AllocError, Global};
 use std::marker::Model;
 
 /// A name of 1 to 255 bytes of UTF-8, none below 0x20 and none 0x7F (ours).
-#[derive(Debug, PartialEq, Eq, Hash, Drop)]
+#[derive(Debug, PartialEq, Eq, Hash)]
 pub struct Name {
     text: Str,
+}
+
+impl Drop for Name {
+    fn drop(self) {
+        let Name { text: _text } = self;
+    }
 }
 
 impl Model for Name {
@@ -76,9 +82,17 @@ impl Name {
 }
 
 /// The client identifier of a connection (Jakarta Messaging 3.1, section 6.1.2): a name.
-#[derive(Debug, PartialEq, Eq, Hash, Drop)]
+#[derive(Debug, PartialEq, Eq, Hash)]
 pub struct ClientId {
     identifier: Name,
+}
+
+impl Drop for ClientId {
+    fn drop(self) {
+        let ClientId {
+            identifier: _identifier,
+        } = self;
+    }
 }
 
 impl Model for ClientId {
@@ -123,9 +137,15 @@ impl ClientId {
 }
 
 /// The name of a durable or shared subscription (Jakarta Messaging 3.1, section 4.2): a name.
-#[derive(Debug, PartialEq, Eq, Hash, Drop)]
+#[derive(Debug, PartialEq, Eq, Hash)]
 pub struct SubscriptionName {
     name: Name,
+}
+
+impl Drop for SubscriptionName {
+    fn drop(self) {
+        let SubscriptionName { name: _name } = self;
+    }
 }
 
 impl Model for SubscriptionName {

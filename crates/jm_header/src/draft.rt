@@ -15,10 +15,19 @@ use std::alloc::{AllocError, Global};
 use std::marker::Model;
 
 /// A message that is not sent yet.
-#[derive(Debug, PartialEq, Drop)]
+#[derive(Debug, PartialEq)]
 pub struct Draft {
     alloc: Global,
     settings: Settings,
+}
+
+impl Drop for Draft {
+    fn drop(self) {
+        let Draft {
+            alloc: _alloc,
+            settings: _settings,
+        } = self;
+    }
 }
 
 impl Model for Draft {

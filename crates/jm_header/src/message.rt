@@ -13,10 +13,19 @@ use std::alloc::{AllocError, Global};
 use std::marker::Model;
 
 /// A message that was stamped by its sending session (Jakarta Messaging 3.1, chapter 3).
-#[derive(Debug, PartialEq, Drop)]
+#[derive(Debug, PartialEq)]
 pub struct Message {
     alloc: Global,
     content: Content,
+}
+
+impl Drop for Message {
+    fn drop(self) {
+        let Message {
+            alloc: _alloc,
+            content: _content,
+        } = self;
+    }
 }
 
 impl Model for Message {

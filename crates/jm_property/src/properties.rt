@@ -13,9 +13,15 @@ use std::marker::Model;
 
 /// The properties of a message (Jakarta Messaging 3.1, section 3.5): distinct names with values, in
 /// the order in which they were first set.
-#[derive(Debug, Drop)]
+#[derive(Debug)]
 pub struct Properties {
     entries: IndexMap<String, Property>,
+}
+
+impl Drop for Properties {
+    fn drop(self) {
+        let Properties { entries: _entries } = self;
+    }
 }
 
 impl Model for Properties {
