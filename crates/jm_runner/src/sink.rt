@@ -1,4 +1,4 @@
-ghost use Rattle.std.specs.Prelude.{◌≡◌, ◌≤◌, ◌<◌, length, take, true, false, is_none, IfSome, OnSome, MatchOption};
+ghost use Rattle.std.specs.Prelude.{◌≡◌, ◌≤◌, ◌<◌, length, take, true, false, is_none, IfNone, IfSome, OnSome, MatchOption};
 ghost use Rattle.std.specs.Io.KnownBytes.{Appends, Keeps};
 ghost use Rattle.jm_runner.specs.Sink.{sink_contents};
 ghost use Rattle.jm_runner.specs.Sink as spec;
@@ -50,6 +50,7 @@ impl<W: Write> Sink<W> {
         ensures unmarked { OnSome result (spec.has_failed self.new ≡ spec.has_failed self.old) }
         ensures marked { spec.has_failed self.new ≡ is_none result }
         ensures unflushed { OnSome result (spec.is_flushed self.new ≡ false) }
+        ensures kept { IfNone result (spec.is_flushed self.new ≡ spec.is_flushed self.old) }
     {
         if !self.has_failed {
             if let Ok(count) = self.writer.write(bytes) {
@@ -69,6 +70,7 @@ impl<W: Write> Sink<W> {
         ensures unmarked { OnSome result (spec.has_failed self.new ≡ spec.has_failed self.old) }
         ensures marked { spec.has_failed self.new ≡ is_none result }
         ensures flushed { OnSome result (spec.is_flushed self.new ≡ true) }
+        ensures kept { IfNone result (spec.is_flushed self.new ≡ spec.is_flushed self.old) }
     {
         self.has_failed = self.has_failed || self.writer.flush().is_err();
         if self.has_failed {

@@ -265,10 +265,11 @@ fn order_of_reading(rt: HostRuntime) {
     holds(&rt, "a selector", !selector);
 }
 
-/// Takes that many bytes, and then fails.
+/// Takes that many bytes, and then fails; its flush fails where it is said so.
 #[derive(Drop)]
 struct FailingWriter {
     room: usize,
+    fails_flush: bool,
 }
 
 impl Write for FailingWriter {
@@ -282,14 +283,17 @@ impl Write for FailingWriter {
     }
 
     fn flush(&mut self) -> io::Result<()> {
+        if self.fails_flush {
+            return Err(io::Error::from(io::ErrorKind::BrokenPipe));
+        }
         Ok(())
     }
 }
 
-/// Whether the command tells no fault where its writer has that room: the status, and whether a write failed and all is
-/// flushed.
-fn written(alloc: Global, command: Command, room: usize) -> (u8, bool, bool) {
-    let mut sink = Sink::new(FailingWriter { room });
+/// Whether the command tells no fault where its writer has that room, and its flush fails or not: the status, and whether
+/// a write or the flush failed and all is flushed.
+fn written(alloc: Global, command: Command, room: usize, fails_flush: bool) -> (u8, bool, bool) {
+    let mut sink = Sink::new(FailingWriter { room, fails_flush });
     let mut source = Source::new(Ok(SCENARIO.as_bytes()));
     let ending = done(alloc, command, &mut source, &mut sink);
     let status = if ending.fault.is_none() {
@@ -306,17 +310,22 @@ fn failing_writes(rt: HostRuntime) {
         holds(
             &rt,
             "no room",
-            written(rt.alloc(), *command, 0) == (1, true, true),
+            written(rt.alloc(), *command, 0, false) == (1, true, true),
         );
         holds(
             &rt,
             "little room",
-            written(rt.alloc(), *command, 5) == (1, true, false),
+            written(rt.alloc(), *command, 5, false) == (1, true, false),
         );
         holds(
             &rt,
             "room",
-            written(rt.alloc(), *command, 1_000) == (0, false, true),
+            written(rt.alloc(), *command, 1_000, false) == (0, false, true),
+        );
+        holds(
+            &rt,
+            "room and no flush",
+            written(rt.alloc(), *command, 1_000, true) == (1, true, false),
         );
     }
 }
