@@ -76,11 +76,17 @@ length-more t i p e =
     let fields : length (concat (format.property_fields p)) ≡ 9 + length p.0 + length (format.property_value p.1) = omega (arith, length-append p.0 (format.property_tag p.1 ∷ (format.property_value p.1 ++ [])), length-append (format.property_value p.1) []) in
     omega (arith, ap length (written-more t i p e), length-append (written i t) (concat (format.property_fields p)), fields)
 
-pub length-record : (m : Content) → length (format.record m) ≡ 40 + length (format.block (format.name_of m.destination)) + length (concat (format.correlation m)) + length (concat (format.message_type m)) + length (concat (format.body m)) + (8 + length (concat (format.properties m)))
+-- the fields from the correlation on
+abbrev from_correlation : Content → List (List ℕ)
+from_correlation m = format.correlation m ++ (format.message_type m ++ (format.body m ++ format.property_count m ∷ format.properties m))
+
+pub length-record : (m : Content) → length (format.record m) ≡ 40 + length (concat (format.delivery_time m)) + length (format.block (format.name_of m.destination)) + length (concat (format.correlation m)) + length (concat (format.message_type m)) + length (concat (format.body m)) + (8 + length (concat (format.properties m)))
 unfolding «record»
 length-record m =
     omega (
       arith,
+      ap length (concat-append (format.delivery_time m) (format.mode m ∷ format.priority m ∷ format.destination_kind m ∷ format.destination_name m ∷ from_correlation m)),
+      length-append (concat (format.delivery_time m)) (concat (format.mode m ∷ format.priority m ∷ format.destination_kind m ∷ format.destination_name m ∷ from_correlation m)),
       length-append (format.name_of m.destination) (concat (format.correlation m ++ (format.message_type m ++ (format.body m ++ format.property_count m ∷ format.properties m)))),
       ap length (concat-append (format.correlation m) (format.message_type m ++ (format.body m ++ format.property_count m ∷ format.properties m))),
       length-append (concat (format.correlation m)) (concat (format.message_type m ++ (format.body m ++ format.property_count m ∷ format.properties m))),
@@ -104,19 +110,36 @@ pub then_fields : (out old : List ℕ) (fields more : List (List ℕ)) → IsWri
 then_fields out old fields more so_far e =
     e ∙ ap (λ (xs : List ℕ). xs ++ concat more) so_far ∙ sym (concat-append fields more)
 
+-- fields, two more and then others
+pub then_two : (out0 out1 out2 out3 a b : List ℕ) (fields more : List (List ℕ)) → IsWritten out0 fields → out1 ≡ out0 ++ a → out2 ≡ out1 ++ b → out3 ≡ out2 ++ concat more → IsWritten out3 (fields ++ a ∷ b ∷ more)
+then_two out0 out1 out2 out3 a b fields more so_far e1 e2 e3 =
+    then_fields out3 out2 ((fields ++ a ∷ []) ++ b ∷ []) more (then_field out2 out1 b (fields ++ a ∷ []) (then_field out1 out0 a fields so_far e1) e2) e3
+    ∙ ap (λ (xs : List (List ℕ)). concat (xs ++ more)) (append_assoc fields (a ∷ []) (b ∷ []))
+    ∙ ap concat (append_assoc fields (a ∷ b ∷ []) more)
+
 -- the fields in the order of writing are the fields of the record
 all_fields : (head c y b r : List (List ℕ)) → (((head ++ c) ++ y) ++ b) ++ r ≡ head ++ (c ++ (y ++ (b ++ r)))
 all_fields head c y b r =
     append_assoc ((head ++ c) ++ y) b r ∙ append_assoc (head ++ c) y (b ++ r) ∙ append_assoc head c (y ++ (b ++ r))
 
-pub is_record : (m : Content) (o8 o9 o10 o11 o12 : List ℕ) → IsWritten o8 (take 11 (format.fields m)) → o9 ≡ o8 ++ concat (format.correlation m) → o10 ≡ o9 ++ concat (format.message_type m) → o11 ≡ o10 ++ concat (format.body m) → o12 ≡ o11 ++ concat (format.table_fields m.properties) → o12 ≡ format.record m
+-- the fields up to the delivery time
+abbrev pub up_to_delivery_time : Content → List (List ℕ)
+up_to_delivery_time m = take 7 (format.fields m) ++ format.delivery_time m
+
+-- the fields from the delivery mode to the destination
+abbrev pub up_to_destination : Content → List (List ℕ)
+up_to_destination m = format.mode m ∷ format.priority m ∷ format.destination_kind m ∷ format.destination_name m ∷ []
+
+pub is_record : (m : Content) (o8 o9 o10 o11 o12 : List ℕ) → IsWritten o8 (up_to_delivery_time m ++ up_to_destination m) → o9 ≡ o8 ++ concat (format.correlation m) → o10 ≡ o9 ++ concat (format.message_type m) → o11 ≡ o10 ++ concat (format.body m) → o12 ≡ o11 ++ concat (format.table_fields m.properties) → o12 ≡ format.record m
 unfolding «record»
 is_record m o8 o9 o10 o11 o12 e8 e9 e10 e11 e12 =
     then_fields o12 o11 (((head ++ c) ++ y) ++ b) r (then_fields o11 o10 ((head ++ c) ++ y) b (then_fields o10 o9 (head ++ c) y (then_fields o9 o8 head c e8 e9) e10) e11) e12
     ∙ ap concat (all_fields head c y b r)
+    ∙ ap concat (append_assoc (up_to_delivery_time m) (up_to_destination m) (c ++ (y ++ (b ++ r))))
+    ∙ ap concat (append_assoc (take 7 (format.fields m)) (format.delivery_time m) (up_to_destination m ++ (c ++ (y ++ (b ++ r)))))
   where
     head : List (List ℕ)
-    head = take 11 (format.fields m)
+    head = up_to_delivery_time m ++ up_to_destination m
 
     c : List (List ℕ)
     c = format.correlation m

@@ -1,6 +1,7 @@
--- The record of a message, version 1: its fields in order, one after another. Numbers are big-endian. A text is
--- its length in 8 bytes and its UTF-8, which together are one field, and so are the bytes of a body.
-use Rattle.std.specs.Prelude.{ℕ, if◌then◌else◌, List, [], ◌∷◌, ◌++◌, length, Option, Some, None}
+-- The record of a message: its fields in order, one after another. A message without a delivery delay has one of version
+-- 1; a delayed one has one of version 2, in which the delivery time stands behind the expiration. Numbers are big-endian.
+-- A text is its length in 8 bytes and its UTF-8, which together are one field, and so are the bytes of a body.
+use Rattle.std.specs.Prelude.{ℕ, Bool, if◌then◌else◌, List, [], ◌∷◌, ◌++◌, length, Option, Some, None}
 use Rattle.std.specs.Int.{w8, w16, w32, w64, to_be_bytes, cast_unsigned}
 use Rattle.std.specs.List.{concat, flat_map}
 use Rattle.jm_dest.specs.declared.destination.Destination.{Destination}
@@ -11,6 +12,7 @@ use Rattle.jm_header.specs.declared.content.Content.{Content}
 use Rattle.jm_header.specs.declared.content.Sender.{Sender}
 use Rattle.jm_header.specs.declared.content.DeliveryMode.{DeliveryMode}
 use Rattle.jm_header.specs.declared.content.DeliveryMode.TheVariants.{Persistent, NonPersistent}
+use Rattle.jm_header.specs.Headers.{is_delayed}
 use Rattle.jm_property.specs.declared.property.Property.{Property}
 use Rattle.jm_property.specs.declared.property.Property.TheVariants.{Bool as Truth, Byte, Short, Int, Long, Text}
 use Rattle.jm_property.specs.Properties.{Table}
@@ -30,9 +32,13 @@ optional (Some text) = byte 1 ∷ block text ∷ []
 
 -- ---- the fields of a message
 
+-- the version of the record of a message that is delayed or not
+abbrev pub version_of : Bool → ℕ
+version_of delayed = if delayed then 2 else 1
+
 -- the version of the record
 abbrev pub version : Content → List ℕ
-version m = byte 1
+version m = byte (version_of (is_delayed m))
 
 -- the opening of the provider in which the message was sent
 abbrev pub opening : Content → List ℕ
@@ -62,6 +68,10 @@ timestamp m = to_be_bytes w64 m.timestamp
 -- JMSExpiration
 abbrev pub expiration : Content → List ℕ
 expiration m = to_be_bytes w64 m.expiration
+
+-- JMSDeliveryTime, which stands in the record of a delayed message alone
+abbrev pub delivery_time : Content → List (List ℕ)
+delivery_time m = if is_delayed m then to_be_bytes w64 m.delivery_time ∷ [] else []
 
 -- the byte of a delivery mode
 abbrev pub mode_byte : DeliveryMode → ℕ
@@ -159,9 +169,9 @@ table_fields table = to_be_bytes w64 (length table) ∷ flat_map property_fields
 -- the fields of a message's record, in order
 abbrev pub fields : Content → List (List ℕ)
 fields m =
-    version m ∷ opening m ∷ connection m ∷ session m ∷ number m ∷ timestamp m ∷ expiration m ∷ mode m ∷ priority m
-    ∷ destination_kind m ∷ destination_name m
-    ∷ (correlation m ++ (message_type m ++ (body m ++ property_count m ∷ properties m)))
+    version m ∷ opening m ∷ connection m ∷ session m ∷ number m ∷ timestamp m ∷ expiration m
+    ∷ (delivery_time m ++ mode m ∷ priority m ∷ destination_kind m ∷ destination_name m
+    ∷ (correlation m ++ (message_type m ++ (body m ++ property_count m ∷ properties m))))
 
 -- the record of a message: its fields in a row
 unfoldable pub «record» : Content → List ℕ

@@ -78,6 +78,7 @@ pub record IsMessage (m : Content) : Type 0 where
   pub sender : IsSender m.sender
   pub timestamp : m.timestamp < long_end
   pub expiration : m.expiration < long_end
+  pub delivery_time : m.delivery_time < long_end
   pub destination : IsName (name_of m.destination)
   pub correlation : IfSome m.correlation IsText
   pub message_type : IfSome m.message_type IsText

@@ -92,13 +92,22 @@ number w least most bytes = allowed_field (within least most) bytes (number_at w
 unfoldable pub moment_at : List ℕ → Option (ℕ × List ℕ)
 moment_at bytes = passing (λ n. nat_lt n long_end) (number_at w64 bytes)
 
--- a moment
-unfoldable pub moment : Rule ℕ
-moment bytes = allowed_field (λ _. true) bytes (moment_at bytes)
+-- JMSTimestamp in a record of that version: a moment, and in version 2 not the last one, since a delivery time is after it
+unfoldable pub timestamp : ℕ → Rule ℕ
+timestamp version bytes = allowed_field (λ n. version == 1 || nat_lt n (long_end - 1)) bytes (moment_at bytes)
 
 -- JMSExpiration, of a message of that JMSTimestamp: 0, or above it
 unfoldable pub expiration : ℕ → Rule ℕ
 expiration timestamp bytes = allowed_field (λ n. n == 0 || nat_lt timestamp n) bytes (moment_at bytes)
+
+-- a moment after that one
+unfoldable pub moment_after : ℕ → Rule ℕ
+moment_after moment bytes = allowed_field (λ n. nat_lt moment n) bytes (moment_at bytes)
+
+-- JMSDeliveryTime in a record of that version, of a message of that JMSTimestamp: in version 1 there is no field, and it is
+-- the timestamp; in version 2 a moment after it
+unfoldable pub delivery_time : ℕ → ℕ → Rule ℕ
+delivery_time version timestamp = if version == 1 then pure timestamp else moment_after timestamp
 
 -- a length and as many bytes
 unfoldable pub block : Rule (List ℕ)
@@ -199,20 +208,22 @@ pub record Head : Type 0 where
   pub number : ℕ
   pub timestamp : ℕ
   pub expiration : ℕ
+  pub delivery_time : ℕ
   pub mode : DeliveryMode
   pub priority : ℕ
 
 -- the version and these fields
 unfoldable pub head : Rule Head
 head =
-    byte 1 1 >>= λ _.
+    byte 1 2 >>= λ version.
     sender >>= λ by.
     number w64 1 (long_end - 1) >>= λ n.
-    moment >>= λ sent.
+    timestamp version >>= λ sent.
     expiration sent >>= λ ends.
+    delivery_time version sent >>= λ due.
     mode >>= λ how.
     byte 0 9 >>= λ rank.
-    pure (record { sender = by; number = n; timestamp = sent; expiration = ends; mode = how; priority = rank })
+    pure (record { sender = by; number = n; timestamp = sent; expiration = ends; delivery_time = due; mode = how; priority = rank })
 
 -- a message, which may be written
 unfoldable pub message : Rule Content
@@ -231,6 +242,7 @@ message =
       priority = first.priority;
       timestamp = first.timestamp;
       expiration = first.expiration;
+      delivery_time = first.delivery_time;
       correlation = correlation;
       message_type = message_type;
       body = content;

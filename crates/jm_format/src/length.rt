@@ -7,7 +7,7 @@ use jm_dest::Destination;
 use jm_header::{Body, Message};
 use jm_property::{Properties, Property};
 
-/// The bytes of the fields before the name of the destination.
+/// The bytes of the fields before the name of the destination, without a delivery time.
 const HEAD_LENGTH: usize = 40;
 
 /// The bytes of a length and of what is so long, or the most that there may be.
@@ -51,6 +51,13 @@ fn value_length(value: &Property) -> usize
     }
 }
 
+/// The bytes of the delivery time.
+fn delivery_time_length(message: &Message) -> usize
+    ensures { result ≡ length (concat (format.delivery_time message.now)) }
+{
+    if message.is_delayed() { 8 } else { 0 }
+}
+
 /// The bytes of the name of a destination.
 fn name_length(destination: &Destination) -> usize
     ensures { result ≡ min (length (format.block (format.name_of destination.now))) usize.MAX }
@@ -80,6 +87,7 @@ pub(crate) fn record_length(message: &Message) -> usize
     ensures { result ≡ min (length (format.record message.now)) usize.MAX }
 {
     HEAD_LENGTH
+        .saturating_add(delivery_time_length(message))
         .saturating_add(name_length(message.destination()))
         .saturating_add(optional_length(message.correlation()))
         .saturating_add(optional_length(message.message_type()))

@@ -2,6 +2,7 @@ ghost use Rattle.std.specs.Prelude.{◌≡◌, ◌<◌, ◌∷◌, ◌++◌, len
 ghost use Rattle.std.specs.Int.{w64, to_be_bytes};
 ghost use Rattle.std.specs.List.{concat, AllByRecursion};
 ghost use Rattle.jm_dest.specs.Numbers.{long_end};
+ghost use Rattle.jm_header.specs.Headers.{is_delayed};
 ghost use Rattle.jm_format.specs.Format as format;
 ghost use Rattle.jm_format.specs.Messages.{IsBlock, IsText, IsName, IsSender, IsBody, IsValue, IsProperty, AreProperties, IsMessage};
 
@@ -12,8 +13,11 @@ use jm_header::{Body, DeliveryMode, Message, Sender};
 use jm_property::{Properties, Property};
 use std::alloc::{AllocError, Global};
 
-/// The version of the records that are written and read.
+/// The version of the record of a message without a delivery delay.
 pub const VERSION: u8 = 1;
+
+/// The version of the record of a delayed message, which has a delivery time.
+pub const VERSION_DELAYED: u8 = 2;
 
 /// Adds a length and as many bytes.
 fn put_block(out: &mut Vec<u8>, bytes: &[u8]) -> Result<(), AllocError>
@@ -65,6 +69,29 @@ fn put_moment(out: &mut Vec<u8>, moment: Moment) -> Result<(), AllocError>
     ensures valid { OnOk result (moment < long_end) }
 {
     out.extend_from_slice(&moment.get().to_be_bytes())
+}
+
+/// The version of the record of the message.
+fn version(message: &Message) -> u8
+    ensures { result ≡ format.version_of (is_delayed message.now) }
+{
+    if message.is_delayed() {
+        VERSION_DELAYED
+    } else {
+        VERSION
+    }
+}
+
+/// Adds the delivery time, where the message is delayed.
+fn put_delivery_time(out: &mut Vec<u8>, message: &Message) -> Result<(), AllocError>
+    ensures written { OnOk result (out.new.items ≡ out.old.items ++ concat (format.delivery_time message.now)) }
+    ensures valid { OnOk result (message.now.delivery_time < long_end) }
+{
+    let delivery_time = message.delivery_time();
+    if message.is_delayed() {
+        return put_moment(out, delivery_time);
+    }
+    Ok(())
 }
 
 /// The byte of a delivery mode.
@@ -155,7 +182,8 @@ fn put_properties(out: &mut Vec<u8>, properties: &Properties) -> Result<(), Allo
     Ok(())
 }
 
-/// The record of the message, of version 1 (ours). Its read-only marks are no part of it.
+/// The record of the message (ours), of version 1, or of version 2 where it is delayed. Its read-only marks are no part of
+/// it.
 ///
 /// Its length is known, so room is asked for once. `AllocError` where that request for memory was refused.
 pub fn write_record(alloc: Global, message: &Message) -> Result<Vec<u8>, AllocError>
@@ -164,11 +192,12 @@ pub fn write_record(alloc: Global, message: &Message) -> Result<Vec<u8>, AllocEr
     ensures message { OnOk result (IsMessage message.now) }
 {
     let mut out = Vec::with_capacity(alloc, record_length(message))?;
-    out.push(VERSION)?;
+    out.push(version(message))?;
     put_sender(&mut out, message.sender())?;
     out.extend_from_slice(&message.number().to_be_bytes())?;
     put_moment(&mut out, message.timestamp())?;
     put_moment(&mut out, message.expiration())?;
+    put_delivery_time(&mut out, message)?;
     out.push(mode_byte(message.mode()))?;
     out.push(message.priority())?;
     put_destination(&mut out, message.destination())?;

@@ -81,12 +81,13 @@ content_same a b =
       priority = e.1.1.1.1.0 i;
       timestamp = e.1.1.1.1.1.0 i;
       expiration = e.1.1.1.1.1.1.0 i;
-      correlation = e.1.1.1.1.1.1.1.0 i;
-      message_type = e.1.1.1.1.1.1.1.1.0 i;
-      body = e.1.1.1.1.1.1.1.1.1.0 i;
-      properties = e.1.1.1.1.1.1.1.1.1.1.0 i;
-      is_body_read_only = e.1.1.1.1.1.1.1.1.1.1.1.0 i;
-      are_properties_read_only = e.1.1.1.1.1.1.1.1.1.1.1.1 i;
+      delivery_time = e.1.1.1.1.1.1.1.0 i;
+      correlation = e.1.1.1.1.1.1.1.1.0 i;
+      message_type = e.1.1.1.1.1.1.1.1.1.0 i;
+      body = e.1.1.1.1.1.1.1.1.1.1.0 i;
+      properties = e.1.1.1.1.1.1.1.1.1.1.1.0 i;
+      is_body_read_only = e.1.1.1.1.1.1.1.1.1.1.1.1.0 i;
+      are_properties_read_only = e.1.1.1.1.1.1.1.1.1.1.1.1.1 i;
     })
     (λ e. (
       ap (λ m. m.sender) e,
@@ -103,16 +104,19 @@ content_same a b =
                 (
                   ap (λ m. m.expiration) e,
                   (
-                    ap (λ m. m.correlation) e,
+                    ap (λ m. m.delivery_time) e,
                     (
-                      ap (λ m. m.message_type) e,
+                      ap (λ m. m.correlation) e,
                       (
-                        ap (λ m. m.body) e,
+                        ap (λ m. m.message_type) e,
                         (
-                          ap (λ m. m.properties) e,
+                          ap (λ m. m.body) e,
                           (
-                            ap (λ m. m.is_body_read_only) e,
-                            ap (λ m. m.are_properties_read_only) e,
+                            ap (λ m. m.properties) e,
+                            (
+                              ap (λ m. m.is_body_read_only) e,
+                              ap (λ m. m.are_properties_read_only) e,
+                            ),
                           ),
                         ),
                       ),
@@ -132,12 +136,13 @@ content_same a b =
     (Decides-and _ _ (Decides-eqb a.priority b.priority)
     (Decides-and _ _ (Decides-eqb a.timestamp b.timestamp)
     (Decides-and _ _ (Decides-eqb a.expiration b.expiration)
+    (Decides-and _ _ (Decides-eqb a.delivery_time b.delivery_time)
     (Decides-and _ _ (text_same a.correlation b.correlation)
     (Decides-and _ _ (text_same a.message_type b.message_type)
     (Decides-and _ _ (body_same a.body b.body)
     (Decides-and _ _ (table_same a.properties b.properties)
     (Decides-and _ _ (mark_same a.is_body_read_only b.is_body_read_only)
-    (mark_same a.are_properties_read_only b.are_properties_read_only)))))))))))))
+    (mark_same a.are_properties_read_only b.are_properties_read_only))))))))))))))
 
 pub settings_same : (a b : Settings) → Decides ((settings_eq.ghosts).eq a b) (a ≡ b)
 settings_same a b =
@@ -146,10 +151,11 @@ settings_same a b =
       mode = e.0 i;
       priority = e.1.0 i;
       time_to_live = e.1.1.0 i;
-      correlation = e.1.1.1.0 i;
-      message_type = e.1.1.1.1.0 i;
-      body = e.1.1.1.1.1.0 i;
-      properties = e.1.1.1.1.1.1 i;
+      delivery_delay = e.1.1.1.0 i;
+      correlation = e.1.1.1.1.0 i;
+      message_type = e.1.1.1.1.1.0 i;
+      body = e.1.1.1.1.1.1.0 i;
+      properties = e.1.1.1.1.1.1.1 i;
     })
     (λ e. (
       ap (λ s. s.mode) e,
@@ -158,12 +164,15 @@ settings_same a b =
         (
           ap (λ s. s.time_to_live) e,
           (
-            ap (λ s. s.correlation) e,
+            ap (λ s. s.delivery_delay) e,
             (
-              ap (λ s. s.message_type) e,
+              ap (λ s. s.correlation) e,
               (
-                ap (λ s. s.body) e,
-                ap (λ s. s.properties) e,
+                ap (λ s. s.message_type) e,
+                (
+                  ap (λ s. s.body) e,
+                  ap (λ s. s.properties) e,
+                ),
               ),
             ),
           ),
@@ -173,7 +182,8 @@ settings_same a b =
     (Decides-and _ _ (mode_same a.mode b.mode)
     (Decides-and _ _ (Decides-eqb a.priority b.priority)
     (Decides-and _ _ (Decides-eqb a.time_to_live b.time_to_live)
+    (Decides-and _ _ (Decides-eqb a.delivery_delay b.delivery_delay)
     (Decides-and _ _ (text_same a.correlation b.correlation)
     (Decides-and _ _ (text_same a.message_type b.message_type)
     (Decides-and _ _ (body_same a.body b.body)
-    (table_same a.properties b.properties)))))))
+    (table_same a.properties b.properties))))))))

@@ -39,6 +39,8 @@ pub struct Content {
     pub timestamp: Moment,
     /// JMSExpiration, where 0 means that the message does not expire.
     pub expiration: Moment,
+    /// JMSDeliveryTime, which is the timestamp where the message has no delay.
+    pub delivery_time: Moment,
     /// JMSCorrelationID.
     pub correlation: Option<Str>,
     /// JMSType.
@@ -62,6 +64,8 @@ pub struct Settings {
     pub priority: u8,
     /// The time to live in milliseconds, where 0 means that the message does not expire.
     pub time_to_live: u64,
+    /// The delivery delay in milliseconds.
+    pub delivery_delay: u64,
     /// JMSCorrelationID.
     pub correlation: Option<Str>,
     /// JMSType.
@@ -95,6 +99,7 @@ impl Content {
             priority: self.priority,
             timestamp: self.timestamp,
             expiration: self.expiration,
+            delivery_time: self.delivery_time,
             correlation: copy_text(&self.correlation)?,
             message_type: copy_text(&self.message_type)?,
             body: self.body.copy(alloc)?,
@@ -114,6 +119,7 @@ impl Settings {
             mode: self.mode,
             priority: self.priority,
             time_to_live: self.time_to_live,
+            delivery_delay: self.delivery_delay,
             correlation: copy_text(&self.correlation)?,
             message_type: copy_text(&self.message_type)?,
             body: self.body.copy(alloc)?,

@@ -44,7 +44,7 @@ impl Model for Draft {
 }
 
 impl Draft {
-    /// A draft without a body, PERSISTENT, of priority 4 and time to live 0. Takes no memory.
+    /// A draft without a body, PERSISTENT, of priority 4, time to live 0 and delivery delay 0. Takes no memory.
     pub fn new(alloc: Global) -> Draft
         ensures { result ≡ defaults }
     {
@@ -54,6 +54,7 @@ impl Draft {
                 mode: DeliveryMode::Persistent,
                 priority: 4,
                 time_to_live: 0,
+                delivery_delay: 0,
                 correlation: None,
                 message_type: None,
                 body: Body::None,
@@ -103,6 +104,21 @@ impl Draft {
             return Err(Refusal::OutOfRange);
         }
         self.settings.time_to_live = milliseconds as u64;
+        Ok(())
+    }
+
+    /// Sets the delivery delay in milliseconds: the message is held back so long after its send (Jakarta
+    /// Messaging 3.1, section 7.9). `OutOfRange` exactly where it is negative, and then the draft is as
+    /// before.
+    pub fn set_delivery_delay(&mut self, milliseconds: i64) -> Result<(), Refusal>
+        ensures { MatchResult result
+            (λ _. (self.new ≡ record self.old { delivery_delay = self.new.delivery_delay }) × (pos self.new.delivery_delay ≡ milliseconds))
+            (λ refusal. (self.new ≡ self.old) × (refusal ≡ OutOfRange) × (milliseconds <ℤ pos 0)) }
+    {
+        if milliseconds < 0 {
+            return Err(Refusal::OutOfRange);
+        }
+        self.settings.delivery_delay = milliseconds as u64;
         Ok(())
     }
 

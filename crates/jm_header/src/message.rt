@@ -1,5 +1,5 @@
 ghost use Rattle.std.specs.Prelude.{◌≡◌, ◌↔◌, [], IfOk, IsTrue, MatchResult, true, false, option_copied};
-ghost use Rattle.jm_header.specs.Headers.{IsExpired, body_fault, draft_of, property_fault};
+ghost use Rattle.jm_header.specs.Headers.{IsExpired, IsHeldBack, body_fault, draft_of, is_delayed, property_fault};
 ghost use Rattle.jm_header.specs.Valid.{IsValid};
 ghost use Rattle.jm_property.specs.Properties.{with_property, is_allowed};
 
@@ -100,6 +100,14 @@ impl Message {
         self.content.expiration
     }
 
+    /// JMSDeliveryTime, the moment of the send and the delivery delay together; never before the timestamp.
+    pub fn delivery_time(&self) -> Moment
+        ensures value { result ≡ self.now.delivery_time }
+        ensures valid { IsValid self.now }
+    {
+        self.content.delivery_time
+    }
+
     /// JMSCorrelationID, where it is set.
     pub fn correlation(&self) -> Option<&Str>
         ensures { option_copied result ≡ self.now.correlation }
@@ -135,6 +143,21 @@ impl Message {
     {
         let expiration = self.expiration().get();
         expiration != 0 && now.get() >= expiration
+    }
+
+    /// Whether the message has a delivery delay: its delivery time is after its timestamp. Takes no memory.
+    pub fn is_delayed(&self) -> bool
+        ensures { result ≡ is_delayed self.now }
+    {
+        self.timestamp().get() < self.delivery_time().get()
+    }
+
+    /// Whether the message is held back at that moment: it has a delivery delay, and its delivery time is later (Jakarta
+    /// Messaging 3.1, section 7.9). Takes no memory.
+    pub fn held_back(&self, now: Moment) -> bool
+        ensures { IsTrue result ↔ IsHeldBack self.now now }
+    {
+        self.is_delayed() && now.get() < self.delivery_time().get()
     }
 
     /// Makes the body and the properties read-only. Takes no memory.
@@ -209,7 +232,7 @@ impl Message {
     }
 
     /// A draft with the message's mode, priority, JMSCorrelationID, JMSType, body and properties, and
-    /// time to live 0. Takes no memory.
+    /// with time to live 0 and delivery delay 0. Takes no memory.
     pub fn into_draft(self) -> Draft
         ensures { result ≡ draft_of self }
     {
@@ -229,6 +252,7 @@ impl Message {
                 mode,
                 priority,
                 time_to_live: 0,
+                delivery_delay: 0,
                 correlation,
                 message_type,
                 body,

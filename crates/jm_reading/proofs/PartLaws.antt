@@ -1,8 +1,8 @@
 -- Each rule of a field or of a part of a message reads exactly its values, by their fields.
-use Rattle.std.proofs.Common.{◌≡◌, ℕ, zero, suc, ◌<◌, ◌≤◌, Bool, true, false, cond, ltb, leb, eqb, List, [], ◌∷◌, ◌++◌, length, Option, Some, None, refl, sym, ◌∙◌, ap, subst, arith, inl, inr}
+use Rattle.std.proofs.Common.{◌≡◌, ℕ, zero, suc, ◌-◌, ◌<◌, ◌≤◌, Bool, true, false, cond, ltb, leb, eqb, List, [], ◌∷◌, ◌++◌, length, Option, Some, None, refl, sym, ◌∙◌, ap, subst, arith, inl, inr}
 use Rattle.std.specs.Prelude.{IfSome, ◌||◌}
 use Rattle.std.specs.Int.{Width, w32, w64, to_be_bytes}
-use Rattle.std.proofs.lemmas.Bool.{and_parts, and_from, leb-true, le-leb, ltb-true, lt-ltb, eqb-true, eq-eqb, or_cases, cases_eq}
+use Rattle.std.proofs.lemmas.Bool.{and_parts, and_from, leb-true, le-leb, ltb-true, ltb-false, lt-ltb, le-ltb, eqb-true, eq-eqb, or_cases, cases_eq}
 use Rattle.std.proofs.lemmas.Str.{is_utf8-from_IsUtf8, IsUtf8-nil, IsUtf8-from_ascii}
 use Rattle.std.proofs.lemmas.Str.Ascii.{IsAscii-nil, IsAscii-cons}
 use Rattle.std.specs.Str.{IsAscii}
@@ -17,7 +17,7 @@ use Rattle.jm_header.specs.declared.content.DeliveryMode.TheVariants.{Persistent
 use Rattle.jm_format.specs.Limits.{number_end, length_end, greatest}
 use Rattle.jm_format.specs.Format as format
 use Rattle.jm_format.specs.Messages.{IsNumber, IsSender, IsBlock, IsText, IsName, IsBody}
-use Rattle.jm_format.specs.Reading.{within, byte, number, moment, expiration, block, text, name, sender, mode, destination, marked_text, optional_text, tagged_body, body}
+use Rattle.jm_format.specs.Reading.{pure, within, byte, number, timestamp, expiration, moment_after, delivery_time, block, text, name, sender, mode, destination, marked_text, optional_text, tagged_body, body}
 use Rattle.jm_reading.specs.Exact.{IsRead}
 use Rattle.jm_reading.proofs.Codec.{IsRead-pure, reads_then, reads_map, reads_same}
 use Rattle.jm_reading.proofs.FieldLaws.{IsRead-field, IsWide, wide32, byte_field, number_field, block_field, text_field, moment_field}
@@ -51,11 +51,21 @@ reads_number w limit wide least most h lt =
     reads_same (IsWithin least most) (λ n. to_be_bytes w n ∷ []) (λ n is. within-true least most n is.1) (λ n w. (omega (arith, w.high), within-from least most n w)) (λ n is. refl)
     (IsRead-field (λ n. n < limit) (to_be_bytes w) _ (within least most) (number_field w limit wide) least (omega arith, within-from least most least (first_within least most h)))
 
-pub reads_moment : IsRead (λ n. n < long_end) (λ n. to_be_bytes w64 n ∷ []) moment
-unfolding moment
-reads_moment =
-    reads_same (λ n. n < long_end) (λ n. to_be_bytes w64 n ∷ []) (λ n is. is.0) (λ n lt. (lt, refl)) (λ n is. refl)
-    (IsRead-field (λ n. n < long_end) (to_be_bytes w64) _ (λ _. true) moment_field 0 (omega arith, refl))
+pub or_left : (a b : Bool) → a ≡ true → (a || b) ≡ true
+or_left true b e = refl
+or_left false b e = absurd cc
+
+pub or_right : (a b : Bool) → b ≡ true → (a || b) ≡ true
+or_right true b e = refl
+or_right false b e = e
+
+-- a timestamp in a record of that version
+abbrev pub IsTimestamp : ℕ → ℕ → Type 0
+IsTimestamp version n = (n < long_end) × ((eqb version 1 || ltb n (long_end - 1)) ≡ true)
+
+pub reads_timestamp : (version : ℕ) → IsRead (IsTimestamp version) (λ n. to_be_bytes w64 n ∷ []) (timestamp version)
+unfolding timestamp
+reads_timestamp version = IsRead-field (λ n. n < long_end) (to_be_bytes w64) _ (λ n. eqb version 1 || ltb n (long_end - 1)) moment_field 0 (omega arith, or_right (eqb version 1) true refl)
 
 -- an expiration of a message of that timestamp
 pub record Expires (timestamp n : ℕ) : Type 0 where
@@ -69,14 +79,6 @@ expires-true timestamp n e some =
       | inr after ↦ ltb-true _ _ after
     ]
 
-pub or_left : (a b : Bool) → a ≡ true → (a || b) ≡ true
-or_left true b e = refl
-or_left false b e = absurd cc
-
-pub or_right : (a b : Bool) → b ≡ true → (a || b) ≡ true
-or_right true b e = refl
-or_right false b e = e
-
 expires-from : (timestamp n : ℕ) → ((n ≡ 0 → ⊥) → timestamp < n) → (eqb n 0 || ltb timestamp n) ≡ true
 expires-from timestamp n after =
     elim (cases_eq n 0) [
@@ -89,6 +91,48 @@ unfolding expiration
 reads_expiration timestamp =
     reads_same (Expires timestamp) (λ n. to_be_bytes w64 n ∷ []) (λ n is. record { below = is.0; after = expires-true timestamp n is.1 }) (λ n e. (e.below, expires-from timestamp n e.after)) (λ n is. refl)
     (IsRead-field (λ n. n < long_end) (to_be_bytes w64) _ (λ n. eqb n 0 || ltb timestamp n) moment_field 0 (omega arith, refl))
+
+-- the delivery time in a record of that version, of a message of that timestamp
+pub record Delivers (version timestamp n : ℕ) : Type 0 where
+  pub below : n < long_end
+  pub after : timestamp ≤ n
+  pub delayed : format.version_of (ltb timestamp n) ≡ version
+
+-- it is a field in version 2 alone
+abbrev pub delivery_fields : ℕ → ℕ → List (List ℕ)
+delivery_fields version n = cond (eqb version 1) [] (to_be_bytes w64 n ∷ [])
+
+version_1 : (b : Bool) → format.version_of b ≡ 1 → b ≡ false
+version_1 true e = absurd (omega (arith, e))
+version_1 false e = refl
+
+version_2 : (b : Bool) → format.version_of b ≡ 2 → b ≡ true
+version_2 true e = refl
+version_2 false e = absurd (omega (arith, e))
+
+-- in version 1 there is none, and it is the timestamp
+reads_no_delay : (timestamp : ℕ) → timestamp < long_end → IsRead (Delivers 1 timestamp) (λ n. []) (pure timestamp)
+reads_no_delay timestamp short =
+    IsRead-pure (Delivers 1 timestamp) (λ n. []) timestamp
+    (record { below = short; after = omega arith; delayed = ap format.version_of (le-ltb timestamp timestamp (omega arith)) })
+    (λ n is. omega (arith, is.after, ltb-false timestamp n (version_1 (ltb timestamp n) is.delayed)))
+    (λ n is. refl)
+
+-- in version 2 it is after the timestamp
+reads_delay : (timestamp : ℕ) → timestamp < long_end - 1 → IsRead (Delivers 2 timestamp) (λ n. to_be_bytes w64 n ∷ []) (moment_after timestamp)
+unfolding moment_after
+reads_delay timestamp early =
+    reads_same (Delivers 2 timestamp) (λ n. to_be_bytes w64 n ∷ [])
+    (λ n is. let after : timestamp < n = ltb-true timestamp n is.1 in record { below = is.0; after = omega (arith, after); delayed = ap format.version_of is.1 })
+    (λ n is. (is.below, version_2 (ltb timestamp n) is.delayed)) (λ n is. refl)
+    (IsRead-field (λ n. n < long_end) (to_be_bytes w64) _ (λ n. ltb timestamp n) moment_field (long_end - 1) (omega arith, lt-ltb timestamp (long_end - 1) early))
+
+pub reads_delivery_time : (version timestamp : ℕ) → IsWithin 1 2 version → IsTimestamp version timestamp → IsRead (Delivers version timestamp) (delivery_fields version) (delivery_time version timestamp)
+unfolding delivery_time
+reads_delivery_time zero timestamp h is = absurd (omega (arith, h.low))
+reads_delivery_time (suc zero) timestamp h is = reads_no_delay timestamp is.0
+reads_delivery_time (suc (suc zero)) timestamp h is = reads_delay timestamp (ltb-true timestamp (long_end - 1) is.1)
+reads_delivery_time (suc (suc (suc n))) timestamp h is = absurd (omega (arith, h.high))
 
 pub no_text : IsText []
 no_text = record { utf8 = is_utf8-from_IsUtf8 [] IsUtf8-nil; short = omega arith }

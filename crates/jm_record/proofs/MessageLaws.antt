@@ -1,7 +1,9 @@
 -- The rule of a message reads exactly the messages, by their fields.
-use Rattle.std.proofs.Common.{◌≡◌, ℕ, ◌+◌, ◌-◌, ◌<◌, ◌≤◌, false, List, [], ◌∷◌, ◌++◌, length, take, drop, Ok, Err, refl, sym, ◌∙◌, ap, subst, arith}
+use Rattle.std.proofs.Common.{◌≡◌, ℕ, ◌+◌, ◌-◌, ◌<◌, ◌≤◌, Bool, true, false, cond, ltb, eqb, List, [], ◌∷◌, ◌++◌, length, take, drop, Ok, Err, refl, sym, ◌∙◌, ap, subst, append_assoc, arith}
 use Rattle.std.specs.Int.{w32, w64, to_be_bytes}
 use Rattle.std.specs.List.{concat}
+use Rattle.std.specs.Prelude.{◌||◌}
+use Rattle.std.proofs.lemmas.Bool.{ltb-true, lt-ltb}
 use Rattle.std.proofs.lemmas.List.{append-nil, length-append, take_all}
 use Rattle.jm_dest.specs.Numbers.{long_end}
 use Rattle.jm_header.specs.declared.content.Content.{Content}
@@ -17,7 +19,7 @@ use Rattle.jm_format.specs.Reading.{Outcome, Head, and_then, end, head, message,
 use Rattle.jm_reading.specs.Exact.{left_of, IsRead}
 use Rattle.jm_reading.proofs.Codec.{IsRead-pure, reads_then, same_read, same_stop, read_is_no_stop}
 use Rattle.jm_reading.proofs.FieldLaws.{wide64}
-use Rattle.jm_reading.proofs.PartLaws.{Expires, reads_byte, reads_number, reads_moment, reads_expiration, reads_sender, reads_mode, reads_destination, reads_optional_text, reads_body}
+use Rattle.jm_reading.proofs.PartLaws.{Expires, IsWithin, IsTimestamp, Delivers, delivery_fields, or_right, reads_byte, reads_number, reads_timestamp, reads_expiration, reads_delivery_time, reads_sender, reads_mode, reads_destination, reads_optional_text, reads_body}
 use Rattle.jm_reading.proofs.PropertyLaws.{reads_properties}
 
 -- a message that may be written
@@ -32,15 +34,28 @@ head_of m = record {
   number = m.number;
   timestamp = m.timestamp;
   expiration = m.expiration;
+  delivery_time = m.delivery_time;
   mode = m.mode;
   priority = m.priority;
 }
 
+-- the version of the record of a message with these fields
+abbrev version_of : Head → ℕ
+version_of h = format.version_of (ltb h.timestamp h.delivery_time)
+
+-- the delivery time, where it is after the timestamp
+abbrev due_fields : Head → List (List ℕ)
+due_fields h = cond (ltb h.timestamp h.delivery_time) (to_be_bytes w64 h.delivery_time ∷ []) []
+
+-- the fields from the mode on
+abbrev from_mode : Head → List (List ℕ)
+from_mode h = format.byte (format.mode_byte h.mode) ∷ format.byte h.priority ∷ []
+
 abbrev head_fields : Head → List (List ℕ)
 head_fields h =
-    format.byte 1 ∷ to_be_bytes w32 h.sender.opening ∷ to_be_bytes w32 h.sender.session.connection ∷ to_be_bytes w32 h.sender.session.number
+    format.byte (version_of h) ∷ to_be_bytes w32 h.sender.opening ∷ to_be_bytes w32 h.sender.session.connection ∷ to_be_bytes w32 h.sender.session.number
     ∷ to_be_bytes w64 h.number ∷ to_be_bytes w64 h.timestamp ∷ to_be_bytes w64 h.expiration
-    ∷ format.byte (format.mode_byte h.mode) ∷ format.byte h.priority ∷ []
+    ∷ (due_fields h ++ from_mode h)
 
 pub record IsHead (h : Head) : Type 0 where
   pub sender : IsSender h.sender
@@ -48,49 +63,58 @@ pub record IsHead (h : Head) : Type 0 where
   pub numbered : h.number < long_end
   pub timestamp : h.timestamp < long_end
   pub expires : Expires h.timestamp h.expiration
+  pub delivers : Delivers (version_of h) h.timestamp h.delivery_time
   pub priority : h.priority ≤ 9
+
+a_version : (b : Bool) → IsWithin 1 2 (format.version_of b)
+a_version true = record { low = omega arith; high = omega arith }
+a_version false = record { low = omega arith; high = omega arith }
+
+-- a delivery time is after the timestamp of a delayed message, which so is not the last moment
+in_time : (timestamp n : ℕ) → n < long_end → (b : Bool) → ltb timestamp n ≡ b → (eqb (format.version_of b) 1 || ltb timestamp (long_end - 1)) ≡ true
+in_time timestamp n below true e =
+    let after : timestamp < n = ltb-true timestamp n e in
+    lt-ltb timestamp (long_end - 1) (omega (arith, below, after))
+in_time timestamp n below false e = refl
+
+is_timestamp : (h : Head) (v : ℕ) → IsHead h → version_of h ≡ v → IsTimestamp v h.timestamp
+is_timestamp h v is e =
+    subst (λ (n : ℕ). IsTimestamp n h.timestamp) e (is.timestamp, in_time h.timestamp h.delivery_time is.delivers.below (ltb h.timestamp h.delivery_time) refl)
+
+is_delivered : (h : Head) (v sent : ℕ) → IsHead h → version_of h ≡ v → h.timestamp ≡ sent → Delivers v sent h.delivery_time
+is_delivered h v sent is e f = subst (λ (n : ℕ). Delivers v n h.delivery_time) f (subst (λ (n : ℕ). Delivers n h.timestamp h.delivery_time) e is.delivers)
+
+same_due : (b : Bool) (due : List ℕ) → cond b (due ∷ []) [] ≡ cond (eqb (format.version_of b) 1) [] (due ∷ [])
+same_due true due = refl
+same_due false due = refl
+
+splits_due : (h : Head) (v : ℕ) → version_of h ≡ v → due_fields h ++ from_mode h ≡ delivery_fields v h.delivery_time ++ from_mode h
+splits_due h v e =
+    ap (λ (xs : List (List ℕ)). xs ++ from_mode h) (same_due (ltb h.timestamp h.delivery_time) (to_be_bytes w64 h.delivery_time) ∙ ap (λ (n : ℕ). delivery_fields n h.delivery_time) e)
 
 reads_head : IsRead IsHead head_fields head
 unfolding head
 reads_head =
-    reads_then (λ h. 1) (λ h. drop 1 (head_fields h)) (λ h is. record { low = omega arith; high = omega arith }) (λ h is. refl) (reads_byte 1 1 (omega arith)) (λ v v_is.
+    reads_then version_of (λ h. drop 1 (head_fields h)) (λ h is. a_version (ltb h.timestamp h.delivery_time)) (λ h is. refl) (reads_byte 1 2 (omega arith)) (λ v v_is.
     reads_then (λ h. h.sender) (λ h. drop 4 (head_fields h)) (λ h is. is.0.sender) (λ h is. refl) reads_sender (λ by by_is.
     reads_then (λ h. h.number) (λ h. drop 5 (head_fields h)) (λ h is. record { low = is.0.0.counted; high = omega (arith, is.0.0.numbered) }) (λ h is. refl) (reads_number w64 length_end wide64 1 (long_end - 1) (omega arith) (omega arith)) (λ n n_is.
-    reads_then (λ h. h.timestamp) (λ h. drop 6 (head_fields h)) (λ h is. is.0.0.0.timestamp) (λ h is. refl) reads_moment (λ sent sent_is.
+    reads_then (λ h. h.timestamp) (λ h. drop 6 (head_fields h)) (λ h is. is_timestamp h v is.0.0.0 is.0.0.1) (λ h is. refl) (reads_timestamp v) (λ sent sent_is.
     reads_then (λ h. h.expiration) (λ h. drop 7 (head_fields h)) (λ h is. subst (λ (n : ℕ). Expires n h.expiration) is.1 is.0.0.0.0.expires) (λ h is. refl) (reads_expiration sent) (λ ends ends_is.
-    reads_then (λ h. h.mode) (λ h. drop 8 (head_fields h)) (λ h is. tt) (λ h is. refl) reads_mode (λ how how_is.
-    reads_then (λ h. h.priority) (λ h. []) (λ h is. record { low = omega arith; high = is.0.0.0.0.0.0.priority }) (λ h is. refl) (reads_byte 0 9 (omega arith)) (λ rank rank_is.
-    IsRead-pure _ _ (record { sender = by; number = n; timestamp = sent; expiration = ends; mode = how; priority = rank }) (
-      (
-        (
-          (
-            (
-              (
-                (
-                  record { sender = by_is; counted = n_is.low; numbered = omega (arith, n_is.high); timestamp = sent_is; expires = ends_is; priority = rank_is.high },
-                  let only : 1 ≡ v = omega (arith, v_is.low, v_is.high) in only,
-                ),
-                refl,
-              ),
-              refl,
-            ),
-            refl,
-          ),
-          refl,
-        ),
-        refl,
-      ),
-      refl,
-    )
+    reads_then (λ h. h.delivery_time) from_mode (λ h is. is_delivered h v sent is.0.0.0.0.0 is.0.0.0.0.1 is.0.1) (λ h is. splits_due h v is.0.0.0.0.1) (reads_delivery_time v sent v_is sent_is) (λ due due_is.
+    reads_then (λ h. h.mode) (λ h. drop 1 (from_mode h)) (λ h is. tt) (λ h is. refl) reads_mode (λ how how_is.
+    reads_then (λ h. h.priority) (λ h. []) (λ h is. record { low = omega arith; high = is.0.0.0.0.0.0.0.priority }) (λ h is. refl) (reads_byte 0 9 (omega arith)) (λ rank rank_is.
+    IsRead-pure _ _ (record { sender = by; number = n; timestamp = sent; expiration = ends; delivery_time = due; mode = how; priority = rank })
+    ((((((((record { sender = by_is; counted = n_is.low; numbered = omega (arith, n_is.high); timestamp = sent_is.0; expires = ends_is; delivers = record { below = due_is.below; after = due_is.after; delayed = refl }; priority = rank_is.high }, due_is.delayed), refl), refl), refl), refl), refl), refl), refl)
     (λ h is. λ i. record {
-      sender = is.0.0.0.0.0.1 i;
-      number = is.0.0.0.0.1 i;
-      timestamp = is.0.0.0.1 i;
-      expiration = is.0.0.1 i;
+      sender = is.0.0.0.0.0.0.1 i;
+      number = is.0.0.0.0.0.1 i;
+      timestamp = is.0.0.0.0.1 i;
+      expiration = is.0.0.0.1 i;
+      delivery_time = is.0.0.1 i;
       mode = is.0.1 i;
       priority = is.1 i;
     })
-    (λ h is. refl))))))))
+    (λ h is. refl)))))))))
 
 head_is : (m : Content) → IsMessage m → IsHead (head_of m)
 head_is m is = record {
@@ -99,6 +123,7 @@ head_is m is = record {
   numbered = is.valid.numbered;
   timestamp = is.timestamp;
   expires = record { below = is.expiration; after = is.valid.expires };
+  delivers = record { below = is.delivery_time; after = is.valid.delivered; delayed = refl };
   priority = is.valid.priority;
 }
 
@@ -112,11 +137,24 @@ from_body m = format.body m ++ format.property_count m ∷ format.properties m
 abbrev from_count : Content → List (List ℕ)
 from_count m = format.property_count m ∷ format.properties m
 
+-- the fields from the correlation on
+abbrev from_correlation : Content → List (List ℕ)
+from_correlation m = format.correlation m ++ from_type m
+
+-- the fields from the destination on
+abbrev from_destination : Content → List (List ℕ)
+from_destination m = format.destination_kind m ∷ format.destination_name m ∷ from_correlation m
+
+splits_head : (m : Content) → format.fields m ≡ head_fields (head_of m) ++ from_destination m
+splits_head m =
+    ap (λ (xs : List (List ℕ)). format.version m ∷ format.opening m ∷ format.connection m ∷ format.session m ∷ format.number m ∷ format.timestamp m ∷ format.expiration m ∷ xs)
+    (sym (append_assoc (format.delivery_time m) (from_mode (head_of m)) (from_destination m)))
+
 pub reads_message : IsRead IsRest format.fields message
 unfolding message
 reads_message =
-    reads_then head_of (λ m. drop 9 (format.fields m)) (λ m is. head_is m is.message) (λ m is. refl) reads_head (λ h h_is.
-    reads_then (λ m. m.destination) (λ m. drop 11 (format.fields m)) (λ m is. is.0.message.destination) (λ m is. refl) reads_destination (λ to to_is.
+    reads_then head_of from_destination (λ m is. head_is m is.message) (λ m is. splits_head m) reads_head (λ h h_is.
+    reads_then (λ m. m.destination) from_correlation (λ m is. is.0.message.destination) (λ m is. refl) reads_destination (λ to to_is.
     reads_then (λ m. m.correlation) from_type (λ m is. is.0.0.message.correlation) (λ m is. refl) reads_optional_text (λ correlation correlation_is.
     reads_then (λ m. m.message_type) from_body (λ m is. is.0.0.0.message.message_type) (λ m is. refl) reads_optional_text (λ message_type type_is.
     reads_then (λ m. m.body) from_count (λ m is. is.0.0.0.0.message.body) (λ m is. refl) reads_body (λ content content_is.
@@ -129,6 +167,7 @@ reads_message =
       priority = h.priority;
       timestamp = h.timestamp;
       expiration = h.expiration;
+      delivery_time = h.delivery_time;
       correlation = correlation;
       message_type = message_type;
       body = content;
@@ -143,10 +182,11 @@ reads_message =
               (
                 record {
                   message = record {
-                    valid = record { counted = h_is.counted; numbered = h_is.numbered; priority = h_is.priority; expires = h_is.expires.after };
+                    valid = record { counted = h_is.counted; numbered = h_is.numbered; priority = h_is.priority; expires = h_is.expires.after; delivered = h_is.delivers.after };
                     sender = h_is.sender;
                     timestamp = h_is.timestamp;
                     expiration = h_is.expires.below;
+                    delivery_time = h_is.delivers.below;
                     destination = to_is;
                     correlation = correlation_is;
                     message_type = type_is;
@@ -175,6 +215,7 @@ reads_message =
       priority = (is.0.0.0.0.0.1 i).priority;
       timestamp = (is.0.0.0.0.0.1 i).timestamp;
       expiration = (is.0.0.0.0.0.1 i).expiration;
+      delivery_time = (is.0.0.0.0.0.1 i).delivery_time;
       correlation = is.0.0.0.1 i;
       message_type = is.0.0.1 i;
       body = is.0.1 i;
@@ -189,10 +230,11 @@ reads_message =
 rest_of : (m : Content) → IsMessage m → IsRest (writeable m)
 rest_of m is = record {
   message = record {
-    valid = record { counted = is.valid.counted; numbered = is.valid.numbered; priority = is.valid.priority; expires = is.valid.expires };
+    valid = record { counted = is.valid.counted; numbered = is.valid.numbered; priority = is.valid.priority; expires = is.valid.expires; delivered = is.valid.delivered };
     sender = is.sender;
     timestamp = is.timestamp;
     expiration = is.expiration;
+    delivery_time = is.delivery_time;
     destination = is.destination;
     correlation = is.correlation;
     message_type = is.message_type;

@@ -9,6 +9,7 @@ seen_head head = record {
   number = head.number;
   timestamp = head.timestamp;
   expiration = head.expiration;
+  delivery_time = head.delivery_time;
   mode = head.mode;
   priority = head.priority;
 }

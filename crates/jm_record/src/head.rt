@@ -8,6 +8,7 @@ pub(crate) struct Head {
     pub(crate) number: u64,
     pub(crate) timestamp: Moment,
     pub(crate) expiration: Moment,
+    pub(crate) delivery_time: Moment,
     pub(crate) mode: DeliveryMode,
     pub(crate) priority: u8,
 }

@@ -1,5 +1,5 @@
-//! The record of a message: the bytes that a store keeps of it, version 1 (ours), written and read. The writing
-//! is given out again.
+//! The record of a message: the bytes that a store keeps of it, version 1, or 2 where it is delayed (ours), written and
+//! read. The writing is given out again.
 #![tactic(auto)]
 
 mod fault;

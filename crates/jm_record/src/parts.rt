@@ -7,8 +7,8 @@ use crate::fault::Fault;
 use crate::head::Head;
 use crate::reader::Reader;
 use jm_base::{List, Str};
-use jm_dest::{ConnectionId, Destination, Number, SessionId};
-use jm_format::VERSION;
+use jm_dest::{ConnectionId, Destination, Moment, Number, SessionId};
+use jm_format::{VERSION, VERSION_DELAYED};
 use jm_header::{Body, Content, DeliveryMode, Sender};
 use jm_property::{Properties, Property};
 use std::alloc::Global;
@@ -150,16 +150,29 @@ impl<'a> Reader<'a> {
         self.so_many_properties(alloc, count)
     }
 
+    /// The delivery time in a record of that version, of a message of that timestamp: the timestamp where the version has
+    /// none, else a moment after it.
+    #[tactic(auto, unfolding(jm_format::specs::Reading::delivery_time))]
+    fn delivery_time(&mut self, version: u8, timestamp: Moment) -> Result<Moment, Fault>
+        ensures { Reads (λ moment. moment) (spec.delivery_time version timestamp self.old) result self.new }
+    {
+        if version == VERSION {
+            return Ok(timestamp);
+        }
+        self.moment_after(timestamp)
+    }
+
     /// The version and the fields up to JMSPriority.
     #[tactic(auto, unfolding(jm_format::specs::Reading::head))]
     fn head(&mut self) -> Result<Head, Fault>
         ensures { Reads seen_head (spec.head self.old) result self.new }
     {
-        self.byte(VERSION, VERSION)?;
+        let version = self.byte(VERSION, VERSION_DELAYED)?;
         let sender = self.sender()?;
         let number = self.long(1, NUMBER_MAX)?;
-        let timestamp = self.moment()?;
+        let timestamp = self.timestamp(version)?;
         let expiration = self.expiration(timestamp)?;
+        let delivery_time = self.delivery_time(version, timestamp)?;
         let mode = self.mode()?;
         let priority = self.byte(0, 9)?;
         Ok(Head {
@@ -167,6 +180,7 @@ impl<'a> Reader<'a> {
             number,
             timestamp,
             expiration,
+            delivery_time,
             mode,
             priority,
         })
@@ -191,6 +205,7 @@ impl<'a> Reader<'a> {
             priority: head.priority,
             timestamp: head.timestamp,
             expiration: head.expiration,
+            delivery_time: head.delivery_time,
             correlation,
             message_type,
             body,

@@ -7,10 +7,13 @@ ghost use Rattle.jm_record.specs.Faults.{Reads};
 
 use crate::fault::Fault;
 use jm_dest::{Moment, Name};
-use jm_format::{block_at, byte_at, moment_at, text_at, u16_at, u32_at, u64_at};
+use jm_format::{VERSION, block_at, byte_at, moment_at, text_at, u16_at, u32_at, u64_at};
 use jm_property::{Properties, is_settable};
 use std::alloc::Global;
 use std::marker::Model;
+
+/// The last moment.
+const MOMENT_MAX: u64 = 0x7fff_ffff_ffff_ffff;
 
 /// What is left of the bytes of a record.
 ///
@@ -114,17 +117,17 @@ impl<'a> Reader<'a> {
         }
     }
 
-    /// A moment.
-    #[tactic(auto, unfolding(jm_format::specs::Reading::moment))]
-    pub(crate) fn moment(&mut self) -> Result<Moment, Fault>
-        ensures { Reads (λ moment. moment) (spec.moment self.old) result self.new }
+    /// The timestamp in a record of that version; in version 2 not the last moment, since a delivery time is after it.
+    #[tactic(auto, unfolding(jm_format::specs::Reading::timestamp))]
+    pub(crate) fn timestamp(&mut self, version: u8) -> Result<Moment, Fault>
+        ensures { Reads (λ moment. moment) (spec.timestamp version self.old) result self.new }
     {
         match moment_at(self.rest) {
-            Some((moment, rest)) => {
+            Some((moment, rest)) if version == VERSION || moment.get() < MOMENT_MAX => {
                 self.rest = rest;
                 Ok(moment)
             }
-            None => Err(Fault::Damaged),
+            _ => Err(Fault::Damaged),
         }
     }
 
@@ -135,6 +138,20 @@ impl<'a> Reader<'a> {
     {
         match moment_at(self.rest) {
             Some((moment, rest)) if moment.get() == 0 || timestamp.get() < moment.get() => {
+                self.rest = rest;
+                Ok(moment)
+            }
+            _ => Err(Fault::Damaged),
+        }
+    }
+
+    /// A moment after that one.
+    #[tactic(auto, unfolding(jm_format::specs::Reading::moment_after))]
+    pub(crate) fn moment_after(&mut self, earlier: Moment) -> Result<Moment, Fault>
+        ensures { Reads (λ moment. moment) (spec.moment_after earlier self.old) result self.new }
+    {
+        match moment_at(self.rest) {
+            Some((moment, rest)) if earlier.get() < moment.get() => {
                 self.rest = rest;
                 Ok(moment)
             }

@@ -10,8 +10,8 @@ use crate::reader::Reader;
 use jm_header::Message;
 use std::alloc::Global;
 
-/// The message of which the bytes are the record, of version 1 (ours); its body and properties may be
-/// written.
+/// The message of which the bytes are the record (ours), of version 1, or of version 2 where it is delayed; its body and
+/// properties may be written.
 ///
 /// `Damaged` exactly where the bytes are no message's record, with the offset at which the first field
 /// begins that is cut or not allowed, or that of the first byte after the end; else `Memory` where a request

@@ -65,10 +65,11 @@ impl SessionHalf {
     }
 
     /// Sends the draft to the destination at that moment. In a transacted session the message is kept for the commit, and
-    /// its number told; in any other it is handed out, to be published. `IllegalState` after `close`; else `OutOfRange`
-    /// where the timestamp and the time to live together are past 9,223,372,036,854,775,807; else `Exhausted` where so
-    /// many sends were made already; else `Memory` where a request for memory was refused, which comes in a transacted
-    /// session alone. After any of them all is as before, but that the draft is dropped.
+    /// its number told; in any other it is handed out, to be published. Its time to live and its delivery delay count from
+    /// that moment, and not from the commit (Jakarta Messaging 3.1, section 7.9). `IllegalState` after `close`; else
+    /// `OutOfRange` where the moment is past 9,223,372,036,854,775,807 together with the time to live, or with the delivery
+    /// delay; else `Exhausted` where so many sends were made already; else `Memory` where a request for memory was refused,
+    /// which comes in a transacted session alone. After any of them all is as before, but that the draft is dropped.
     pub fn send(
         &mut self,
         draft: Draft,

@@ -38,10 +38,10 @@ impl Halves {
 
     /// Sends the draft to the destination at that moment, as the sender, whose session is open in that mode. In mode
     /// `Transacted` the message is kept for the commit, and its number told; in any other it is handed out, to be
-    /// published. `OutOfRange` where the timestamp and the time to live together are past 9,223,372,036,854,775,807; else
-    /// `Exhausted` where the session made so many sends already; else `Memory` where a request for memory was refused,
-    /// which comes in mode `Transacted`, and at a session's first send where there is no room. After any of them all is
-    /// as before, but that the draft is dropped.
+    /// published. `OutOfRange` where the moment is past 9,223,372,036,854,775,807 together with the time to live, or with
+    /// the delivery delay; else `Exhausted` where the session made so many sends already; else `Memory` where a request for
+    /// memory was refused, which comes in mode `Transacted`, and at a session's first send where there is no room. After
+    /// any of them all is as before, but that the draft is dropped.
     pub fn send(
         &mut self,
         sender: Sender,

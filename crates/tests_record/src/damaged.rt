@@ -15,7 +15,7 @@ static STARTS: [usize; 43] = [
 /// A place, a byte that makes a number, a mark or a tag there one that is not allowed, and where that is told.
 static NUMBERS: [(usize, u8, usize); 22] = [
     (0, 0, 0),
-    (0, 2, 0),
+    (0, 3, 0),
     (4, 0, 1),
     (8, 0, 5),
     (12, 0, 9),

@@ -1,4 +1,4 @@
-//! Drafts and messages: stamps, header fields, expiry, and what is read-only.
+//! Drafts and messages: stamps, header fields, expiry, delivery delay, and what is read-only.
 
 use crate::told::{holds, is_truth};
 use jm_base::{MessageFault, Refusal, Str};
@@ -12,6 +12,7 @@ use std::alloc::{AllocError, Global};
 struct Send {
     priority: u8,
     time_to_live: i64,
+    delivery_delay: i64,
     number: u64,
     now: i64,
 }
@@ -19,6 +20,7 @@ struct Send {
 const FIRST: Send = Send {
     priority: 4,
     time_to_live: 0,
+    delivery_delay: 0,
     number: 1,
     now: 1000,
 };
@@ -32,7 +34,8 @@ fn sender() -> Result<Sender, Refusal> {
 
 fn set(draft: &mut Draft, send: Send) -> Result<(), Refusal> {
     draft.set_priority(send.priority)?;
-    draft.set_time_to_live(send.time_to_live)
+    draft.set_time_to_live(send.time_to_live)?;
+    draft.set_delivery_delay(send.delivery_delay)
 }
 
 /// A message. It is dropped by one call, so that a function with several ways out does not drop a message, field by
@@ -88,17 +91,18 @@ fn sent(alloc: Global, send: Send) -> Result<HeldMessage, Refusal> {
     }
 }
 
-/// The priority, the number, the timestamp and the expiration.
-fn numbers(message: &Message) -> [u64; 4] {
+/// The priority, the number, the timestamp, the expiration and the delivery time.
+fn numbers(message: &Message) -> [u64; 5] {
     [
         u64::from(message.priority()),
         message.number(),
         message.timestamp().get(),
         message.expiration().get(),
+        message.delivery_time().get(),
     ]
 }
 
-fn numbers_of(alloc: Global, send: Send) -> Result<[u64; 4], Refusal> {
+fn numbers_of(alloc: Global, send: Send) -> Result<[u64; 5], Refusal> {
     match sent(alloc, send) {
         Ok(sent) => Ok(numbers(&sent.message)),
         Err(refusal) => Err(refusal),
@@ -107,22 +111,22 @@ fn numbers_of(alloc: Global, send: Send) -> Result<[u64; 4], Refusal> {
 
 const LAST: u64 = 9223372036854775807;
 
-/// Sends, and the priority, the number, the timestamp and the expiration of each.
-static SENDS: [(Send, Result<[u64; 4], Refusal>); 10] = [
-    (FIRST, Ok([4, 1, 1000, 0])),
+/// Sends, and the priority, the number, the timestamp, the expiration and the delivery time of each.
+static SENDS: [(Send, Result<[u64; 5], Refusal>); 15] = [
+    (FIRST, Ok([4, 1, 1000, 0, 1000])),
     (
         Send {
             priority: 0,
             ..FIRST
         },
-        Ok([0, 1, 1000, 0]),
+        Ok([0, 1, 1000, 0, 1000]),
     ),
     (
         Send {
             priority: 9,
             ..FIRST
         },
-        Ok([9, 1, 1000, 0]),
+        Ok([9, 1, 1000, 0, 1000]),
     ),
     (
         Send {
@@ -138,7 +142,7 @@ static SENDS: [(Send, Result<[u64; 4], Refusal>); 10] = [
             time_to_live: 5,
             ..FIRST
         },
-        Ok([4, LAST, 1000, 1005]),
+        Ok([4, LAST, 1000, 1005, 1000]),
     ),
     (
         Send {
@@ -152,7 +156,7 @@ static SENDS: [(Send, Result<[u64; 4], Refusal>); 10] = [
             now: i64::MAX,
             ..FIRST
         },
-        Ok([4, 1, LAST, 0]),
+        Ok([4, 1, LAST, 0, LAST]),
     ),
     (
         Send {
@@ -165,6 +169,44 @@ static SENDS: [(Send, Result<[u64; 4], Refusal>); 10] = [
     (
         Send {
             time_to_live: -1,
+            ..FIRST
+        },
+        Err(Refusal::OutOfRange),
+    ),
+    (
+        Send {
+            delivery_delay: 500,
+            ..FIRST
+        },
+        Ok([4, 1, 1000, 0, 1500]),
+    ),
+    (
+        Send {
+            time_to_live: 600,
+            delivery_delay: 500,
+            ..FIRST
+        },
+        Ok([4, 1, 1000, 1600, 1500]),
+    ),
+    (
+        Send {
+            now: i64::MAX - 1,
+            delivery_delay: 1,
+            ..FIRST
+        },
+        Ok([4, 1, LAST - 1, 0, LAST]),
+    ),
+    (
+        Send {
+            now: i64::MAX,
+            delivery_delay: 1,
+            ..FIRST
+        },
+        Err(Refusal::OutOfRange),
+    ),
+    (
+        Send {
+            delivery_delay: -1,
             ..FIRST
         },
         Err(Refusal::OutOfRange),
@@ -209,11 +251,44 @@ fn expiry(rt: HostRuntime) {
     }
 }
 
+/// Whether a message that is sent at 1000 is held back at that moment.
+fn is_held_back(alloc: Global, delivery_delay: i64, now: i64) -> Result<bool, Refusal> {
+    let now = Moment::new(now)?;
+    match sent(
+        alloc,
+        Send {
+            delivery_delay,
+            ..FIRST
+        },
+    ) {
+        Ok(sent) => Ok(sent.message.held_back(now)),
+        Err(refusal) => Err(refusal),
+    }
+}
+
+/// Delivery delays, moments, and whether a message is held back then.
+static DELAYS: [(&str, i64, i64, Result<bool, Refusal>); 5] = [
+    ("500 at 900", 500, 900, Ok(true)),
+    ("500 at 1499", 500, 1499, Ok(true)),
+    ("500 at 1500", 500, 1500, Ok(false)),
+    ("0 at 900", 0, 900, Ok(false)),
+    ("1 at 1000", 1, 1000, Ok(true)),
+];
+
+#[test]
+fn delivery_delay(rt: HostRuntime) {
+    for (row, delivery_delay, now, wanted) in &DELAYS {
+        let is_held_back = is_held_back(rt.alloc(), *delivery_delay, *now);
+        is_truth(&rt, row, wanted, is_held_back);
+    }
+}
+
 fn has_default_fields(message: &Message) -> bool {
     message.mode() == DeliveryMode::Persistent
         && message.correlation().is_none()
         && message.message_type().is_none()
         && message.properties().is_empty()
+        && !message.is_delayed()
 }
 
 #[test]
@@ -329,6 +404,39 @@ fn copies_are_equal(rt: HostRuntime) {
         Err(_) => false,
     };
     holds(&rt, "an order", is_copied);
+}
+
+/// The numbers of what is sent again at 2000, from a message that was sent with a time to live and a delivery delay.
+fn sent_again(alloc: Global) -> Result<[u64; 5], Refusal> {
+    let with = stamp_at(alloc, 2000)?;
+    let first = sent(
+        alloc,
+        Send {
+            time_to_live: 600,
+            delivery_delay: 500,
+            ..FIRST
+        },
+    );
+    match first {
+        Ok(first) => second_of(first, with),
+        Err(refusal) => Err(refusal),
+    }
+}
+
+fn second_of(first: HeldMessage, with: Stamp) -> Result<[u64; 5], Refusal> {
+    match stamped(first.into_draft(), with, 2) {
+        Ok(second) => Ok(numbers(&second.message)),
+        Err(refusal) => Err(refusal),
+    }
+}
+
+#[test]
+fn a_draft_of_a_message_has_no_delay(rt: HostRuntime) {
+    holds(
+        &rt,
+        "sent again",
+        sent_again(rt.alloc()) == Ok([4, 2, 2000, 0, 2000]),
+    );
 }
 
 /// Whether a copy of the draft equals it.

@@ -17,6 +17,8 @@ returns c =
       c.saturating_add-3.ensures,
       c.saturating_add-4.ensures,
       c.saturating_add-5.ensures,
+      c.saturating_add-6.ensures,
+      c.delivery_time_length.ensures,
       c.name_length.ensures,
       c.optional_length.ensures,
       c.optional_length-2.ensures,
