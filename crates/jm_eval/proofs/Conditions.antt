@@ -10,7 +10,8 @@ use Rattle.jm_tree.specs.declared.tree.Tree.TheVariants as e
 use Rattle.jm_tree.specs.declared.tree.Tree.TheVariants.{rolls-Text, rolls-Name, rolls-Compare, rolls-Between, rolls-In, rolls-Like, rolls-IsNull, rolls-Not, rolls-All, rolls-AnyOf}
 use Rattle.jm_eval.specs.declared.truth.Truth.{Truth}
 use Rattle.jm_eval.specs.declared.truth.Truth.TheVariants as t
-use Rattle.jm_eval.specs.Values.{Value, Unknown, Boolean, Number, Text, truth_of, condition_of, value_of, not_of, and_of, or_of, comparison, between, texts_equal, is_among, is_in, is_like, is_null, negated_if}
+use Rattle.jm_eval.specs.Values.{Value, Unknown, Boolean, Number, Text, truth_of, condition_of, value_of, not_of, and_of, or_of, comparison, between, is_in, is_like, is_null, negated_if}
+use Rattle.jm_tree.specs.Names.{texts_equal, is_among}
 use Rattle.jm_eval.specs.Evaluation.{value, node, and_next, or_next}
 use Rattle.jm_eval.specs.Laws.{BetweenIsTwoComparisons, InIsEqualities, AreNegations}
 

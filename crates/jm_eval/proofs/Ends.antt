@@ -2,8 +2,8 @@
 use Rattle.std.proofs.Common.{◌≡◌, ℕ, zero, suc, ◌+◌, ◌<◌, Bool, true, false, ◌||◌, List, [], ◌∷◌, ◌++◌, length, drop, refl, ap, sym, subst, ◌∙◌, arith, length-append, length-drop, append_assoc, true≢false}
 use Rattle.std.specs.List.{AllByRecursion}
 use Rattle.std.proofs.lemmas.Bool.{and_parts, or_left, or_right}
-use Rattle.jm_eval.specs.declared.pattern.Item.{Item}
-use Rattle.jm_eval.specs.declared.pattern.Item.TheVariants.{One, Any, Only}
+use Rattle.jm_tree.specs.declared.pattern.Item.{Item}
+use Rattle.jm_tree.specs.declared.pattern.Item.TheVariants.{One, Any, Only}
 use Rattle.jm_eval.specs.Patterns.{matches, any_suffix, is_any, Reaches}
 use Rattle.jm_eval.proofs.Pieces.{suffix_at}
 

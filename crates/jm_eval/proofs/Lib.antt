@@ -3,5 +3,9 @@ pub mod Conditions
 pub mod Ends
 pub mod Runs
 pub mod Pieces
+pub mod Chars
+pub mod Places
+pub mod Segments
+pub mod Backwards
 pub mod Decided
 pub mod Names

@@ -2,8 +2,8 @@
 use Rattle.std.proofs.Common.{◌≡◌, ℕ, Bool, true, ◌==◌, List, [], ◌∷◌, ◌++◌, refl, ap, ◌∙◌, arith, eq-eqb, inl, inr}
 use Rattle.std.proofs.lemmas.Bool.{and_parts, or_cases, or_left, or_right}
 use Rattle.std.proofs.lemmas.Bool.Decides.{nat_tests}
-use Rattle.jm_eval.specs.declared.pattern.Item.{Item}
-use Rattle.jm_eval.specs.declared.pattern.Item.TheVariants.{One, Any, Only}
+use Rattle.jm_tree.specs.declared.pattern.Item.{Item}
+use Rattle.jm_tree.specs.declared.pattern.Item.TheVariants.{One, Any, Only}
 use Rattle.jm_eval.specs.Patterns.{Fits, any_suffix, matches}
 
 pub suffix_at : (test : List ℕ → Bool) (cs : List ℕ) → any_suffix test cs ≡ true → (front : List ℕ) × (back : List ℕ) × (cs ≡ front ++ back) × (test back ≡ true)

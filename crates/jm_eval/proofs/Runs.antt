@@ -2,8 +2,8 @@
 use Rattle.std.proofs.Common.{◌≡◌, ℕ, true, false, List, [], ◌∷◌, ◌++◌, length, drop, refl, ap, sym, ◌∙◌, append_assoc, length-append}
 use Rattle.std.specs.List.{AllByRecursion}
 use Rattle.std.proofs.lemmas.List.{drop-drop}
-use Rattle.jm_eval.specs.declared.pattern.Item.{Item}
-use Rattle.jm_eval.specs.declared.pattern.Item.TheVariants.{One, Any, Only}
+use Rattle.jm_tree.specs.declared.pattern.Item.{Item}
+use Rattle.jm_tree.specs.declared.pattern.Item.TheVariants.{One, Any, Only}
 use Rattle.jm_eval.specs.Patterns.{matches, is_any, fits_one, Reaches}
 
 -- what the loop has passed

@@ -1,36 +1,13 @@
--- LIKE: the items of a pattern, and the texts that fit them (Jakarta Messaging 3.1, section 3.8.1).
-use Rattle.std.specs.Prelude.{◌≡◌, ℕ, ◌<◌, Bool, true, false, ◌||◌, ◌&&◌, ◌==◌, if◌then◌else◌, List, [], ◌∷◌, ◌++◌, length, drop, Option, Some, None}
+-- LIKE: the texts that fit the items of a pattern (Jakarta Messaging 3.1, section 3.8.1).
+use Rattle.std.specs.Prelude.{◌≡◌, ℕ, Bool, true, false, ◌||◌, ◌&&◌, ◌==◌, List, [], ◌∷◌, ◌++◌, length, map, drop, Option, Some, None}
 use Rattle.std.specs.List.{AllByRecursion}
 use Rattle.std.specs.Str.{chars}
 use Rattle.std.specs.Borrow.{Bor}
-use Rattle.jm_eval.specs.declared.pattern.Item.{Item}
-use Rattle.jm_eval.specs.declared.pattern.Item.TheVariants.{One, Any, Only}
+use Rattle.jm_tree.specs.Patterns.{items, item_of, joined}
+use Rattle.jm_tree.specs.declared.pattern.Item.{Item}
+use Rattle.jm_tree.specs.declared.pattern.Item.TheVariants.{One, Any, Only}
 use Rattle.jm_eval.specs.declared.pattern.Run.{Run}
 use Rattle.jm_eval.specs.declared.pattern.Run.TheVariants as runs
-
--- ---- the items of a pattern
-
--- a character that is not escaped: `_` is any one character, `%` any sequence, any other is itself
-abbrev pub plain : ℕ → Item
-plain c = if c == 95 then One else (if c == 37 then Any else Only c)
-
--- whether a character is the escape character
-abbrev pub is_escape : Option ℕ → ℕ → Bool
-is_escape None c = false
-is_escape (Some e) c = e == c
-
--- the items of the rest of a pattern; the flag says that the escape character came just before, and
--- then the next character is itself, as the escape character is at the end
-abbrev pub items_from : Option ℕ → Bool → List ℕ → List Item
-items_from None true [] = []
-items_from (Some e) true [] = Only e ∷ []
-items_from e false [] = []
-items_from e true (c ∷ cs) = Only c ∷ items_from e false cs
-items_from e false (c ∷ cs) = if is_escape e c then items_from e true cs else plain c ∷ items_from e false cs
-
--- the items of a pattern with its escape character, if it has one
-unfoldable pub items : Option ℕ → List ℕ → List Item
-items e cs = items_from e false cs
 
 -- ---- the texts that fit
 
@@ -83,16 +60,6 @@ fits_one One c = true
 fits_one Any c = true
 fits_one (Only d) c = c == d
 
--- the first character of a text, and what is left of the text
-abbrev pub IsNext : Option (ℕ × Bor (List ℕ)) → List ℕ → Type 0
-IsNext None text = chars text ≡ []
-IsNext (Some p) text = chars text ≡ p.0 ∷ chars p.1.now
-
--- the first item of a pattern, and what is left of the pattern, which is shorter
-abbrev pub IsNextItem : Option ℕ → Option (Item × Bor (List ℕ)) → List ℕ → Type 0
-IsNextItem e None text = items e (chars text) ≡ []
-IsNextItem e (Some p) text = (items e (chars text) ≡ p.0 ∷ items e (chars p.1.now)) × (length (chars p.1.now) < length (chars text))
-
 -- the items up to the first `%` fit the front of the text, and the question is left whether some end
 -- of the rest fits the items after it
 pub record Reaches (is : List Item) (cs : List ℕ) (later : List Item) (rest : List ℕ) : Type 0 where
@@ -106,3 +73,34 @@ pub record Reaches (is : List Item) (cs : List ℕ) (later : List Item) (rest : 
 abbrev pub IsRun : Option ℕ → List ℕ → List ℕ → Run → Type 0
 IsRun e pattern text (runs.Ends b) = b ≡ matches (items e (chars pattern)) (chars text)
 IsRun e pattern text (runs.Percent later rest) = Reaches (items e (chars pattern)) (chars text) (items e (chars later.now)) (chars rest.now)
+
+-- ---- the parts of the scan over segments
+
+-- whether one character fits a place
+abbrev pub fits_place : Option ℕ → ℕ → Bool
+fits_place None c = true
+fits_place (Some d) c = c == d
+
+-- the places fit the front of the text, and the question is left whether the rest fits the items after them; or they do not
+abbrev pub IsPast : List (Option ℕ) → List ℕ → Option (Bor (List ℕ)) → Type 0
+IsPast places text None = (is : List Item) → matches (map item_of places ++ is) (chars text) ≡ false
+IsPast places text (Some rest) =
+    ((is : List Item) → matches (map item_of places ++ is) (chars text) ≡ matches is (chars rest.now)) × (chars rest.now ≡ drop (length places) (chars text))
+
+-- the places, with a `%` after them, fit in the text somewhere, and the question is left whether some end of the rest fits the
+-- items after it; or they fit nowhere
+abbrev pub IsAfterFirst : List (Option ℕ) → List ℕ → Option (Bor (List ℕ)) → Type 0
+IsAfterFirst places text None = (is : List Item) → any_suffix (matches (map item_of places ++ is)) (chars text) ≡ false
+IsAfterFirst places text (Some rest) =
+    (is : List Item) → any_suffix (matches (map item_of places ++ Any ∷ is)) (chars text) ≡ any_suffix (matches is) (chars rest.now)
+
+-- the same of segments, one after another
+abbrev pub IsAfterEach : List (List (Option ℕ)) → List ℕ → Option (Bor (List ℕ)) → Type 0
+IsAfterEach segments text None = (last : List (Option ℕ)) → any_suffix (matches (joined segments last)) (chars text) ≡ false
+IsAfterEach segments text (Some rest) =
+    (last : List (Option ℕ)) → any_suffix (matches (joined segments last)) (chars text) ≡ any_suffix (matches (map item_of last)) (chars rest.now)
+
+-- the last character of a text, and what stands before it
+abbrev pub IsLastChar : Option (ℕ × Bor (List ℕ)) → List ℕ → Type 0
+IsLastChar None text = chars text ≡ []
+IsLastChar (Some p) text = chars text ≡ chars p.1.now ++ p.0 ∷ []

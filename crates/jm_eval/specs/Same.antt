@@ -8,7 +8,8 @@ use Rattle.std.specs.Cmp.Lexicographic.{bytes_decides}
 use Rattle.std.specs.Ordering.{int_eq}
 use Rattle.jm_eval.specs.declared.value.Value.{Value as Reference}
 use Rattle.jm_eval.specs.Seen.{seen}
-use Rattle.jm_eval.specs.Values.{Value, Unknown, Boolean, Number, Text, texts_equal, booleans_equal}
+use Rattle.jm_eval.specs.Values.{Value, Unknown, Boolean, Number, Text, booleans_equal}
+use Rattle.jm_tree.specs.Names.{texts_equal}
 
 -- two values are the same
 abbrev pub value_eq : Value → Value → Bool

@@ -1,7 +1,5 @@
 -- The values of selectors, and the tables by which they are worked (Jakarta Messaging 3.1, section 3.8.1).
-use Rattle.std.specs.Prelude.{ℕ, ℤ, pos, ◌+ℤ◌, ◌-ℤ◌, ◌*ℤ◌, neg_ℤ, int_div, int_lt, int_le, nat_eq, Bool, true, false, not, ◌&&◌, if◌then◌else◌, zero, List, Option, Some, None}
-use Rattle.std.specs.List.{list_any}
-use Rattle.std.specs.Cmp.Lexicographic.{pointwise}
+use Rattle.std.specs.Prelude.{ℕ, ℤ, pos, ◌+ℤ◌, ◌-ℤ◌, ◌*ℤ◌, neg_ℤ, int_div, int_lt, int_le, Bool, true, false, not, ◌&&◌, if◌then◌else◌, zero, List, Option, Some, None}
 use Rattle.jm_tree.specs.Operators.{least}
 use Rattle.jm_tree.specs.declared.tree.Comparison.{Comparison}
 use Rattle.jm_tree.specs.declared.tree.Comparison.TheVariants.{Equal, NotEqual, Less, LessOrEqual, Greater, GreaterOrEqual}
@@ -11,7 +9,9 @@ use Rattle.jm_tree.specs.declared.tree.Multiplicative.{Multiplicative}
 use Rattle.jm_tree.specs.declared.tree.Multiplicative.TheVariants.{Times, Divide}
 use Rattle.jm_eval.specs.declared.truth.Truth.{Truth}
 use Rattle.jm_eval.specs.declared.truth.Truth.TheVariants as t
-use Rattle.jm_eval.specs.Patterns.{items, matches}
+use Rattle.jm_tree.specs.Names.{texts_equal, is_among}
+use Rattle.jm_tree.specs.Patterns.{items}
+use Rattle.jm_eval.specs.Patterns.{matches}
 use Rattle.std.specs.Str.{chars}
 
 -- a value: unknown, a truth value, a whole number or a text
@@ -138,10 +138,6 @@ equality_compares LessOrEqual equal = false
 equality_compares Greater equal = false
 equality_compares GreaterOrEqual equal = false
 
--- whether two texts are equal
-abbrev pub texts_equal : List ℕ → List ℕ → Bool
-texts_equal cs ds = pointwise nat_eq cs ds
-
 -- whether two truth values are equal
 abbrev pub booleans_equal : Bool → Bool → Bool
 booleans_equal true b = b
@@ -163,10 +159,6 @@ between false operand low high = and_of (comparison GreaterOrEqual operand low) 
 between true operand low high = or_of (comparison Less operand low) (comparison Greater operand high)
 
 -- ---- the tests of an identifier
-
--- whether a text is one of a list
-unfoldable pub is_among : List ℕ → List (List ℕ) → Bool
-is_among text list = list_any (λ member. texts_equal text member) list
 
 -- IN: UNKNOWN where the identifier is NULL, TRUE where it is a text of the list, else FALSE
 abbrev pub is_in : Value → List (List ℕ) → Truth

@@ -1,26 +1,16 @@
 -- What a selector sees of a message (Jakarta Messaging 3.1, section 3.8.1).
-use Rattle.std.specs.Prelude.{ℕ, pos, if◌then◌else◌, List, Option, Some, None, codes}
+use Rattle.std.specs.Prelude.{ℕ, pos, List, Option, Some, None, codes}
 use Rattle.jm_header.specs.declared.content.Content.{Content}
 use Rattle.jm_header.specs.declared.content.DeliveryMode.{DeliveryMode}
 use Rattle.jm_header.specs.declared.content.DeliveryMode.TheVariants.{NonPersistent, Persistent}
 use Rattle.jm_property.specs.declared.property.Property.{Property}
 use Rattle.jm_property.specs.declared.property.Property.TheVariants as properties
 use Rattle.jm_property.specs.Properties.{value_of}
-use Rattle.jm_eval.specs.declared.view.Field.{Field}
-use Rattle.jm_eval.specs.declared.view.Field.TheVariants as fields
+use Rattle.jm_tree.specs.declared.identifier.Field.{Field}
+use Rattle.jm_tree.specs.declared.identifier.Field.TheVariants as fields
+use Rattle.jm_tree.specs.Names.{field_of}
 use Rattle.jm_header.specs.MessageIds.{message_id}
-use Rattle.jm_eval.specs.Values.{Value, Unknown, Boolean, Number, Text, texts_equal}
-
--- the header field of that name, if selectors see it
-abbrev pub field_of : List ℕ → Option Field
-field_of name =
-    if texts_equal name (codes "JMSDeliveryMode") then Some fields.DeliveryMode
-    else if texts_equal name (codes "JMSPriority") then Some fields.Priority
-    else if texts_equal name (codes "JMSTimestamp") then Some fields.Timestamp
-    else if texts_equal name (codes "JMSMessageID") then Some fields.MessageId
-    else if texts_equal name (codes "JMSCorrelationID") then Some fields.CorrelationId
-    else if texts_equal name (codes "JMSType") then Some fields.Type
-    else None
+use Rattle.jm_eval.specs.Values.{Value, Unknown, Boolean, Number, Text}
 
 -- a delivery mode as a text
 abbrev pub mode_text : DeliveryMode → List ℕ

@@ -12,9 +12,8 @@ use crate::value::{
     negative, value_of,
 };
 use crate::view::named;
-use jm_base::Str;
 use jm_header::Message;
-use jm_tree::{Additive, Comparison, Multiplicative, Tree};
+use jm_tree::{Additive, Comparison, Multiplicative, Pattern, Texts, Tree};
 
 /// The value of a tree over a message (Jakarta Messaging 3.1, section 3.8.1). Takes no memory.
 #[cycle(evaluation)]
@@ -26,7 +25,7 @@ pub fn eval<'a>(tree: &'a Tree, message: &'a Message) -> Value<'a>
         Tree::Num(number) => Value::Number(*number),
         Tree::Text(text) => Value::Text(text.as_str()),
         Tree::Truth(truth) => Value::Bool(*truth),
-        Tree::Name(name) => named(name.as_str(), message),
+        Tree::Name(name) => named(name, message),
         Tree::Plus(operand) => kept(eval(operand.get(), message)),
         Tree::Neg(operand) => negative(eval(operand.get(), message)),
         Tree::Sum { first, rest } => sum(eval(first.get(), message), rest.as_slice(), message),
@@ -50,14 +49,14 @@ pub fn eval<'a>(tree: &'a Tree, message: &'a Message) -> Value<'a>
             negated,
             name,
             list,
-        } => membership(*negated, named(name.as_str(), message), list.as_slice()),
+        } => membership(*negated, named(name, message), list),
         Tree::Like {
             negated,
             name,
             pattern,
             escape,
-        } => likeness(*negated, named(name.as_str(), message), pattern, *escape),
-        Tree::IsNull { negated, name } => absence(*negated, named(name.as_str(), message)),
+        } => likeness(*negated, named(name, message), pattern, *escape),
+        Tree::IsNull { negated, name } => absence(*negated, named(name, message)),
         Tree::Not(operand) => value_of(not_of(condition_of(eval(operand.get(), message)))),
         Tree::All(members) => value_of(all(members.as_slice(), message)),
         Tree::AnyOf(members) => value_of(any_of(members.as_slice(), message)),
@@ -72,17 +71,22 @@ fn comparison_value<'a>(op: Comparison, left: Value<'a>, right: Value<'a>) -> Va
 }
 
 /// IN, or NOT IN where it is negated.
-fn membership<'a>(negated: bool, value: Value<'a>, list: &[Str]) -> Value<'a>
+fn membership<'a>(negated: bool, value: Value<'a>, list: &Texts) -> Value<'a>
     ensures { seen result ≡ tables.value_of (tables.negated_if negated (tables.is_in (seen value.entry) list.now)) }
 {
     value_of(negated_if(negated, is_in(value, list)))
 }
 
 /// LIKE, or NOT LIKE where it is negated.
-fn likeness<'a>(negated: bool, value: Value<'a>, pattern: &Str, escape: Option<char>) -> Value<'a>
+fn likeness<'a>(
+    negated: bool,
+    value: Value<'a>,
+    pattern: &Pattern,
+    escape: Option<char>,
+) -> Value<'a>
     ensures { seen result ≡ tables.value_of (tables.negated_if negated (tables.is_like (seen value.entry) pattern.now escape)) }
 {
-    value_of(negated_if(negated, is_like(value, pattern.as_str(), escape)))
+    value_of(negated_if(negated, is_like(value, pattern, escape)))
 }
 
 /// IS NULL, or IS NOT NULL where it is negated.

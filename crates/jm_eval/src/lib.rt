@@ -4,6 +4,7 @@
 
 mod arithmetic;
 mod evaluation;
+mod items;
 mod laws;
 mod pattern;
 mod truth;
@@ -11,7 +12,9 @@ mod value;
 mod view;
 
 pub use evaluation::{condition, eval, selects};
+pub use items::like_items;
+pub use jm_tree::{Item, Items};
 pub use laws::{law_between, law_in, law_names, law_negations};
-pub use pattern::{Item, law_fits, like};
+pub use pattern::{law_fits, like};
 pub use truth::Truth;
 pub use value::Value;

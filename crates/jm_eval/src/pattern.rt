@@ -1,18 +1,10 @@
 ghost use Rattle.std.specs.Prelude.{◌≡◌, ◌↔◌, ℕ, List, true, IsTrue};
 ghost use Rattle.std.specs.Str.{chars};
 ghost use Rattle.jm_eval.specs.Patterns as spec;
-ghost use Rattle.jm_eval.specs.declared.pattern.Item.{Item};
+ghost use Rattle.jm_tree.specs.Patterns as patterns;
+ghost use Rattle.jm_tree.specs.declared.pattern.Item.{Item};
 
-/// What one place of a pattern asks of a text.
-#[derive(Clone, Copy, Debug, PartialEq, Eq)]
-pub enum Item {
-    /// Any one character: `_`.
-    One,
-    /// Any sequence of characters, the empty one too: `%`.
-    Any,
-    /// This character.
-    Only(char),
-}
+use jm_tree::{Item, next_char, next_item};
 
 /// How far a pattern fits before its first `%`.
 enum Run<'p, 't> {
@@ -27,36 +19,6 @@ enum Run<'p, 't> {
 pub fn law_fits()
     ensures { (items : List Item) (text : List ℕ) → (spec.matches items text ≡ true) ↔ spec.Fits text items }
 {}
-
-/// The first character, and the text after it.
-fn next(text: &str) -> Option<(char, &str)>
-    ensures { spec.IsNext result text.now }
-{
-    let mut rest = text.chars();
-    match rest.next() {
-        None => None,
-        Some(c) => Some((c, rest.as_str())),
-    }
-}
-
-fn is_escape(escape: Option<char>, c: char) -> bool
-    ensures { result ≡ spec.is_escape escape c }
-{
-    match escape {
-        None => false,
-        Some(e) => e == c,
-    }
-}
-
-fn plain(c: char) -> Item
-    ensures { result ≡ spec.plain c }
-{
-    match c {
-        '_' => Item::One,
-        '%' => Item::Any,
-        _ => Item::Only(c),
-    }
-}
 
 fn is_any(item: Item) -> bool
     ensures { result ≡ spec.is_any item }
@@ -73,25 +35,6 @@ fn fits_one(item: Item, c: char) -> bool
     }
 }
 
-/// The first item of the pattern, and the pattern after it.
-#[tactic(auto, unfolding(crate::specs::Patterns::items))]
-fn next_item(pattern: &str, escape: Option<char>) -> Option<(Item, &str)>
-    ensures { spec.IsNextItem escape result pattern.now }
-{
-    match next(pattern) {
-        None => None,
-        Some((c, rest)) => {
-            if !is_escape(escape, c) {
-                return Some((plain(c), rest));
-            }
-            match next(rest) {
-                None => Some((Item::Only(c), rest)),
-                Some((escaped, later)) => Some((Item::Only(escaped), later)),
-            }
-        }
-    }
-}
-
 /// Goes on to the first `%`, or to the first character that does not fit.
 #[tactic(auto, using(crate::proofs::Runs::passed_none, crate::proofs::Runs::passed_more, crate::proofs::Runs::reached))]
 fn run_of<'p, 't>(pattern: &'p str, text: &'t str, escape: Option<char>) -> Run<'p, 't>
@@ -103,7 +46,7 @@ fn run_of<'p, 't>(pattern: &'p str, text: &'t str, escape: Option<char>) -> Run<
         if is_any(wanted) {
             return Run::Percent(later, text);
         }
-        match next(text) {
+        match next_char(text) {
             None => return Run::Ends(false),
             Some((c, rest)) => {
                 if !fits_one(wanted, c) {
@@ -114,21 +57,21 @@ fn run_of<'p, 't>(pattern: &'p str, text: &'t str, escape: Option<char>) -> Run<
             }
         }
     }
-    Run::Ends(next(text).is_none())
+    Run::Ends(next_char(text).is_none())
 }
 
 /// Whether the pattern fits an end of the text. The first place at which the items before the next
 /// `%` fit is as good as any later one, so a mismatch goes back to the last `%` alone.
 #[tactic(auto, using(crate::proofs::Ends::found_here, crate::proofs::Ends::none_here, crate::proofs::Ends::none_at_end, crate::proofs::Ends::first_match, crate::proofs::Ends::fewer))]
 fn search<'a>(pattern: &'a str, text: &'a str, escape: Option<char>) -> bool
-    ensures { result ≡ spec.any_suffix (spec.matches (spec.items escape (chars pattern.now))) (chars text.now) }
+    ensures { result ≡ spec.any_suffix (spec.matches (patterns.items escape (chars pattern.now))) (chars text.now) }
 {
     let mut pattern = pattern;
     let mut text = text;
     'search: loop {
         match run_of(pattern, text, escape) {
             Run::Ends(true) => return true,
-            Run::Ends(false) => match next(text) {
+            Run::Ends(false) => match next_char(text) {
                 None => return false,
                 Some((_, rest)) => text = rest,
             },
@@ -142,7 +85,7 @@ fn search<'a>(pattern: &'a str, text: &'a str, escape: Option<char>) -> bool
 
 /// Whether the text matches the items of the pattern.
 pub(crate) fn is_match(text: &str, pattern: &str, escape: Option<char>) -> bool
-    ensures { result ≡ spec.matches (spec.items escape (chars pattern.now)) (chars text.now) }
+    ensures { result ≡ spec.matches (patterns.items escape (chars pattern.now)) (chars text.now) }
 {
     match run_of(pattern, text, escape) {
         Run::Ends(answer) => answer,
@@ -156,7 +99,7 @@ pub(crate) fn is_match(text: &str, pattern: &str, escape: Option<char>) -> bool
 /// The escape rule goes first, also where the escape is `_` or `%`, and an escape at the end is
 /// itself (ours). A character is a Unicode scalar value. Takes no memory.
 pub fn like(text: &str, pattern: &str, escape: Option<char>) -> bool
-    ensures { IsTrue result ↔ spec.Fits (chars text.now) (spec.items escape (chars pattern.now)) }
+    ensures { IsTrue result ↔ spec.Fits (chars text.now) (patterns.items escape (chars pattern.now)) }
 {
     is_match(text, pattern, escape)
 }

@@ -1,14 +1,18 @@
 ghost use Rattle.std.specs.Prelude.{◌≡◌, ◌↔◌, IsTrue};
+ghost use Rattle.std.specs.Str.{chars};
+ghost use Rattle.jm_tree.specs.Names as names;
+ghost use Rattle.jm_tree.specs.Patterns as patterns;
+ghost use Rattle.jm_eval.specs.Patterns as fits;
 ghost use Rattle.jm_eval.specs.Same as same;
 ghost use Rattle.jm_eval.specs.Values as spec;
 ghost use Rattle.jm_eval.specs.Seen.{seen};
 
 use crate::arithmetic::{difference_of, negative_of, product_of, quotient_of, sum_of};
+use crate::items::is_match_of;
 use crate::pattern::is_match;
 use crate::truth::{Truth, and_of, or_of, truth_of};
-use jm_base::Str;
 use jm_header::Message;
-use jm_tree::{Additive, Comparison, Multiplicative};
+use jm_tree::{Additive, Comparison, Multiplicative, Pattern, Texts};
 
 /// The value of a selector or of a part of it. `==` is that of what contracts see: a `MessageId` equals
 /// the `Text` of its text.
@@ -180,7 +184,7 @@ fn equality_compares(op: Comparison, equal: bool) -> bool
 
 /// Two texts by an operator; an ordering of them is FALSE.
 fn texts_compare(op: Comparison, left: &str, right: &str) -> Truth
-    ensures { result ≡ spec.truth_of (spec.equality_compares op (spec.texts_equal left.now right.now)) }
+    ensures { result ≡ spec.truth_of (spec.equality_compares op (names.texts_equal left.now right.now)) }
 {
     truth_of(equality_compares(op, left == right))
 }
@@ -225,37 +229,38 @@ pub(crate) fn between<'a>(
     }
 }
 
-#[tactic(auto, unfolding(crate::specs::Values::is_among))]
-fn is_among(text: &str, list: &[Str]) -> bool
-    ensures { result ≡ spec.is_among text.now list.now }
-{
-    list.iter().any(|member| text == member.as_str())
-}
-
-/// IN.
-pub(crate) fn is_in(value: Value<'_>, list: &[Str]) -> Truth
+/// IN: a look-up in the set of the texts.
+pub(crate) fn is_in(value: Value<'_>, list: &Texts) -> Truth
     ensures { result ≡ spec.is_in (seen value.entry) list.now }
 {
     match value {
         Value::Unknown => Truth::Unknown,
-        Value::Text(text) => truth_of(is_among(text, list)),
-        Value::MessageId(message) => truth_of(is_among(message.message_id().as_str(), list)),
+        Value::Text(text) => truth_of(list.contains(text)),
+        Value::MessageId(message) => truth_of(list.contains(message.message_id().as_str())),
         _ => Truth::False,
     }
 }
 
+/// Whether the text fits the pattern, by the items that it keeps.
+fn is_fit(text: &str, pattern: &Pattern, escape: Option<char>) -> bool
+    ensures { result ≡ fits.matches (patterns.items escape (chars pattern.now)) (chars text.now) }
+{
+    match pattern.items(escape) {
+        Some(items) => is_match_of(text, items),
+        None => is_match(text, pattern.as_str(), escape),
+    }
+}
+
 /// LIKE.
-pub(crate) fn is_like(value: Value<'_>, pattern: &str, escape: Option<char>) -> Truth
+pub(crate) fn is_like(value: Value<'_>, pattern: &Pattern, escape: Option<char>) -> Truth
     ensures { result ≡ spec.is_like (seen value.entry) pattern.now escape }
 {
     match value {
         Value::Unknown => Truth::Unknown,
-        Value::Text(text) => truth_of(is_match(text, pattern, escape)),
-        Value::MessageId(message) => truth_of(is_match(
-            message.message_id().as_str(),
-            pattern,
-            escape,
-        )),
+        Value::Text(text) => truth_of(is_fit(text, pattern, escape)),
+        Value::MessageId(message) => {
+            truth_of(is_fit(message.message_id().as_str(), pattern, escape))
+        }
         _ => Truth::False,
     }
 }

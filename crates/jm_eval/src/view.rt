@@ -7,38 +7,7 @@ use crate::value::Value;
 use jm_base::Str;
 use jm_header::{DeliveryMode, Message};
 use jm_property::Property;
-
-/// A header field that selectors see.
-#[derive(Clone, Copy)]
-enum Field {
-    DeliveryMode,
-    Priority,
-    Timestamp,
-    MessageId,
-    CorrelationId,
-    Type,
-}
-
-/// The header field of that name, if selectors see it.
-fn field_of(name: &str) -> Option<Field>
-    ensures { result ≡ spec.field_of name.now }
-{
-    if name == "JMSDeliveryMode" {
-        Some(Field::DeliveryMode)
-    } else if name == "JMSPriority" {
-        Some(Field::Priority)
-    } else if name == "JMSTimestamp" {
-        Some(Field::Timestamp)
-    } else if name == "JMSMessageID" {
-        Some(Field::MessageId)
-    } else if name == "JMSCorrelationID" {
-        Some(Field::CorrelationId)
-    } else if name == "JMSType" {
-        Some(Field::Type)
-    } else {
-        None
-    }
-}
+use jm_tree::{Field, Identifier};
 
 fn mode_text<'a>(mode: DeliveryMode) -> &'a str
     ensures { result.now ≡ spec.mode_text mode }
@@ -95,11 +64,11 @@ fn property_or_null(property: Option<&Property>) -> Value<'_>
 
 /// The value of an identifier over a message, UNKNOWN where it is NULL.
 #[tactic(auto, unfolding(crate::specs::Views::view))]
-pub(crate) fn named<'a>(name: &str, message: &'a Message) -> Value<'a>
+pub(crate) fn named<'a>(name: &Identifier, message: &'a Message) -> Value<'a>
     ensures { seen result ≡ spec.view message.now name.now }
 {
-    match field_of(name) {
+    match name.field() {
         Some(field) => field_value(message, field),
-        None => property_or_null(message.properties().get(name)),
+        None => property_or_null(message.properties().get(name.as_str())),
     }
 }

@@ -4,7 +4,7 @@ ghost use Rattle.jm_tree.specs.Input.{Reads};
 use crate::cursor::Cursor;
 use jm_base::Cause;
 use jm_lexer::{Kind, Mark, SyntaxFault};
-use jm_tree::Tree;
+use jm_tree::{Identifier, Tree};
 
 /// The number 2^63, which only a minus may stand before.
 pub(crate) const LIMIT: u64 = 1 << 63;
@@ -30,7 +30,7 @@ pub(crate) fn leaf(tokens: &mut Cursor<'_>) -> Result<Tree, SyntaxFault>
     match tokens.kind() {
         Some(Kind::Name(name)) => {
             tokens.pass();
-            Ok(Tree::Name(name.copy()?))
+            Ok(Tree::Name(Identifier::new(name.copy()?)))
         }
         Some(Kind::Text(text)) => {
             tokens.pass();

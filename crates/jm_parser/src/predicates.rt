@@ -8,7 +8,7 @@ use crate::growth::push;
 use crate::operand::{Operand, unless};
 use jm_base::{List, Str};
 use jm_lexer::{Mark, SyntaxFault};
-use jm_tree::Tree;
+use jm_tree::{Pattern, Texts, Tree};
 use std::alloc::Global;
 
 #[tactic(auto, unfolding(jm_tree::specs::FaultOrder::named))]
@@ -26,7 +26,7 @@ fn is_null(tokens: &mut Cursor<'_>, negated: bool, operand: Operand) -> Tree
 }
 
 #[tactic(auto, unfolding(jm_tree::specs::FaultOrder::named, jm_tree::specs::FaultOrder::in_of))]
-fn is_in(tokens: &mut Cursor<'_>, negated: bool, operand: Operand, list: List<Str>) -> Tree
+fn is_in(tokens: &mut Cursor<'_>, negated: bool, operand: Operand, list: Texts) -> Tree
     ensures { spec.named (spec.in_of negated list) operand.tree operand.at tokens.old ≡ Ok (result, tokens.new) }
 {
     let at = operand.at;
@@ -48,7 +48,7 @@ fn is_like(
     tokens: &mut Cursor<'_>,
     negated: bool,
     operand: Operand,
-    pattern: Str,
+    pattern: Pattern,
     escape: Option<char>,
 ) -> Tree
     ensures { spec.named (spec.like_of negated pattern escape) operand.tree operand.at tokens.old ≡ Ok (result, tokens.new) }
@@ -109,7 +109,7 @@ pub(crate) fn membership(
     tokens.expect(Mark::Open)?;
     let list = texts(alloc, tokens)?;
     tokens.expect(Mark::Close)?;
-    Ok(is_in(tokens, negated, operand, list))
+    Ok(is_in(tokens, negated, operand, Texts::new(alloc, list)?))
 }
 
 /// The character of a text that is one Unicode scalar value.
@@ -128,6 +128,7 @@ fn single(text: &str) -> Option<char>
 /// `ESCAPE text`: the left operand is checked before it.
 #[tactic(auto, unfolding(jm_tree::specs::FaultOrder::escaped))]
 fn escaped(
+    alloc: Global,
     tokens: &mut Cursor<'_>,
     negated: bool,
     operand: Operand,
@@ -138,6 +139,7 @@ fn escaped(
     let place = tokens.start();
     let text = tokens.text()?;
     let escape = single(text.as_str());
+    let pattern = Pattern::new(alloc, pattern, escape)?;
     let tree = is_like(tokens, negated, operand, pattern, escape);
     tokens.note(unless(escape.is_some(), place));
     Ok(tree)
@@ -146,6 +148,7 @@ fn escaped(
 /// `[NOT] LIKE text [ ESCAPE text ]`, after the operand.
 #[tactic(auto, unfolding(jm_tree::specs::FaultOrder::likeness))]
 pub(crate) fn likeness(
+    alloc: Global,
     tokens: &mut Cursor<'_>,
     negated: bool,
     operand: Operand,
@@ -155,7 +158,8 @@ pub(crate) fn likeness(
     tokens.pass();
     let pattern = tokens.text()?;
     if tokens.eat(Mark::Escape) {
-        return escaped(tokens, negated, operand, pattern);
+        return escaped(alloc, tokens, negated, operand, pattern);
     }
+    let pattern = Pattern::new(alloc, pattern, None)?;
     Ok(is_like(tokens, negated, operand, pattern, None))
 }

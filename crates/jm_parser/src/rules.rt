@@ -193,7 +193,7 @@ fn negated_tail(
     match tokens.kind() {
         Some(Kind::Mark(Mark::Between)) => between(alloc, tokens, levels, true, operand),
         Some(Kind::Mark(Mark::In)) => membership(alloc, tokens, true, operand),
-        Some(Kind::Mark(Mark::Like)) => likeness(tokens, true, operand),
+        Some(Kind::Mark(Mark::Like)) => likeness(alloc, tokens, true, operand),
         _ => Err(tokens.stop(Cause::Expected)),
     }
 }
@@ -215,7 +215,7 @@ fn tail(
     match mark {
         Mark::Between => between(alloc, tokens, levels, false, operand),
         Mark::In => membership(alloc, tokens, false, operand),
-        Mark::Like => likeness(tokens, false, operand),
+        Mark::Like => likeness(alloc, tokens, false, operand),
         Mark::Is => null_test(tokens, operand),
         Mark::Not => negated_tail(alloc, tokens, levels, operand),
         _ => Ok(operand.into_tree()),

@@ -6,5 +6,8 @@ mod parser;
 
 pub use jm_grammar::{law_fault, law_one_tree};
 pub use jm_lexer::{Kind, Mark, SyntaxFault, Token, lex};
-pub use jm_tree::{Additive, Comparison, Multiplicative, Sort, Tree};
+pub use jm_tree::{
+    Additive, Comparison, Field, Identifier, Item, Items, Multiplicative, Pattern, Sort, Texts,
+    Tree,
+};
 pub use parser::parse;

@@ -1,1 +1,4 @@
+pub mod Joins
+pub mod Sets
+pub mod Literals
 pub mod Chains

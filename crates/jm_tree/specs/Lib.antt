@@ -1,3 +1,5 @@
+pub mod Names
+pub mod Patterns
 pub mod Operators
 pub mod Sorts
 pub mod Spells

@@ -1,5 +1,8 @@
 ghost use Rattle.std.specs.Prelude.{◌≡◌, IfOk};
 
+use crate::identifier::Identifier;
+use crate::pattern::Pattern;
+use crate::texts::Texts;
 use jm_base::{Boxed, List, Str};
 use std::alloc::{AllocError, Global};
 
@@ -48,7 +51,7 @@ pub enum Tree {
     /// `TRUE` or `FALSE`.
     Truth(bool),
     /// An identifier.
-    Name(Str),
+    Name(Identifier),
     /// A unary plus.
     Plus(Boxed<Tree>),
     /// A unary minus.
@@ -76,23 +79,23 @@ pub enum Tree {
         low: Boxed<Tree>,
         high: Boxed<Tree>,
     },
-    /// `[NOT] IN`; `list` is not empty.
+    /// `[NOT] IN`; `list` is not empty, and keeps the set of its texts.
     In {
         negated: bool,
-        name: Str,
-        list: List<Str>,
+        name: Identifier,
+        list: Texts,
     },
-    /// `[NOT] LIKE`.
+    /// `[NOT] LIKE`; `pattern` keeps its items with this escape character.
     Like {
         negated: bool,
-        name: Str,
-        pattern: Str,
+        name: Identifier,
+        pattern: Pattern,
         escape: Option<char>,
     },
     /// `IS [NOT] NULL`.
     IsNull {
         negated: bool,
-        name: Str,
+        name: Identifier,
     },
     /// `NOT`.
     Not(Boxed<Tree>),
@@ -137,13 +140,13 @@ impl Tree {
                 negated,
                 name,
                 list,
-            } => copy_in(alloc, *negated, name, list.as_slice())?,
+            } => copy_in(*negated, name, list)?,
             Tree::Like {
                 negated,
                 name,
                 pattern,
                 escape,
-            } => copy_like(*negated, name, pattern, *escape)?,
+            } => copy_like(alloc, *negated, name, pattern, *escape)?,
             Tree::IsNull { negated, name } => copy_is_null(*negated, name)?,
         })
     }
@@ -190,20 +193,21 @@ fn copy_between(
     })
 }
 
-fn copy_in(alloc: Global, negated: bool, name: &Str, list: &[Str]) -> Result<Tree, AllocError>
+fn copy_in(negated: bool, name: &Identifier, list: &Texts) -> Result<Tree, AllocError>
     ensures { IfOk result (λ copy. copy ≡ Tree.In negated name.now list.now) }
 {
     Ok(Tree::In {
         negated,
         name: name.copy()?,
-        list: copy_texts(alloc, list)?,
+        list: list.copy()?,
     })
 }
 
 fn copy_like(
+    alloc: Global,
     negated: bool,
-    name: &Str,
-    pattern: &Str,
+    name: &Identifier,
+    pattern: &Pattern,
     escape: Option<char>,
 ) -> Result<Tree, AllocError>
     ensures { IfOk result (λ copy. copy ≡ Tree.Like negated name.now pattern.now escape) }
@@ -211,12 +215,12 @@ fn copy_like(
     Ok(Tree::Like {
         negated,
         name: name.copy()?,
-        pattern: pattern.copy()?,
+        pattern: pattern.copy(alloc)?,
         escape,
     })
 }
 
-fn copy_is_null(negated: bool, name: &Str) -> Result<Tree, AllocError>
+fn copy_is_null(negated: bool, name: &Identifier) -> Result<Tree, AllocError>
     ensures { IfOk result (λ copy. copy ≡ Tree.IsNull negated name.now) }
 {
     Ok(Tree::IsNull {
@@ -260,16 +264,6 @@ fn copy_factors(
     let mut copies = Vec::new(alloc);
     for factor in factors {
         copies.push((factor.0, factor.1.copy(alloc)?))?;
-    }
-    Ok(List::new(copies))
-}
-
-fn copy_texts(alloc: Global, texts: &[Str]) -> Result<List<Str>, AllocError>
-    ensures { IfOk result (λ copy. copy ≡ texts.now) }
-{
-    let mut copies = Vec::new(alloc);
-    for text in texts {
-        copies.push(text.copy()?)?;
     }
     Ok(List::new(copies))
 }

@@ -3,7 +3,11 @@
 #![tactic(auto)]
 
 #[cfg(test)]
+mod memberships;
+#[cfg(test)]
 mod parsed;
+#[cfg(test)]
+mod patterns;
 #[cfg(test)]
 mod tokens;
 #[cfg(test)]

@@ -1,11 +1,11 @@
-//! The values of selectors over a message, patterns, and the text of JMSMessageID.
+//! The values of selectors over a message, and the text of JMSMessageID.
 
 use crate::parsed::{Parsed, tree_of};
 use crate::told::{holds, is_text};
 use jm_base::Refusal;
 use jm_dest::{ConnectionId, Destination, Moment, Number, SessionId};
 use jm_eval::{
-    Value, condition, eval, law_between, law_fits, law_in, law_names, law_negations, like, selects,
+    Value, condition, eval, law_between, law_fits, law_in, law_names, law_negations, selects,
 };
 use jm_header::{Draft, Message, Sender, stamp};
 use std::alloc::{AllocError, Global};
@@ -81,25 +81,6 @@ static SELECTORS: [(&str, &str); 9] = [
 fn values_of_selectors(rt: HostRuntime) {
     for (text, wanted) in &SELECTORS {
         is_text(&rt, wanted, told(rt.alloc(), 1, text));
-    }
-}
-
-/// Texts, patterns, escapes, and whether the text fits.
-static PATTERNS: [(&str, &str, Option<char>, bool); 8] = [
-    ("_abc", "\\_%", Some('\\'), true),
-    ("abc", "\\_%", Some('\\'), false),
-    ("a\\", "a\\", Some('\\'), true),
-    ("", "_", None, false),
-    ("12993", "12%3", None, true),
-    ("loose", "l_se", None, false),
-    ("\u{e9}\u{1f600}", "__", None, true),
-    ("50_", "50__", Some('_'), true),
-];
-
-#[test]
-fn like_patterns(rt: HostRuntime) {
-    for (text, pattern, escape, fits) in &PATTERNS {
-        holds(&rt, text, like(text, pattern, *escape) == *fits);
     }
 }
 

@@ -2,7 +2,7 @@ use Rattle.std.proofs.Common.{length}
 use Rattle.std.specs.Str.{chars}
 use denote.Shadow.{shadow}
 use denote.Text.{Utf8}
-use Rattle.jm_eval.specs.Patterns.{items}
+use Rattle.jm_tree.specs.Patterns.{items}
 use Rattle.jm_eval.proofs.Runs.{HasPassed}
 use Rattle.jm_eval.proofs.pattern.run_of.Given as goal
 

@@ -2,7 +2,8 @@ use Rattle.std.proofs.Common.{◌≡◌, ◌+◌, length}
 use Rattle.std.specs.Str.{chars}
 use denote.Shadow.{shadow}
 use denote.Text.{Utf8}
-use Rattle.jm_eval.specs.Patterns.{items, matches, any_suffix}
+use Rattle.jm_tree.specs.Patterns.{items}
+use Rattle.jm_eval.specs.Patterns.{matches, any_suffix}
 use Rattle.jm_eval.proofs.pattern.search.Given as goal
 
 abbrev pub invariant-search : goal.invariant-search

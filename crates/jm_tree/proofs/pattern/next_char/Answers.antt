@@ -1,5 +1,5 @@
 use Rattle.std.proofs.lemmas.Str.{chars_past_char}
-use Rattle.jm_eval.proofs.pattern.next.Goals as goal
+use Rattle.jm_tree.proofs.pattern.next_char.Goals as goal
 
 pub returns-in-Some : goal.returns-in-Some
 returns-in-Some c =
