@@ -3,7 +3,7 @@ use Rattle.std.proofs.Common.{◌≡◌, ◌⊎◌, ℕ, ◌+◌, Bool, true, fa
 use Rattle.std.specs.Prelude.{nat_lt, nat_le, ◌&&◌, is_some, Result, Ok, Err, MatchBool}
 use Rattle.std.proofs.lemmas.Bool.Decides.{nat_tests}
 use Rattle.jm_base.specs.declared.refusal.Refusal.{Refusal}
-use Rattle.jm_base.specs.declared.refusal.Refusal.TheVariants.{IllegalState, InvalidDestination, InvalidClientId, SubscriptionInUse, OutOfRange, Exhausted, Memory, Store}
+use Rattle.jm_base.specs.declared.refusal.Refusal.TheVariants.{IllegalState, OutOfRange, Exhausted, Memory, Store}
 use Rattle.jm_dest.specs.declared.key.Key.{Key}
 use Rattle.jm_dest.specs.declared.session.SessionId.{SessionId}
 use Rattle.jm_dest.specs.declared.destination.Destination.{Destination}
@@ -11,13 +11,11 @@ use Rattle.jm_dest.specs.declared.destination.Destination.TheVariants.{Queue, To
 use Rattle.jm_dest.specs.Numbers.{long_end}
 use Rattle.jm_header.specs.declared.content.Content.{Content}
 use Rattle.jm_header.specs.declared.content.Settings.{Settings}
-use Rattle.jm_header.specs.Headers.{message_of, stamped, next_stamped}
-use Rattle.jm_lexer.specs.declared.fault.SyntaxFault.{SyntaxFault}
-use Rattle.jm_tree.specs.declared.tree.Tree.{Tree}
+use Rattle.jm_header.specs.Headers.{has_moments, message_of, stamped, next_stamped}
 use Rattle.jm_machine.specs.declared.call.Who.{Who}
 use Rattle.jm_machine.specs.declared.call.Who.TheVariants.{Connection, Session}
 use Rattle.jm_machine.specs.declared.call.Request.{Request}
-use Rattle.jm_machine.specs.declared.call.Request.TheVariants.{Open, Start, Stop, CloseConnection, CreateSession, CloseSession, CreateConsumer, CreateDurable, CreateShared, CreateSharedDurable, Unsubscribe, CloseConsumer, Receive, Acknowledge, Recover, Rollback, Missed as AskMissed}
+use Rattle.jm_machine.specs.declared.call.Request.TheVariants.{CloseConnection, CreateConsumer, CreateDurable, CreateShared, CreateSharedDurable, Receive, Acknowledge}
 use Rattle.jm_machine.specs.declared.call.Call.{Call}
 use Rattle.jm_machine.specs.declared.call.Call.TheVariants.{Publish, Commit, Ask as AskStep}
 use Rattle.jm_machine.specs.declared.call.ClientCall.{ClientCall}
@@ -30,11 +28,7 @@ use Rattle.jm_machine.specs.declared.state.Row.{Row}
 use Rattle.jm_machine.specs.declared.state.Definition.{Definition}
 use Rattle.jm_machine.specs.Life.{client_of, session_of, mode_of, is_started}
 use Rattle.jm_machine.specs.Rows.{left_of}
-use Rattle.jm_selector.specs.Selectors.{read_refusal, selector_read, selector_refusal}
-use Rattle.jm_machine.specs.Machine.{State, consumer_of, key_at, made, selected_by, durable_of, shared_of, asked, is_same, subscribed, put, joined, definition_of, station_of, with_message, published, of_session, settled, is_client, receive, held, Holding, unless, first_cause, is_transacted, is_untransacted, is_stamped, refusal, publish_refusal, commit_refusal, after, after_commit, answer, replied, moved, reply, step}
-use Rattle.jm_machine.specs.declared.state.Consumer.{Consumer}
-use Rattle.jm_machine.specs.Life.{Life}
-use Rattle.jm_machine.specs.Wants.{is_want}
+use Rattle.jm_machine.specs.Machine.{State, consumer_of, key_at, made, selected_by, durable_of, shared_of, asked, is_same, subscribed, put, joined, definition_of, station_of, with_message, published, of_session, settled, is_client, receive, held, is_transacted, is_untransacted, is_stamped, refusal, publish_refusal, commit_refusal, after, after_commit, replied, moved, reply, step}
 use Rattle.jm_machine.specs.Entries.{sent_entry, is_not_made, pending, entry_of, entries_of}
 use Rattle.jm_machine.specs.Client.{Progress, begun, after_commit_of, after_request, stamp_of, is_in_transaction, stamped_reply, send_reply, stamped_progress, send_progress, reply_to, progress_to, CallFits, RepliesFit}
 use Rattle.jm_law.proofs.EntrySteps.{state_after_entry, EntriesFit, state_at_end, before_by}
@@ -134,92 +128,12 @@ By b p call r next =
     ((next.state ≡ p.state) × (next.kept ≡ p.kept) × ((next.sent ≡ p.sent) ⊎ (next.sent ≡ (progress_to p call).sent)))
     ((r ≡ reply_to p call) × (next ≡ progress_to p call))
 
--- the machine itself never says that memory was wanted, nor that the store refused
-abbrev is_from_outside : Refusal → Bool
-is_from_outside Memory = true
-is_from_outside Store = true
-is_from_outside _ = false
-
-abbrev are_from_outside : Option Refusal → Bool
-are_from_outside None = false
-are_from_outside (Some r) = is_from_outside r
-
-unless_not : (b : Bool) → are_from_outside (unless b IllegalState) ≡ false
-unless_not true = refl
-unless_not false = refl
-
-open_not : (a b : Bool) → are_from_outside (first_cause (unless a IllegalState) (unless b InvalidClientId)) ≡ false
-open_not true true = refl
-open_not true false = refl
-open_not false b = refl
-
-first_not : (b : Bool) (r : Result (Option Tree) SyntaxFault) → are_from_outside (first_cause (unless b IllegalState) (read_refusal r)) ≡ false
-first_not true (Ok t) = refl
-first_not true (Err f) = refl
-first_not false r = refl
-
-named_not : (a b c : Bool) (r : Result (Option Tree) SyntaxFault) →
-    are_from_outside (first_cause (unless a IllegalState) (first_cause (unless b InvalidDestination) (first_cause (read_refusal r) (unless c SubscriptionInUse)))) ≡ false
-named_not true true true (Ok t) = refl
-named_not true true false (Ok t) = refl
-named_not true true c (Err f) = refl
-named_not true false c r = refl
-named_not false b c r = refl
-
-deleted_not : (a b c : Bool) → are_from_outside (first_cause (unless a IllegalState) (first_cause (unless b InvalidDestination) (unless c SubscriptionInUse))) ≡ false
-deleted_not true true true = refl
-deleted_not true true false = refl
-deleted_not true false c = refl
-deleted_not false b c = refl
-
-not_from_outside : (life : Life) (consumers : List Consumer) (h : Holding) (who : Who) (request : Request) → are_from_outside (refusal life consumers h who request) ≡ false
-unfolding refusal selector_refusal
-not_from_outside life consumers h (Connection c) (Open client) = open_not _ _
-not_from_outside life consumers h (Connection c) Start = unless_not _
-not_from_outside life consumers h (Connection c) Stop = unless_not _
-not_from_outside life consumers h (Connection c) CloseConnection = unless_not _
-not_from_outside life consumers h (Session s) (CreateSession mode) = unless_not _
-not_from_outside life consumers h (Session s) CloseSession = unless_not _
-not_from_outside life consumers h (Session s) (CreateConsumer c destination selector no_local) = first_not _ (selector_read selector)
-not_from_outside life consumers h (Session s) (CreateDurable c destination name selector no_local) = named_not _ _ _ (selector_read selector)
-not_from_outside life consumers h (Session s) (CreateShared c destination name selector) = named_not _ _ _ (selector_read selector)
-not_from_outside life consumers h (Session s) (CreateSharedDurable c destination name selector) = named_not _ _ _ (selector_read selector)
-not_from_outside life consumers h (Session s) (Unsubscribe name) = deleted_not _ _ _
-not_from_outside life consumers h (Session s) (CloseConsumer c) = unless_not _
-not_from_outside life consumers h (Session s) (Receive c now) = unless_not _
-not_from_outside life consumers h (Session s) Acknowledge = unless_not _
-not_from_outside life consumers h (Session s) Recover = unless_not _
-not_from_outside life consumers h (Session s) Rollback = unless_not _
-not_from_outside life consumers h (Session s) (AskMissed c) = unless_not _
-not_from_outside life consumers h _ _ = refl
-
-refused_by : (o : Option Refusal) (a : Answer) (r : Refusal) → Err r ≡ replied o a → o ≡ Some r
-refused_by None a r h = cc
-refused_by (Some q) a r h = cc
-
-from_outside : (o : Option Refusal) (a : Answer) (r : Refusal) → are_from_outside o ≡ false → is_from_outside r ≡ true → Err r ≡ replied o a → ⊥
-from_outside o a r n i h =
-    let e : is_from_outside r ≡ false = ap are_from_outside (sym (refused_by o a r h)) ∙ n in
-    cc
-
-from_machine : (state : State) (who : Who) (request : Request) (r : Refusal) → is_from_outside r ≡ true → Err r ≡ reply state who (AskStep request) → ⊥
-unfolding reply
-from_machine state who request r i h =
-    from_outside (refusal state.life state.consumers (held state who request) who request) (answer state.life state.consumers (held state who request) who request) r
-    (not_from_outside state.life state.consumers (held state who request) who request) i h
-
-pub no_store : (state : State) (who : Who) (request : Request) → Err Store ≡ reply state who (AskStep request) → ⊥
-no_store state who request h = from_machine state who request Store refl h
-
-pub no_memory : (state : State) (who : Who) (request : Request) → Err Memory ≡ reply state who (AskStep request) → ⊥
-no_memory state who request h = from_machine state who request Memory refl h
-
 -- a request
 asked_led : (p next : Progress) (before : List Entry) (who : Who) (request : Request) (r : Result Answer Refusal) → Agrees p.state p.kept before → CallFits p (Ask who request) r next →
     LedTo p before (cond (is_not_made r) [] (Asked who request r ∷ [])) next
 unfolding reply_to progress_to state_after_entry
 asked_led p next before who request (Err Memory) a f = unchanged p next before a f.0 f.1
-asked_led p next before who request (Err Store) a f = absurd (no_store p.state who request f.0)
+asked_led p next before who request (Err Store) a f = unchanged p next before a f.0 f.1
 asked_led p next before who request r a f =
     led_by p (progress_to p (Ask who request)) next before (Asked who request r ∷ []) f.1
     (record {
@@ -303,7 +217,7 @@ next_is : (draft : Settings) (destination : Destination) (opening : ℕ) (s : Se
     Stamps s (next_stamped draft destination (record { opening = opening; session = s }) sent now) (stamped draft destination (record { opening = opening; session = s }) (sent + 1) now)
 next_is draft destination opening s sent now =
     let m : Content = message_of draft destination (record { opening = opening; session = s }) (sent + 1) now in
-    let x : Bool = nat_lt (now + draft.time_to_live) long_end in
+    let x : Bool = has_moments draft now in
     let y : Bool = nat_lt (sent + 1) long_end in
     subst (λ v. Stamps s (cond x (cond y (Ok m) (Err Exhausted)) (Err OutOfRange)) (cond (v && y && x) (Ok m) (Err OutOfRange))) (sym (number_above sent)) (next_case x y m s refl)
 
@@ -419,9 +333,9 @@ call_led p next before (Send s draft destination now) (Ok (Missed n)) a f = absu
   where
     no_missed : (k : ℕ) → Missed n ≡ SentAs k → ⊥
     no_missed k h = cc
-call_led p next before (Send s draft destination now) (Err r) a f = refused_led p next before s draft destination now r (is_want (Err r)) a f
+call_led p next before (Send s draft destination now) (Err r) a f = refused_led p next before s draft destination now r (is_not_made (Err r)) a f
 call_led p next before (CommitSession s) (Ok x) a f = committed_led p next before s x a f
-call_led p next before (CommitSession s) (Err r) a f = uncommitted_led p next before s r (is_want (Err r)) a f
+call_led p next before (CommitSession s) (Err r) a f = uncommitted_led p next before s r (is_not_made (Err r)) a f
 
 -- a list of calls
 fits_from : (opening : ℕ) (calls : List ClientCall) (replies : List (Result Answer Refusal)) (p end : Progress) (before : List Entry) → p.state.opening ≡ opening → Agrees p.state p.kept before → RepliesFit p calls replies end →
@@ -438,3 +352,24 @@ fits_from opening (call ∷ calls) (r ∷ replies) p end before e a f =
 
 pub all_fit : (opening : State) (calls : List ClientCall) (replies : List (Result Answer Refusal)) (end : Progress) → RepliesFit (begun opening) calls replies end → EntriesFit opening [] (entries_of opening.opening calls replies)
 all_fit opening calls replies end f = fits_from opening.opening calls replies (begun opening) end [] refl (λ s h. refl) f
+
+-- and those entries lead to the end
+end_append : (xs ys before : List Entry) (state : State) → state_at_end state before (xs ++ ys) ≡ state_at_end (state_at_end state before xs) (before_by before xs) ys
+end_append [] ys before state = refl
+end_append (e ∷ xs) ys before state = end_append xs ys (e ∷ before) (state_after_entry state before e)
+
+end_from : (opening : ℕ) (calls : List ClientCall) (replies : List (Result Answer Refusal)) (p end : Progress) (before : List Entry) → p.state.opening ≡ opening → Agrees p.state p.kept before → RepliesFit p calls replies end →
+    end.state ≡ state_at_end p.state before (entries_of opening calls replies)
+end_from opening [] [] p end before e a f = ap (λ (x : Progress). x.state) f
+end_from opening [] (r ∷ replies) p end before e a f = absurd f
+end_from opening (call ∷ calls) [] p end before e a f = absurd f
+end_from opening (call ∷ calls) (r ∷ replies) p end before e a f =
+    let list : List Entry = entry_of opening call r in
+    let led : LedTo p before list f.0 = subst (λ i. LedTo p before (entry_of i call r) f.0) e (call_led p f.0 before call r a f.1) in
+    let same : f.0.state.opening ≡ opening = ap (λ (x : State). x.opening) led.ends ∙ opening_at_end p.state before list ∙ e in
+    end_from opening calls replies f.0 end (before_by before list) same led.agrees f.2
+    ∙ ap (λ (x : State). state_at_end x (before_by before list) (entries_of opening calls replies)) led.ends
+    ∙ sym (end_append list (entries_of opening calls replies) before p.state)
+
+pub all_end : (opening : State) (calls : List ClientCall) (replies : List (Result Answer Refusal)) (end : Progress) → RepliesFit (begun opening) calls replies end → end.state ≡ state_at_end opening [] (entries_of opening.opening calls replies)
+all_end opening calls replies end f = end_from opening.opening calls replies (begun opening) end [] refl (λ s h. refl) f

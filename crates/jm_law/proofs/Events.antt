@@ -23,12 +23,14 @@ use Rattle.jm_machine.specs.Life.{session_of, mode_of}
 use Rattle.jm_machine.specs.Machine.{State, is_transacted, is_untransacted, is_stamped, places_end, has_places, unless, publish_refusal, commit_refusal, with_message, published, after_commit, replied, moved, reply, step}
 use Rattle.jm_machine.specs.Entries.{drops, sent_entries, step_entries, expand, pending}
 use Rattle.jm_machine.specs.Client.{after_request}
-use Rattle.jm_machine.specs.Isolation.{IsLegal, IsolationOfEvents}
+use Rattle.jm_machine.specs.Isolation.{IsLegal, IsolationOfEvents, EventsReach}
+use Rattle.jm_machine.specs.Isolation.Reached.{Stepped}
 use Rattle.jm_machine.proofs.Keys.{session_same}
 use Rattle.jm_law.proofs.EntrySteps.{state_after_entry, EntriesFit, state_at_end, before_by}
 use Rattle.jm_law.proofs.Steps.{committed_by}
 use Rattle.jm_law.proofs.Transactions.{Agrees, transacted_not_plain, untransacted_plain, agrees_step, agrees_asked, agrees_plain}
-use Rattle.jm_law.proofs.Clients.{Led, no_store, no_memory, fit_append}
+use Rattle.jm_machine.proofs.Outside.{no_store, no_memory}
+use Rattle.jm_law.proofs.Clients.{Led, fit_append}
 use Rattle.jm_law.proofs.Unshared.{by_key}
 
 -- between events no transaction has sent anything
@@ -278,5 +280,12 @@ legal_fits (e ∷ events) before state a l =
     fit_append list (expand events) before state led.fits
     (subst (λ (x : State). EntriesFit x (before_by before list) (expand events)) led.ends (legal_fits events (before_by before list) (step state e.step.who e.step.call) led.agrees l.1))
 
+pub events_fit : (opening : State) (events : List Event) → IsLegal opening events → EntriesFit opening [] (expand events)
+events_fit opening events l = legal_fits events [] opening (λ s h. refl) l
+
 pub isolation_of_events : IsolationOfEvents
-isolation_of_events opening events key l p = by_key opening (expand events) key p.unshared p.numbers p.reached (legal_fits events [] opening (λ s h. refl) l)
+isolation_of_events opening events key l p = by_key opening (expand events) key p.unshared p.numbers p.reached (events_fit opening events l)
+
+pub events_reach : EventsReach
+events_reach opening [] r l = r
+events_reach opening (e ∷ events) r l = events_reach (step opening e.step.who e.step.call) events (Stepped opening e.step.who e.step.call r) l.1

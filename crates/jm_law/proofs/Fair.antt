@@ -40,13 +40,13 @@ AllAside key opening all [] = Unit {0}
 AllAside key opening all (e ∷ entries) = EntryAside key opening all e × AllAside key opening all entries
 
 -- equal clients name alike
-names_same : (key : Key) (a b : ℕ → Option (List ℕ)) (s : SessionId) → a s.connection ≡ b s.connection → (request : Request) → names_key key a s request ≡ names_key key b s request
+pub names_same : (key : Key) (a b : ℕ → Option (List ℕ)) (s : SessionId) → a s.connection ≡ b s.connection → (request : Request) → names_key key a s request ≡ names_key key b s request
 names_same key a b s e (CreateDurable c destination name selector no_local) = ap (λ (o : Option (List ℕ)). key_eq (Durable o name) key) e
 names_same key a b s e (CreateShared c destination name selector) = ap (λ (o : Option (List ℕ)). key_eq (SharedOwn o name) key) e
 names_same key a b s e (CreateSharedDurable c destination name selector) = ap (λ (o : Option (List ℕ)). key_eq (Durable o name) key) e
 names_same key a b s e _ = refl
 
-deletes_same : (key : Key) (a b : ℕ → Option (List ℕ)) (s : SessionId) → a s.connection ≡ b s.connection → (name : List ℕ) → deletes_key key a s name ≡ deletes_key key b s name
+pub deletes_same : (key : Key) (a b : ℕ → Option (List ℕ)) (s : SessionId) → a s.connection ≡ b s.connection → (name : List ℕ) → deletes_key key a s name ≡ deletes_key key b s name
 deletes_same key a b s e name = ap (λ (o : Option (List ℕ)). key_eq (Durable o name) key) e
 
 -- a consumer's own key is named by no client

@@ -5,7 +5,7 @@ use Rattle.jm_base.specs.declared.refusal.Refusal.{Refusal}
 use Rattle.jm_dest.specs.declared.session.SessionId.{SessionId}
 use Rattle.jm_dest.specs.declared.destination.Destination.TheVariants.{Queue, Topic}
 use Rattle.jm_dest.specs.declared.key.Key.{Key}
-use Rattle.jm_dest.specs.declared.key.Key.TheVariants.{Own, Queue as OfQueue}
+use Rattle.jm_dest.specs.declared.key.Key.TheVariants.{Own, SharedOwn, Durable, Queue as OfQueue}
 use Rattle.jm_dest.specs.Keys.{key_eq}
 use Rattle.jm_header.specs.declared.content.Content.{Content}
 use Rattle.jm_machine.specs.declared.call.Who.{Who}
@@ -22,8 +22,9 @@ use Rattle.jm_machine.specs.declared.state.Station.{Station}
 use Rattle.jm_machine.specs.Life.{client_of, is_started, mode_of}
 use Rattle.jm_machine.specs.Rows.{left_of, deliver_placed}
 use Rattle.jm_machine.specs.Machine.{State, publisher_of, offered, with_message, published, with_rows, at_key, station_of, definition_of, has_number, consumer_of, key_at, selected_by, new_consumer, standing_as, defined, durable_of, shared_of, asked, is_same, put, joined, subscribed, of_session, of_connection, of_number, settled_rows, returned_rows, settled, returned, closed_consumer, ends, closed, with_life, is_client, receive, held, refusal, publish_refusal, commit_refusal, after, after_commit, moved, step}
+use Rattle.jm_machine.specs.Reopened.{AreDurable, is_durable}
 use Rattle.jm_machine.specs.Isolation.{Reached}
-use Rattle.jm_machine.specs.Isolation.Reached.{New, Stepped}
+use Rattle.jm_machine.specs.Isolation.Reached.{New, Reopened, Stepped}
 use Rattle.jm_machine.proofs.Keys.{key_same}
 use Rattle.jm_law.proofs.Stations.{mapped, station_of-map, station_of-at, station_of_other-at, other-put, station-ended}
 use Rattle.jm_law.proofs.OneConsumer.{offered_parts}
@@ -163,6 +164,17 @@ founded_step s c state who (Ask request) h = founded_moved s c (refusal state.li
 founded_step s c state who (Publish messages) h = founded_moved s c (publish_refusal state who messages) (published state messages) state (founded_published s c state messages h) h
 founded_step s c state who (Commit messages) h = founded_moved s c (commit_refusal state who messages) (after_commit state who messages) state (founded_committed s c state who messages h) h
 
+no_own : (messages : ℕ → Option Content) (s : SessionId) (c : ℕ) (stations : List Station) → AreDurable messages stations → station_of (Own s c) stations ≡ None
+no_own messages s c [] h = refl
+no_own messages s c (x ∷ stations) h = ap (λ b. cond b (Some x) (station_of (Own s c) stations)) (other x.key h.0) ∙ no_own messages s c stations h.4
+  where
+    other : (key : Key) → is_durable key ≡ true → key_eq key (Own s c) ≡ false
+    other (OfQueue name) e = cc
+    other (Own t d) e = cc
+    other (SharedOwn client name) e = cc
+    other (Durable client name) e = refl
+
 pub reached_founded : (s : SessionId) (c : ℕ) (state : State) → Reached state → is_some (consumer_of state.consumers s c) ≡ false → station_of (Own s c) state.stations ≡ None
 reached_founded s c state (New opening limit) = λ m. refl
+reached_founded s c state (Reopened opening limit stations queues next_place h) = λ m. no_own h.messages s c stations h.durable
 reached_founded s c state (Stepped before who call r) = founded_step s c before who call (reached_founded s c before r)

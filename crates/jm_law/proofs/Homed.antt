@@ -26,8 +26,9 @@ use Rattle.jm_machine.specs.declared.state.Station.{Station}
 use Rattle.jm_machine.specs.Life.{client_of, mode_of, is_started}
 use Rattle.jm_machine.specs.Rows.{bare, fresh, is_out, left_of, sent_out, settles_at_once, live_placed, change_placed, deliver_placed}
 use Rattle.jm_machine.specs.Machine.{State, Publisher, publisher_of, accepts, is_full, one_missed, brought, offered, with_message, published, with_rows, at_key, without, station_of, rows_of, consumer_of, key_at, defined, selected_by, durable_of, shared_of, asked, is_same, subscribed, put, joined, definition_of, of_session, of_connection, settled_rows, returned_rows, settled, returned, closed, with_life, is_client, receive, held, refusal, publish_refusal, commit_refusal, after, after_commit, moved, step}
+use Rattle.jm_machine.specs.Reopened.{AreDurable, AreWaiting}
 use Rattle.jm_machine.specs.Isolation.{Reached}
-use Rattle.jm_machine.specs.Isolation.Reached.{New, Stepped}
+use Rattle.jm_machine.specs.Isolation.Reached.{New, Reopened, Stepped}
 use Rattle.jm_machine.proofs.Keys.{key_same}
 use Rattle.jm_law.proofs.Consumers.{OutBy, OwnOut}
 use Rattle.jm_law.proofs.Keyed.{OwnFits, FitsOwn, found_fits, reached_keyed}
@@ -202,8 +203,17 @@ home_step state who (Ask request) k h = home_moved (refusal state.life state.con
 home_step state who (Publish messages) k h = home_moved (publish_refusal state who messages) (published state messages) state (home_published state messages h) h
 home_step state who (Commit messages) k h = home_moved (commit_refusal state who messages) (after_commit state who messages) state (home_committed state who messages h) h
 
+home_waiting : (k : Key) (rows : List PlacedRow) → AreWaiting rows → RowsHome k rows
+home_waiting k [] h = tt
+home_waiting k (x ∷ rows) h = (subst (Home k) (sym h.0) tt, home_waiting k rows h.1)
+
+home_stored : (messages : ℕ → Option Content) (stations : List Station) → AreDurable messages stations → AllHome stations
+home_stored messages [] h = tt
+home_stored messages (x ∷ stations) h = (home_waiting x.key x.rows h.2, home_stored messages stations h.4)
+
 reached_homed : (state : State) → Reached state → Homed state
 reached_homed state (New opening limit) = tt
+reached_homed state (Reopened opening limit stations queues next_place h) = home_stored h.messages stations h.durable
 reached_homed state (Stepped before who call r) = home_step before who call (λ s c. found_fits s c before.consumers (reached_keyed before r)) (reached_homed before r)
 
 -- ---- one key

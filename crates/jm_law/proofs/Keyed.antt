@@ -19,7 +19,7 @@ use Rattle.jm_machine.specs.Life.{client_of, is_started, mode_of}
 use Rattle.jm_machine.specs.Rows.{left_of}
 use Rattle.jm_machine.specs.Machine.{State, durable_of, shared_of, asked, subscribed, selected_by, standing_as, new_consumer, has_number, consumer_of, key_at, closed_consumer, of_session, of_connection, of_number, settled, is_client, receive, held, refusal, publish_refusal, commit_refusal, after, after_commit, published, moved, step}
 use Rattle.jm_machine.specs.Isolation.{Reached}
-use Rattle.jm_machine.specs.Isolation.Reached.{New, Stepped}
+use Rattle.jm_machine.specs.Isolation.Reached.{New, Reopened, Stepped}
 use Rattle.jm_machine.proofs.Keys.{session_same, session_refl}
 use Rattle.jm_machine.specs.declared.state.Definition.{Definition}
 use Rattle.jm_law.proofs.Run.{subscribed_consumers, published_consumers, received_consumers, committed_consumers}
@@ -86,6 +86,7 @@ keyed_step state who (Commit messages) k = keyed_moved (commit_refusal state who
 
 pub reached_keyed : (state : State) → Reached state → Keyed state.consumers
 reached_keyed state (New opening limit) = tt
+reached_keyed state (Reopened opening limit stations queues next_place h) = tt
 reached_keyed state (Stepped before who call r) = keyed_step before who call (reached_keyed before r)
 
 -- the consumer that a number finds has a key that fits it

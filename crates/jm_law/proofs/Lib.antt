@@ -10,6 +10,7 @@ pub mod Transactions
 pub mod Clients
 pub mod Unshared
 pub mod Events
+pub mod Belonging
 pub mod Worlds
 pub mod EntrySteps
 pub mod Keyed
@@ -22,3 +23,4 @@ pub mod Queues
 pub mod OneConsumer
 pub mod Founded
 pub mod Subscribed
+pub mod RunSteps

@@ -83,7 +83,7 @@ call_kept key opening all s c (e ∷ entries) k h = go (creates s c e) refl h (c
     go false i h r = r h
 
 -- a number that is made for the key names nothing else
-made_keeps : (key : Key) (opening : State) (all : List Entry) → Numbers key opening all → (s : SessionId) (c : ℕ) → is_made_for key opening all s c ≡ true → keeps_number key opening all s c ≡ true
+pub made_keeps : (key : Key) (opening : State) (all : List Entry) → Numbers key opening all → (s : SessionId) (c : ℕ) → is_made_for key opening all s c ≡ true → keeps_number key opening all s c ≡ true
 made_keeps key opening all n s c h =
     consumer_kept key opening all s c (first_named key (clients_in opening all) all s c) (call_kept key opening all s c all n.calls) opening.consumers n.consumers h
 
@@ -102,7 +102,7 @@ pub or_second : (x y : Bool) → y ≡ true → (x || y) ≡ true
 or_second true y i = refl
 or_second false y i = i
 
-both_ways : (x y : Bool) → (x ≡ true → y ≡ true) → (y ≡ true → x ≡ true) → x ≡ y
+pub both_ways : (x y : Bool) → (x ≡ true → y ≡ true) → (y ≡ true → x ≡ true) → x ≡ y
 both_ways true y p q = sym (p refl)
 both_ways false true p q = q refl
 both_ways false false p q = refl

@@ -29,7 +29,7 @@ use Rattle.jm_machine.specs.Rows.{fresh, left_of, deliver_placed}
 use Rattle.jm_machine.specs.Attached.{is_at, active_at}
 use Rattle.jm_machine.specs.Machine.{State, Publisher, publisher_of, accepts, is_full, one_missed, brought, offered, with_message, published, with_rows, at_key, station_of, definition_of, consumer_of, key_at, selected_by, new_consumer, standing_as, defined, durable_of, shared_of, asked, same_definition, is_same, is_same_kind, same_mark, is_idle, is_home, is_free, may_resume, put, joined, subscribed, deleted, of_session, of_connection, of_number, settled_rows, returned_rows, settled, returned, closed_consumer, ends, closed, with_life, is_client, receive, held, Holding, holding_of, is_of_topic, may_begin, subscription_refusal, same_selector, unless, first_cause, refusal, publish_refusal, commit_refusal, after, after_commit, moved, step}
 use Rattle.jm_machine.specs.Isolation.{Reached, is_shared}
-use Rattle.jm_machine.specs.Isolation.Reached.{New, Stepped}
+use Rattle.jm_machine.specs.Isolation.Reached.{New, Reopened, Stepped}
 use Rattle.jm_law.specs.OneConsumer.{OneConsumerEach}
 use Rattle.jm_machine.proofs.Keys.{key_same}
 use Rattle.jm_law.proofs.Lists.{push_out}
@@ -368,6 +368,7 @@ fine_step client name state who (Commit messages) h = fine_moved (Durable client
 
 reached_fine : (client : Option (List ℕ)) (name : List ℕ) (state : State) → Reached state → Fine (Durable client name) state
 reached_fine client name state (New opening limit) = record { none = λ i. refl; one = λ d i u. omega arith }
+reached_fine client name state (Reopened opening limit stations queues next_place h) = record { none = λ i. refl; one = λ d i u. omega arith }
 reached_fine client name state (Stepped before who call r) = fine_step client name before who call (reached_fine client name before r)
 
 one_at_most : (o : Option Definition) (n : ℕ) → Few o n → is_shared o ≡ false → n ≤ 1

@@ -22,7 +22,7 @@ use Rattle.jm_machine.specs.Machine.{State, held, unless, first_cause, refusal, 
 use Rattle.jm_machine.specs.Entries.{life_after_entry}
 use Rattle.jm_machine.specs.Lone.{client_opened, client_or, clients_in}
 use Rattle.jm_machine.specs.Isolation.{Reached}
-use Rattle.jm_machine.specs.Isolation.Reached.{New, Stepped}
+use Rattle.jm_machine.specs.Isolation.Reached.{New, Reopened, Stepped}
 use Rattle.jm_machine.proofs.Keys.{session_same}
 use Rattle.jm_law.proofs.EntrySteps.{Replied}
 use Rattle.jm_law.proofs.Run.{after_life, published_life, committed_life}
@@ -137,6 +137,7 @@ linked_step state who (Commit messages) h = linked_moved (commit_refusal state w
 
 pub reached_linked : (state : State) → Reached state → Linked state.life
 reached_linked state (New opening limit) = λ s m. cc
+reached_linked state (Reopened opening limit stations queues next_place h) = λ s m. cc
 reached_linked state (Stepped before who call r) = linked_step before who call (reached_linked before r)
 
 -- ---- the clients of connections

@@ -1,16 +1,12 @@
 -- At one key a change of the stations is a change of that key's.
-use Rattle.std.proofs.Common.{◌≡◌, ℕ, Bool, true, false, cond, List, [], ◌∷◌, ◌++◌, map, length, suc, refl, ap, ◌∙◌, arith, Option, Some, None}
+use Rattle.std.proofs.Common.{◌≡◌, Bool, true, false, cond, List, [], ◌∷◌, ◌++◌, map, refl, ap, ◌∙◌, arith, Option, Some, None}
 use Rattle.std.specs.Prelude.{filter, not}
-use Rattle.jm_dest.specs.declared.session.SessionId.{SessionId}
 use Rattle.std.proofs.lemmas.Bool.Decides.{nat_tests}
 use Rattle.jm_dest.specs.declared.key.Key.{Key}
 use Rattle.jm_dest.specs.Keys.{key_eq}
-use Rattle.jm_machine.specs.declared.state.Row.{Row}
-use Rattle.jm_machine.specs.declared.state.PlacedRow.{PlacedRow}
 use Rattle.jm_machine.specs.declared.state.Station.{Station}
 use Rattle.jm_machine.specs.declared.state.Definition.{Definition}
-use Rattle.jm_machine.specs.Rows.{is_out, given_back, is_next, live, change_first, deliver, bare, change_placed, live_placed, deliver_placed}
-use Rattle.jm_machine.specs.Machine.{station_of, at_key, without, settled_rows, returned_rows}
+use Rattle.jm_machine.specs.Machine.{station_of, at_key, without}
 use Rattle.jm_machine.proofs.Keys.{key_same, key_refl}
 
 abbrev pub mapped : (Station → Station) → Option Station → Option Station

@@ -21,7 +21,7 @@ use Rattle.jm_machine.specs.Owns.{is_own}
 use Rattle.jm_machine.specs.Machine.{State, station_of, rows_of}
 use Rattle.jm_machine.specs.Entries.{entries_of}
 use Rattle.jm_machine.specs.Lone.{clients_in, is_made_for, creates, entry_names, names_key, asks_for, askers, consuming, out_to, holding_rows, own_sessions, scope_of}
-use Rattle.jm_machine.specs.Isolation.{Reached, keeps_number, keeps_consumer, keeps_named, asks_no_shared, is_unshared, keeps_numbers, answered, alone, Isolation}
+use Rattle.jm_machine.specs.Isolation.{Reached, keeps_number, keeps_consumer, keeps_named, asks_no_shared, is_unshared, keeps_numbers, answered, alone, Isolation, IsolationOfRuns}
 use Rattle.jm_machine.proofs.Keys.{session_same, session_refl, key_same}
 use Rattle.jm_law.proofs.Consumers.{OutBy, OwnOut}
 use Rattle.jm_law.proofs.EntrySteps.{EntriesFit}
@@ -30,6 +30,8 @@ use Rattle.jm_law.proofs.Keyed.{OwnFits, Keyed, reached_keyed}
 use Rattle.jm_law.proofs.Homed.{out_own}
 use Rattle.jm_law.proofs.Numbers.{Kept, ConsumersKept, CallsKept, Numbers, placed_by, and_both, or_first, or_second}
 use Rattle.jm_law.proofs.Fair.{EntryAside, AllAside, fair_by}
+use Rattle.jm_machine.specs.Client.{begun}
+use Rattle.jm_machine.proofs.Reaches.{owed_fits}
 use Rattle.jm_law.proofs.Clients.{all_fit}
 
 -- ---- a consumer's own key
@@ -128,15 +130,15 @@ durable_consumers client name opening all (x ∷ xs) h g = (
     more false s o = o
 
 -- the sessions that are left to ask for the key are own ones
-abbrev AskersOwn : Key → State → List Entry → List Entry → Type 0
+abbrev pub AskersOwn : Key → State → List Entry → List Entry → Type 0
 AskersOwn key opening all left = (s : SessionId) → is_own (askers key (clients_in opening all) left) s ≡ true → is_own (own_sessions key opening all) s ≡ true
 
-asker_first : (key : Key) (opening : State) (all left : List Entry) (s : SessionId) (b : Bool) → b ≡ true → ((r : SessionId) → is_own (cond b (s ∷ askers key (clients_in opening all) left) (askers key (clients_in opening all) left)) r ≡ true → is_own (own_sessions key opening all) r ≡ true) →
+pub asker_first : (key : Key) (opening : State) (all left : List Entry) (s : SessionId) (b : Bool) → b ≡ true → ((r : SessionId) → is_own (cond b (s ∷ askers key (clients_in opening all) left) (askers key (clients_in opening all) left)) r ≡ true → is_own (own_sessions key opening all) r ≡ true) →
     is_own (own_sessions key opening all) s ≡ true
 asker_first key opening all left s true h g = g s (own_head s (askers key (clients_in opening all) left))
 asker_first key opening all left s false h g = cc
 
-askers_left : (key : Key) (opening : State) (all : List Entry) (e : Entry) (left : List Entry) → AskersOwn key opening all (e ∷ left) → AskersOwn key opening all left
+pub askers_left : (key : Key) (opening : State) (all : List Entry) (e : Entry) (left : List Entry) → AskersOwn key opening all (e ∷ left) → AskersOwn key opening all left
 askers_left key opening all (Asked (Session r) request told) left g s o = g s (more (asks_for key (clients_in opening all) r request))
   where
     more : (b : Bool) → is_own (cond b (r ∷ askers key (clients_in opening all) left) (askers key (clients_in opening all) left)) s ≡ true
@@ -202,21 +204,35 @@ own_by t d opening entries u r f =
     run_alone (scope_of (Own t d) opening entries) tt entries 0 [] opening (fair_by (Own t d) opening entries tt n (own_aside t d opening entries entries) r f)
     (record { placed = placed_by (Own t d) opening entries tt n; out = out_own t d opening r }) f
 
+-- those that ask are own sessions
+pub askers_own : (client : Option (List ℕ)) (name : List ℕ) (opening : State) (entries : List Entry) → AskersOwn (Durable client name) opening entries entries
+askers_own client name opening entries s o =
+    let key : Key = Durable client name in
+    let rows : List Row = rows_of (station_of key opening.stations) in
+    let last : List SessionId = askers key (clients_in opening entries) entries in
+    own_behind (consuming key opening.consumers) (holding_rows rows ++ last) s (own_behind (holding_rows rows) last s o)
+
+-- and each of the numbers says the same
+pub durable_numbers : (client : Option (List ℕ)) (name : List ℕ) (opening : State) (entries : List Entry) → list_all (asks_no_shared (Durable client name) (clients_in opening entries)) entries ≡ true →
+    keeps_numbers (Durable client name) opening entries ≡ true → Numbers (Durable client name) opening entries
+durable_numbers client name opening entries s k =
+    let key : Key = Durable client name in
+    let b = and_both _ _ k in
+    record {
+      consumers = durable_consumers client name opening entries opening.consumers b.0 (λ t o. own_before (consuming key opening.consumers) _ t o);
+      calls = durable_calls client name opening entries entries b.1 s (askers_own client name opening entries);
+    }
+
 durable_by : (client : Option (List ℕ)) (name : List ℕ) (opening : State) (entries : List Entry) → list_all (asks_no_shared (Durable client name) (clients_in opening entries)) entries ≡ true →
-    list_all (keeps_consumer (Durable client name) opening entries) opening.consumers ≡ true → list_all (keeps_named (Durable client name) opening entries) entries ≡ true → Reached opening → EntriesFit opening [] entries →
-    answered (Durable client name) opening entries ≡ alone (Durable client name) opening entries
-durable_by client name opening entries s c k r f =
+    keeps_numbers (Durable client name) opening entries ≡ true → Reached opening → EntriesFit opening [] entries → answered (Durable client name) opening entries ≡ alone (Durable client name) opening entries
+durable_by client name opening entries s k r f =
     let own : List SessionId = own_sessions (Durable client name) opening entries in
     let rows : List Row = rows_of (station_of (Durable client name) opening.stations) in
     let first : List SessionId = consuming (Durable client name) opening.consumers in
     let last : List SessionId = askers (Durable client name) (clients_in opening entries) entries in
-    let asking : AskersOwn (Durable client name) opening entries entries = λ t o. own_behind first (holding_rows rows ++ last) t (own_behind (holding_rows rows) last t o) in
-    let n : Numbers (Durable client name) opening entries =
-    record {
-      consumers = durable_consumers client name opening entries opening.consumers c (λ t o. own_before first (holding_rows rows ++ last) t o);
-      calls = durable_calls client name opening entries entries k s asking;
-    } in
-    run_alone (scope_of (Durable client name) opening entries) tt entries 0 [] opening (fair_by (Durable client name) opening entries tt n (durable_aside client name opening entries entries s asking) r f)
+    let n : Numbers (Durable client name) opening entries = durable_numbers client name opening entries s k in
+    run_alone (scope_of (Durable client name) opening entries) tt entries 0 [] opening
+    (fair_by (Durable client name) opening entries tt n (durable_aside client name opening entries entries s (askers_own client name opening entries)) r f)
     (record { placed = placed_by (Durable client name) opening entries tt n; out = rows_own own rows (λ t o. own_behind first (holding_rows rows ++ last) t (own_before (holding_rows rows) last t o)) }) f
 
 pub by_key : (opening : State) (entries : List Entry) (key : Key) → is_unshared key opening entries ≡ true → keeps_numbers key opening entries ≡ true → Reached opening → EntriesFit opening [] entries →
@@ -226,10 +242,12 @@ by_key opening entries (Own s c) u n r f = own_by s c opening entries u r f
 by_key opening entries (SharedOwn client name) u n r f = cc
 by_key opening entries (Durable None name) u n r f = cc
 by_key opening entries (Durable (Some client) name) u n r f =
-    let a = and_both _ _ u in
-    let b = and_both _ _ n in
-    durable_by (Some client) name opening entries a.1 b.0 b.1 r f
+    durable_by (Some client) name opening entries (and_both _ _ u).1 n r f
 
 pub isolation : Isolation
 isolation opening calls replies end key f p =
     by_key opening (entries_of opening.opening calls replies) key p.unshared p.numbers p.reached (all_fit opening calls replies end f)
+
+pub isolation_of_runs : IsolationOfRuns
+isolation_of_runs opening calls replies end r f key u n =
+    isolation opening calls replies end key (owed_fits (begun opening) calls replies end f) (record { unshared = u; numbers = n; reached = r })

@@ -15,18 +15,20 @@ use Rattle.jm_machine.specs.declared.call.Request.{Request}
 use Rattle.jm_machine.specs.declared.answer.Answer.{Answer}
 use Rattle.jm_machine.specs.declared.entry.Entry.{Entry}
 use Rattle.jm_machine.specs.declared.entry.Entry.TheVariants.{Asked, Sent, Committed}
-use Rattle.jm_machine.specs.declared.state.Consumer.{Consumer}
 use Rattle.jm_machine.specs.Owns.{is_own}
 use Rattle.jm_machine.specs.Life.{Life}
 use Rattle.jm_machine.specs.Machine.{State, consumer_of}
-use Rattle.jm_machine.specs.Entries.{entries_of, life_after_entry, committed}
+use Rattle.jm_machine.specs.Entries.{entries_of, expand, life_after_entry, committed}
 use Rattle.jm_machine.specs.Lone.{Scope, Lone, Item, number_made, is_number, creates, is_made_for, numbers_of, scope_of, lone_of, lone_after, lone_end, lone_told, placed, lone_replies, came, accepted, fed, at_place, feed}
 use Rattle.jm_machine.specs.Lone.Item.{Called, Settled, Came}
-use Rattle.jm_machine.specs.Isolation.{keeps_number, is_unshared, alone, starts_with, feed_of, in_order, SameScope, TwoWorlds}
+use Rattle.jm_machine.specs.Isolation.{keeps_number, is_unshared, alone, starts_with, feed_of, in_order, Premises, answered, keeps_numbers, TwoWorlds, TwoWorldsOfEvents}
 use Rattle.jm_machine.proofs.Keys.{session_same, session_refl}
-use Rattle.jm_law.proofs.Numbers.{keeps, made_kept, and_both}
-use Rattle.jm_law.proofs.Unshared.{by_key}
+use Rattle.jm_law.proofs.Numbers.{made_kept, and_both}
+use Rattle.jm_law.proofs.EntrySteps.{EntriesFit}
+use Rattle.jm_law.proofs.Unshared.{askers_own, durable_numbers, by_key}
+use Rattle.jm_law.proofs.Belonging.{in_order-append, in_order-at, found_among, scope_shown, durable_scope}
 use Rattle.jm_law.proofs.Clients.{all_fit}
+use Rattle.jm_law.proofs.Events.{events_fit}
 
 -- ---- what is answered goes by the items alone
 
@@ -37,10 +39,6 @@ bare_told (Some r) = r ∷ []
 abbrev answers_to : Scope → Lone → List Item → List (Result Answer Refusal)
 answers_to S l [] = []
 answers_to S l (i ∷ items) = bare_told (lone_told S l i) ++ answers_to S (lone_after S l i) items
-
-in_order-append : {A : Type 0} (xs ys : List (ℕ × A)) → in_order (xs ++ ys) ≡ in_order xs ++ in_order ys
-in_order-append [] ys = refl
-in_order-append (x ∷ xs) ys = ap (λ t. x.1 ∷ t) (in_order-append xs ys)
 
 in_order-placed : (place : ℕ) (o : Option (Result Answer Refusal)) → in_order (placed place o) ≡ bare_told o
 in_order-placed place None = refl
@@ -67,10 +65,6 @@ item_creates s c (Came m) = false
 any_append : {A : Type 0} (p : A → Bool) (xs ys : List A) → list_any p (xs ++ ys) ≡ (list_any p xs || list_any p ys)
 any_append p [] ys = refl
 any_append p (x ∷ xs) ys = grind (arith, nat_tests, any_append p xs ys)
-
-in_order-at : (place : ℕ) (items : List Item) → in_order (at_place place items) ≡ items
-in_order-at place [] = refl
-in_order-at place (i ∷ items) = ap (λ t. i ∷ t) (in_order-at place items)
 
 none_came : (s : SessionId) (c : ℕ) (ms : List Content) → list_any (item_creates s c) (came ms) ≡ false
 none_came s c [] = refl
@@ -118,11 +112,6 @@ feed_creates S t c h (e ∷ entries) place life before l =
     ∙ ap (λ v. v || list_any (item_creates t c) (in_order rest)) (fed_creates S t c life before l e h)
     ∙ ap (λ v. creates t c e || v) (feed_creates S t c h entries (place + 1) (life_after_entry life e) (e ∷ before) (lone_end S l items))
 
--- the consumer of an own number is among the key's
-found_among : (t : SessionId) (d : ℕ) (xs : List Consumer) → keeps (Own t d) t d xs ≡ true → is_some (consumer_of (filter (λ x. key_eq x.key (Own t d)) xs) t d) ≡ is_some (consumer_of xs t d)
-found_among t d [] k = refl
-found_among t d (x ∷ xs) k = grind (arith, nat_tests, found_among t d xs)
-
 -- an own number was made where the key's consumers show it at the start, or the feed has a call that makes it
 abbrev is_seen : SessionId → ℕ → Lone → List Item → Bool
 is_seen t d l items = is_some (consumer_of l.consumers t d) || list_any (item_creates t d) items
@@ -132,7 +121,7 @@ made_seen : (t : SessionId) (d : ℕ) (opening : State) (entries : List Entry) �
 unfolding lone_of
 made_seen t d opening entries u =
     made_kept (Own t d) opening entries t d u
-    ∙ ap (λ v. v || list_any (creates t d) entries) (sym (found_among t d opening.consumers (and_both _ _ u).0))
+    ∙ ap (λ v. v || list_any (creates t d) entries) (sym (found_among (Own t d) t d opening.consumers (and_both _ _ u).0))
     ∙ ap (λ v. is_some (consumer_of (filter (λ x. key_eq x.key (Own t d)) opening.consumers) t d) || v)
     (sym (feed_creates (scope_of (Own t d) opening entries) t d (own_self t) entries 0 opening.life [] (starts_with (Own t d) opening entries)))
   where
@@ -164,14 +153,22 @@ own_scope t d one other calls others p q e f =
     let made : is_made_for (Own t d) one calls t d ≡ is_made_for (Own t d) other others t d = made_seen t d one calls p ∙ (λ i. is_seen t d (e i) (f i)) ∙ sym (made_seen t d other others q) in
     λ i. scope_by t d (λ s c. numbers_same t d one other calls others made s c i)
 
-same_scope : (key : Key) (one other : State) (calls others : List Entry) → is_unshared key one calls ≡ true → is_unshared key other others ≡ true → SameScope key (scope_of key one calls) (scope_of key other others) →
+-- equal beginnings and equal feeds show the same
+same_shown : (key : Key) (l l' : Lone) (items items' : List Item) → l ≡ l' → items ≡ items' → scope_shown key l items ≡ scope_shown key l' items'
+same_shown key l l' items items' e f = λ i. scope_shown key (e i) (f i)
+
+same_scope : (key : Key) (one other : State) (calls others : List Entry) → is_unshared key one calls ≡ true → keeps_numbers key one calls ≡ true → is_unshared key other others ≡ true → keeps_numbers key other others ≡ true →
     starts_with key one calls ≡ starts_with key other others →
     in_order (feed_of key one calls) ≡ in_order (feed_of key other others) →
     scope_of key one calls ≡ scope_of key other others
-same_scope (OfQueue name) one other calls others p q s e f = cc
-same_scope (Own t d) one other calls others p q s e f = own_scope t d one other calls others p q e f
-same_scope (SharedOwn client name) one other calls others p q s e f = cc
-same_scope (Durable client name) one other calls others p q s e f = s
+same_scope (OfQueue name) one other calls others p m q n e f = cc
+same_scope (Own t d) one other calls others p m q n e f = own_scope t d one other calls others p q e f
+same_scope (SharedOwn client name) one other calls others p m q n e f = cc
+same_scope (Durable None name) one other calls others p m q n e f = cc
+same_scope (Durable (Some client) name) one other calls others p m q n e f =
+    durable_scope (Some client) name one calls (durable_numbers (Some client) name one calls (and_both _ _ p).1 m) (askers_own (Some client) name one calls)
+    ∙ same_shown (Durable (Some client) name) _ _ _ _ e f
+    ∙ sym (durable_scope (Some client) name other others (durable_numbers (Some client) name other others (and_both _ _ q).1 n) (askers_own (Some client) name other others))
 
 worlds : (key : Key) (one other : State) (calls others : List Entry) → scope_of key one calls ≡ scope_of key other others →
     starts_with key one calls ≡ starts_with key other others →
@@ -182,10 +179,19 @@ worlds key one other calls others same e f =
     ∙ (λ i. answers_to (same i) (e i) (f i))
     ∙ sym (answers_bare (scope_of key other others) (starts_with key other others) (feed_of key other others))
 
+-- in two records whose entries fit
+worlds_by : (key : Key) (one other : State) (calls others : List Entry) → EntriesFit one [] calls → Premises key one calls → EntriesFit other [] others → Premises key other others →
+    starts_with key one calls ≡ starts_with key other others →
+    in_order (feed_of key one calls) ≡ in_order (feed_of key other others) →
+    in_order (answered key one calls) ≡ in_order (answered key other others)
+worlds_by key one other calls others f p g q e h =
+    ap (λ (xs : List (ℕ × Result Answer Refusal)). in_order xs) (by_key one calls key p.unshared p.numbers p.reached f)
+    ∙ worlds key one other calls others (same_scope key one other calls others p.unshared p.numbers q.unshared q.numbers e h) e h
+    ∙ sym (ap (λ (xs : List (ℕ × Result Answer Refusal)). in_order xs) (by_key other others key q.unshared q.numbers q.reached g))
+
 pub two_worlds : TwoWorlds
-two_worlds one other calls others replies told end finish key f p g q s e h =
-    let first : List Entry = entries_of one.opening calls replies in
-    let second : List Entry = entries_of other.opening others told in
-    ap (λ (xs : List (ℕ × Result Answer Refusal)). in_order xs) (by_key one first key p.unshared p.numbers p.reached (all_fit one calls replies end f))
-    ∙ worlds key one other first second (same_scope key one other first second p.unshared q.unshared s e h) e h
-    ∙ sym (ap (λ (xs : List (ℕ × Result Answer Refusal)). in_order xs) (by_key other second key q.unshared q.numbers q.reached (all_fit other others told finish g)))
+two_worlds one other calls others replies told end finish key f p g q e h =
+    worlds_by key one other (entries_of one.opening calls replies) (entries_of other.opening others told) (all_fit one calls replies end f) p (all_fit other others told finish g) q e h
+
+pub two_worlds_of_events : TwoWorldsOfEvents
+two_worlds_of_events one other events others key l p m q e h = worlds_by key one other (expand events) (expand others) (events_fit one events l) p (events_fit other others m) q e h

@@ -1,2 +1,3 @@
 pub mod OneConsumer
 pub mod Subscriptions
+pub mod Runs

@@ -1,4 +1,4 @@
--- What becomes of a subscription's messages: each that came to it is held there, or was settled, or was dropped as expired,
+-- What becomes of a subscription's messages: each that it held or that came to it is held there, or was settled, or was dropped as expired,
 -- or went with the subscription.
 use Rattle.std.specs.Prelude.{◌≡◌, ℕ, ◌+◌, ◌≤◌, Bool, true, false, ◌&&◌, not, List, [], ◌∷◌, ◌++◌, filter, length, Option, Some, None, is_none, if◌then◌else◌}
 use Rattle.jm_dest.specs.declared.key.Key.{Key}
@@ -16,8 +16,9 @@ use Rattle.jm_machine.specs.declared.state.PlacedRow.{PlacedRow}
 use Rattle.jm_machine.specs.declared.state.Station.{Station}
 use Rattle.jm_machine.specs.Life.{client_of, is_started, mode_of}
 use Rattle.jm_machine.specs.Rows.{bare, fresh, has_lapsed, is_next, is_out, live, live_placed, settles_at_once}
-use Rattle.jm_machine.specs.Machine.{State, Publisher, publisher_of, accepts, is_full, with_message, new_core, station_of, definition_of, consumer_of, key_at, durable_of, asked, is_same, of_session, of_connection, of_number, ends, is_client, settled, held, refusal, publish_refusal, commit_refusal, step}
-use Rattle.jm_machine.specs.Places.{rows_at}
+use Rattle.jm_machine.specs.Machine.{State, Publisher, publisher_of, accepts, is_full, with_message, station_of, definition_of, consumer_of, key_at, durable_of, asked, is_same, of_session, of_connection, of_number, ends, is_client, settled, held, refusal, publish_refusal, commit_refusal, step}
+use Rattle.jm_machine.specs.Isolation.{Reached}
+use Rattle.jm_machine.specs.Places.{rows_at, rows_holding}
 use Rattle.jm_machine.specs.Queues.{first_row, rows_unless, state_after}
 
 -- the rows of a subscription that there is
@@ -127,14 +128,15 @@ abbrev pub all_came_under : Key → State → List Step → List PlacedRow
 all_came_under key state [] = []
 all_came_under key state (s ∷ steps) = came_under key state s.who s.call ++ all_came_under key (step state s.who s.call) steps
 
--- Over every list of steps from a new core each message that came to a subscription, a shared one too, is in exactly one
--- place: it is held there, waiting or out to one session, or it was settled once, or dropped once as expired, or it went
--- once with the subscription. What did not come is in none.
+-- Over every list of steps from a state that the provider reaches, what a subscription held and what came to it, a shared one
+-- too, is in exactly one place: it is held there, waiting or out to one session, or it was settled once, or dropped once as
+-- expired, or it went once with the subscription. What neither was held nor came is in none. It is said of each place and
+-- of whichever messages pass any test: so it is the message itself that is held, settled, dropped or gone.
 abbrev pub SubscriptionKeeps : Type 0
 SubscriptionKeeps =
-    (opening limit : ℕ) (steps : List Step) (key : Key) (place : ℕ) →
-    (rows_at place (held_under key (state_after (new_core opening limit) steps))
-    + (rows_at place (all_settled_under key (new_core opening limit) steps)
-    + (rows_at place (all_dropped_under key (new_core opening limit) steps) + rows_at place (all_gone_under key (new_core opening limit) steps)))
-    ≡ rows_at place (all_came_under key (new_core opening limit) steps))
-    × (rows_at place (all_came_under key (new_core opening limit) steps) ≤ 1)
+    (state : State) (steps : List Step) (key : Key) (place : ℕ) (passes : Content → Bool) → Reached state →
+    (rows_holding passes place (held_under key (state_after state steps))
+    + (rows_holding passes place (all_settled_under key state steps)
+    + (rows_holding passes place (all_dropped_under key state steps) + rows_holding passes place (all_gone_under key state steps)))
+    ≡ rows_holding passes place (held_under key state) + rows_holding passes place (all_came_under key state steps))
+    × (rows_at place (held_under key state) + rows_at place (all_came_under key state steps) ≤ 1)

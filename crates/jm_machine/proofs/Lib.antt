@@ -1,5 +1,6 @@
 pub mod Same
 pub mod SelectorExamples
+pub mod Outside
 pub mod Reaches
 pub mod Order
 pub mod Keys

@@ -25,7 +25,7 @@ use Rattle.jm_machine.specs.Life.{client_of, mode_of, is_started}
 use Rattle.jm_machine.specs.Rows.{AllAbove, InOrder, fresh, settles_at_once, sent_out, left_of, live_placed, change_placed, deliver_placed, deliver_chosen}
 use Rattle.jm_machine.specs.Machine.{State, durable_of, shared_of, asked, is_same, subscribed, put, joined, definition_of, station_of, Publisher, publisher_of, accepts, is_full, one_missed, brought, offered, with_message, with_rows, at_key, at_queue, at_queue_of, queued, without, published, AllInOrder, receive, consumer_of, key_at, made, selected_by, defined, of_session, of_connection, of_number, settled_rows, returned_rows, settled, returned, closed, with_life, is_client, held, refusal, publish_refusal, commit_refusal, after, after_commit, moved, step}
 use Rattle.jm_machine.specs.Isolation.{Reached}
-use Rattle.jm_machine.specs.Isolation.Reached.{New, Stepped}
+use Rattle.jm_machine.specs.Isolation.Reached.{New, Reopened, Stepped}
 
 -- ---- rows
 
@@ -232,6 +232,7 @@ order_step state who (Commit messages) h = order_moved (commit_refusal state who
 
 pub reached_in_order : (state : State) → Reached state → AllInOrder state.next_place state.stations
 reached_in_order state (New opening limit) = tt
+reached_in_order state (Reopened opening limit stations queues next_place h) = h.ordered
 reached_in_order state (Stepped before who call r) = order_step before who call (reached_in_order before r)
 
 -- ---- queues
@@ -329,4 +330,5 @@ queues_step state who (Commit messages) h = queues_moved (commit_refusal state w
 
 pub queues_in_order : (state : State) → Reached state → QueuesInOrder state
 queues_in_order state (New opening limit) = λ name. tt
+queues_in_order state (Reopened opening limit stations queues next_place h) = h.queued
 queues_in_order state (Stepped before who call r) = queues_step before who call (queues_in_order before r)

@@ -2,6 +2,7 @@
 use Rattle.std.proofs.Common.{◌≡◌, ◌⊎◌, inl, inr, Bool, true, false, List, [], ◌∷◌, refl, sym, subst}
 use Rattle.std.specs.Prelude.{Result, Ok, Err, MatchBool}
 use Rattle.jm_base.specs.declared.refusal.Refusal.{Refusal}
+use Rattle.jm_base.specs.declared.refusal.Refusal.TheVariants.{Memory, Store}
 use Rattle.jm_dest.specs.declared.session.SessionId.{SessionId}
 use Rattle.jm_header.specs.declared.content.Content.{Content}
 use Rattle.jm_machine.specs.declared.call.Who.TheVariants.{Session}
@@ -9,10 +10,11 @@ use Rattle.jm_machine.specs.declared.call.Call.TheVariants.{Publish, Commit, Ask
 use Rattle.jm_machine.specs.declared.call.ClientCall.{ClientCall}
 use Rattle.jm_machine.specs.declared.call.ClientCall.TheVariants.{Ask, Send, CommitSession}
 use Rattle.jm_machine.specs.declared.answer.Answer.{Answer}
-use Rattle.jm_machine.specs.Wants.{is_want}
+use Rattle.jm_machine.specs.Entries.{is_not_made}
 use Rattle.jm_machine.specs.Client.{Progress, begun, stamp_of, is_in_transaction, stamped_progress, send_progress, send_may_want, send_wanting, reply_to, progress_to, call_may_want, progress_wanting, CallFits, CallOwed, RepliesFit, RunOwed}
 use Rattle.jm_machine.specs.Isolation.{Reached, RunsReach}
 use Rattle.jm_machine.specs.Isolation.Reached.{Stepped}
+use Rattle.jm_machine.proofs.Outside.{no_store_to}
 
 stamped_reached : (b : Bool) (p : Progress) (s : SessionId) (m : Content) → Reached p.state → Reached (stamped_progress b p s m).state
 stamped_reached true p s m r = r
@@ -29,7 +31,7 @@ moved_reached p (Send s draft destination now) r = sent_reached p s (stamp_of p 
 moved_reached p (CommitSession s) r = Stepped p.state (Session s) (Commit (p.kept s)) r
 
 call_reached : (p next : Progress) (call : ClientCall) (r : Result Answer Refusal) → CallFits p call r next → Reached p.state → Reached next.state
-call_reached p next call r f reached = go (is_want r) f
+call_reached p next call r f reached = go (is_not_made r) f
   where
     go : (b : Bool) → MatchBool b ((next.state ≡ p.state) × (next.kept ≡ p.kept) × ((next.sent ≡ p.sent) ⊎ (next.sent ≡ (progress_to p call).sent))) ((r ≡ reply_to p call) × (next ≡ progress_to p call)) → Reached next.state
     go true f = subst Reached (sym f.0) reached
@@ -64,12 +66,9 @@ call_wanting p (CommitSession s) h = (refl, refl, inl refl)
 
 -- what a run owes to a call fits
 owed_call : (p : Progress) (call : ClientCall) (r : Result Answer Refusal) (next : Progress) → CallOwed p call r next → CallFits p call r next
-owed_call p call r next f = go (is_want r) f
-  where
-    go : (b : Bool) → MatchBool b ((call_may_want p call ≡ true) × (next ≡ progress_wanting p call)) ((r ≡ reply_to p call) × (next ≡ progress_to p call)) →
-        MatchBool b (UsesOne p next (progress_to p call)) ((r ≡ reply_to p call) × (next ≡ progress_to p call))
-    go true f = subst (λ (x : Progress). UsesOne p x (progress_to p call)) (sym f.1) (call_wanting p call f.0)
-    go false f = f
+owed_call p call (Err Memory) next f = subst (λ (x : Progress). UsesOne p x (progress_to p call)) (sym f.1) (call_wanting p call f.0)
+owed_call p call (Err Store) next f = absurd (no_store_to p call f.0)
+owed_call p call r next f = f
 
 -- what a run owes fits
 pub owed_fits : (p : Progress) (calls : List ClientCall) (replies : List (Result Answer Refusal)) (end : Progress) → RunOwed p calls replies end → RepliesFit p calls replies end

@@ -19,7 +19,7 @@ use Rattle.jm_machine.specs.declared.answer.Answer.TheVariants.{Sent}
 use Rattle.jm_machine.specs.Life.{mode_of}
 use Rattle.jm_machine.specs.Machine.{State, is_transacted, publish_refusal, replied, reply, step}
 use Rattle.jm_machine.specs.Wants.{is_want, may_want}
-use Rattle.jm_machine.specs.Entries.{drops}
+use Rattle.jm_machine.specs.Entries.{drops, is_not_made}
 
 -- how far a run has come: the state, how many sends of each session were stamped so far, and what each session sent in
 -- its transaction
@@ -102,11 +102,11 @@ progress_to p (CommitSession s) = record {
   kept = after_commit_of s (reply p.state (Session s) (Commit (p.kept s))) p.kept;
 }
 
--- a reply fits a call: it is the machine's, and the run goes on; or it is a want of memory, the state and the
--- transactions are as before, and of a send the number may be used
+-- a reply fits a call: it is the machine's, and the run goes on; or memory was wanted or the store refused, the state and
+-- the transactions are as before, and of a send the number may be used
 abbrev pub CallFits : Progress → ClientCall → Result Answer Refusal → Progress → Type 0
 CallFits p call r next =
-    MatchBool (is_want r)
+    MatchBool (is_not_made r)
     ((next.state ≡ p.state) × (next.kept ≡ p.kept) × ((next.sent ≡ p.sent) ⊎ (next.sent ≡ (progress_to p call).sent)))
     ((r ≡ reply_to p call) × (next ≡ progress_to p call))
 

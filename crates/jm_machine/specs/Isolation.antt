@@ -14,17 +14,21 @@ use Rattle.jm_machine.specs.declared.call.Who.TheVariants.{Session}
 use Rattle.jm_machine.specs.declared.call.Request.TheVariants.{CreateSharedDurable}
 use Rattle.jm_machine.specs.declared.state.Consumer.{Consumer}
 use Rattle.jm_machine.specs.declared.state.Definition.{Definition}
+use Rattle.jm_machine.specs.declared.state.PlacedRow.{PlacedRow}
+use Rattle.jm_machine.specs.declared.state.Station.{Station}
 use Rattle.jm_machine.specs.declared.entry.Entry.{Entry}
 use Rattle.jm_machine.specs.declared.entry.Entry.TheVariants.{Asked}
 use Rattle.jm_machine.specs.declared.entry.Event.{Event}
 use Rattle.jm_machine.specs.Machine.{State, new_core, station_of, definition_of, durable_of, has_number, reply, step}
+use Rattle.jm_machine.specs.Reopened.{AreStored, reopened}
 use Rattle.jm_machine.specs.Client.{Progress, begun, RepliesFit, RunOwed}
 use Rattle.jm_machine.specs.Entries.{entries_of, expand}
-use Rattle.jm_machine.specs.Lone.{Scope, Lone, Item, clients_in, names_key, number_made, creates, entry_names, scope_of, lone_of, lone_replies, feed, replies_in}
+use Rattle.jm_machine.specs.Lone.{Lone, Item, clients_in, names_key, number_made, creates, entry_names, scope_of, lone_of, lone_replies, feed, replies_in}
 
--- the states that the provider reaches: from a new core, by steps of any kind
+-- the states that the provider reaches: from a new core, or one that is made of what was stored, by steps of any kind
 pub data Reached : State → Type 0 where
   New : (opening limit : ℕ) → Reached (new_core opening limit)
+  Reopened : (opening limit : ℕ) (stations : List Station) (queues : List ℕ → List PlacedRow) (next_place : ℕ) → AreStored stations queues next_place → Reached (reopened opening limit stations queues next_place)
   Stepped : (state : State) → (who : Who) → (call : Call) → Reached state → Reached (step state who call)
 
 -- a creating call that names the number names the key
@@ -111,14 +115,26 @@ Isolation =
     Premises key opening (entries_of opening.opening calls replies) →
     answered key opening (entries_of opening.opening calls replies) ≡ alone key opening (entries_of opening.opening calls replies)
 
--- The same from one state: over every list of calls that is run on it.
-abbrev pub IsolationFrom : State → Type 0
-IsolationFrom opening =
-    (calls : List ClientCall) (replies : List (Result Answer Refusal)) (end : Progress) (key : Key) →
-    RepliesFit (begun opening) calls replies end →
+-- The replies to a list of calls from that opening are isolated: at each key that is unshared in their record, and whose
+-- numbers it keeps, they are what its subscription answers alone.
+abbrev pub AreIsolated : State → List ClientCall → List (Result Answer Refusal) → Type 0
+AreIsolated opening calls replies =
+    (key : Key) →
     is_unshared key opening (entries_of opening.opening calls replies) ≡ true →
     keeps_numbers key opening (entries_of opening.opening calls replies) ≡ true →
     answered key opening (entries_of opening.opening calls replies) ≡ alone key opening (entries_of opening.opening calls replies)
+
+-- The same from one state: over every list of calls that is run on it.
+abbrev pub IsolationFrom : State → Type 0
+IsolationFrom opening =
+    (calls : List ClientCall) (replies : List (Result Answer Refusal)) (end : Progress) →
+    RepliesFit (begun opening) calls replies end → AreIsolated opening calls replies
+
+-- What a run owes to a list of calls, from a state that the provider reaches, is isolated.
+abbrev pub IsolationOfRuns : Type 0
+IsolationOfRuns =
+    (opening : State) (calls : List ClientCall) (replies : List (Result Answer Refusal)) (end : Progress) →
+    Reached opening → RunOwed (begun opening) calls replies end → AreIsolated opening calls replies
 
 -- Replies that fit a list of calls lead from a state that the provider reaches to one that it reaches, so
 -- that the law holds of the next list too.
@@ -138,6 +154,15 @@ abbrev pub IsLegal : State → List Event → Type 0
 IsLegal state [] = Unit {0}
 IsLegal state (e ∷ events) = (e.reply ≡ reply state e.step.who e.step.call) × IsLegal (step state e.step.who e.step.call) events
 
+-- the state after a list of events
+abbrev pub after_events : State → List Event → State
+after_events state [] = state
+after_events state (e ∷ events) = after_events (step state e.step.who e.step.call) events
+
+-- A legal list of events leads from a state that the provider reaches to one that it reaches.
+abbrev pub EventsReach : Type 0
+EventsReach = (opening : State) (events : List Event) → Reached opening → IsLegal opening events → Reached (after_events opening events)
+
 -- The same over every legal list of events: what they expand to has the law.
 abbrev pub IsolationOfEvents : Type 0
 IsolationOfEvents =
@@ -150,13 +175,6 @@ IsolationOfEvents =
 abbrev pub in_order : {A : Type 0} → List (ℕ × A) → List A
 in_order things = map (λ x. x.1) things
 
--- what belongs to the key is the same in two worlds: of a durable one; of a consumer's own key it is seen from the feeds
-abbrev pub SameScope : Key → Scope → Scope → Type 0
-SameScope (OfQueue name) one other = Unit {0}
-SameScope (Own s c) one other = Unit {0}
-SameScope (SharedOwn client name) one other = Unit {0}
-SameScope (Durable client name) one other = one ≡ other
-
 -- Two worlds: where two lists of calls feed the key's subscription alike, whatever else is in them, from openings that
 -- agree on what it starts with, its sessions get the same replies in the same order. So what others send in transactions
 -- that are not committed, what it does not accept, and all that concerns others alone, changes nothing.
@@ -165,7 +183,16 @@ TwoWorlds =
     (one other : State) (calls others : List ClientCall) (replies told : List (Result Answer Refusal)) (end finish : Progress) (key : Key) →
     RepliesFit (begun one) calls replies end → Premises key one (entries_of one.opening calls replies) →
     RepliesFit (begun other) others told finish → Premises key other (entries_of other.opening others told) →
-    SameScope key (scope_of key one (entries_of one.opening calls replies)) (scope_of key other (entries_of other.opening others told)) →
     starts_with key one (entries_of one.opening calls replies) ≡ starts_with key other (entries_of other.opening others told) →
     in_order (feed_of key one (entries_of one.opening calls replies)) ≡ in_order (feed_of key other (entries_of other.opening others told)) →
     in_order (answered key one (entries_of one.opening calls replies)) ≡ in_order (answered key other (entries_of other.opening others told))
+
+-- The same over two legal lists of events.
+abbrev pub TwoWorldsOfEvents : Type 0
+TwoWorldsOfEvents =
+    (one other : State) (events others : List Event) (key : Key) →
+    IsLegal one events → Premises key one (expand events) →
+    IsLegal other others → Premises key other (expand others) →
+    starts_with key one (expand events) ≡ starts_with key other (expand others) →
+    in_order (feed_of key one (expand events)) ≡ in_order (feed_of key other (expand others)) →
+    in_order (answered key one (expand events)) ≡ in_order (answered key other (expand others))

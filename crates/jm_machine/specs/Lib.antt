@@ -2,6 +2,8 @@ pub mod Owns
 pub mod Life
 pub mod Rows
 pub mod Machine
+pub mod Accepted
+pub mod Reopened
 pub mod Attached
 pub mod Wants
 pub mod Entries
@@ -9,6 +11,7 @@ pub mod Client
 pub mod Lone
 pub mod Isolation
 pub mod Examples
+pub mod DelayExamples
 pub mod SubscriptionExamples
 pub mod Places
 pub mod Queues

@@ -1,14 +1,19 @@
 -- Where a message is held: at most once in a queue, and at most once in a subscription.
-use Rattle.std.specs.Prelude.{ℕ, ◌+◌, ◌≤◌, ◌==◌, List, [], ◌∷◌, if◌then◌else◌}
+use Rattle.std.specs.Prelude.{ℕ, ◌+◌, ◌≤◌, ◌==◌, ◌&&◌, Bool, true, List, [], ◌∷◌, if◌then◌else◌}
+use Rattle.jm_header.specs.declared.content.Content.{Content}
 use Rattle.jm_machine.specs.declared.state.PlacedRow.{PlacedRow}
 use Rattle.jm_machine.specs.declared.state.Station.{Station}
 use Rattle.jm_machine.specs.Machine.{State}
 use Rattle.jm_machine.specs.Isolation.{Reached}
 
--- how many of the rows stand at the place: each of them holds the message that was published there
+-- how many of the rows stand at the place and hold a message that passes
+abbrev pub rows_holding : (Content → Bool) → ℕ → List PlacedRow → ℕ
+rows_holding passes place [] = 0
+rows_holding passes place (x ∷ rows) = if (x.place == place) && passes x.row.message then rows_holding passes place rows + 1 else rows_holding passes place rows
+
+-- how many of the rows stand at the place, whatever message they hold
 abbrev pub rows_at : ℕ → List PlacedRow → ℕ
-rows_at place [] = 0
-rows_at place (x ∷ rows) = if x.place == place then rows_at place rows + 1 else rows_at place rows
+rows_at place rows = rows_holding (λ m. true) place rows
 
 -- at each place stands one row at most
 abbrev pub OnePlace : List PlacedRow → Type 0

@@ -1,4 +1,5 @@
--- What becomes of a queue's messages: each that came to it is held there, or was settled, or was dropped as expired.
+-- What becomes of a queue's messages: each that it held or that came to it is held there, or was settled, or was dropped as
+-- expired.
 use Rattle.std.specs.Prelude.{◌≡◌, ℕ, ◌+◌, ◌≤◌, Bool, false, ◌&&◌, List, [], ◌∷◌, ◌++◌, filter, Option, Some, None, is_none, if◌then◌else◌}
 use Rattle.jm_dest.specs.declared.destination.Destination.{Destination}
 use Rattle.jm_dest.specs.declared.destination.Destination.TheVariants.{Queue, Topic}
@@ -17,8 +18,9 @@ use Rattle.jm_machine.specs.declared.state.PlacedRow.{PlacedRow}
 use Rattle.jm_machine.specs.declared.state.Row.{Row}
 use Rattle.jm_machine.specs.Life.{is_started, mode_of}
 use Rattle.jm_machine.specs.Rows.{bare, fresh, has_lapsed, is_next_chosen, is_out, live, live_placed, settles_at_once}
-use Rattle.jm_machine.specs.Machine.{State, new_core, consumer_of, key_at, selected_by, of_session, is_client, held, refusal, publish_refusal, commit_refusal, step}
-use Rattle.jm_machine.specs.Places.{rows_at}
+use Rattle.jm_machine.specs.Machine.{State, consumer_of, key_at, selected_by, of_session, is_client, held, refusal, publish_refusal, commit_refusal, step}
+use Rattle.jm_machine.specs.Isolation.{Reached}
+use Rattle.jm_machine.specs.Places.{rows_at, rows_holding}
 
 -- the first row that passes, where there is one
 abbrev pub first_row : (Row → Bool) → List PlacedRow → List PlacedRow
@@ -103,11 +105,13 @@ abbrev pub all_came : List ℕ → State → List Step → List PlacedRow
 all_came name state [] = []
 all_came name state (s ∷ steps) = came_at name state s.who s.call ++ all_came name (step state s.who s.call) steps
 
--- Over every list of steps from a new core each message that came to a queue is in exactly one place: it is held there,
--- waiting or out to one session, or it was settled once, or dropped once as expired. What did not come is in none.
+-- Over every list of steps from a state that the provider reaches, what a queue held and what came to it is in exactly one
+-- place: it is held there, waiting or out to one session, or it was settled once, or dropped once as expired. What neither
+-- was held nor came is in none. It is said of each place and of whichever messages pass any test: so it is the message
+-- itself that is held, settled or dropped, and no other in its stead.
 abbrev pub QueueKeeps : Type 0
 QueueKeeps =
-    (opening limit : ℕ) (steps : List Step) (name : List ℕ) (place : ℕ) →
-    (rows_at place ((state_after (new_core opening limit) steps).queues name) + (rows_at place (all_settled name (new_core opening limit) steps) + rows_at place (all_dropped name (new_core opening limit) steps))
-    ≡ rows_at place (all_came name (new_core opening limit) steps))
-    × (rows_at place (all_came name (new_core opening limit) steps) ≤ 1)
+    (state : State) (steps : List Step) (name : List ℕ) (place : ℕ) (passes : Content → Bool) → Reached state →
+    (rows_holding passes place ((state_after state steps).queues name) + (rows_holding passes place (all_settled name state steps) + rows_holding passes place (all_dropped name state steps))
+    ≡ rows_holding passes place (state.queues name) + rows_holding passes place (all_came name state steps))
+    × (rows_at place (state.queues name) + rows_at place (all_came name state steps) ≤ 1)

@@ -16,6 +16,11 @@ use Rattle.jm_machine.specs.declared.state.PlacedRow.{PlacedRow}
 abbrev pub is_expired : ℕ → Content → Bool
 is_expired now m = not (m.expiration == 0) && nat_le m.expiration now
 
+-- a message is held back at a moment before its delivery time, where that is after its timestamp (Jakarta Messaging
+-- 3.1, section 7.9)
+abbrev pub is_held_back : ℕ → Content → Bool
+is_held_back now m = nat_lt m.timestamp m.delivery_time && nat_lt now m.delivery_time
+
 -- a message as it is handed out: both of its parts are read-only (Jakarta Messaging 3.1, section 3.10)
 abbrev pub protected : Content → Content
 protected m = record m { is_body_read_only = true; are_properties_read_only = true }
@@ -46,9 +51,9 @@ is_out p r = goes_out p r.state
 abbrev pub has_lapsed : ℕ → Row → Bool
 has_lapsed now r = is_waiting r && is_expired now r.message
 
--- a row that waits may be delivered at a moment at which its message is not expired
+-- a row that waits may be delivered at a moment at which its message is neither expired nor held back
 abbrev pub is_ready : ℕ → Row → Bool
-is_ready now r = is_waiting r && not (is_expired now r.message)
+is_ready now r = is_waiting r && (not (is_expired now r.message) && not (is_held_back now r.message))
 
 -- the rows that have not lapsed
 abbrev pub live : ℕ → List Row → List Row

@@ -17,7 +17,7 @@ use Rattle.jm_machine.specs.declared.state.PlacedRow.{PlacedRow}
 use Rattle.jm_machine.specs.declared.state.Station.{Station}
 use Rattle.jm_machine.specs.Life.{client_of, connection_of, is_client_taken, is_new_session, is_started, mode_of}
 use Rattle.jm_machine.specs.Rows.{bare, is_next, is_next_chosen, live, live_placed, settles_at_once}
-use Rattle.jm_machine.specs.Machine.{State, is_of_topic, consumer_of, key_at, may_begin, publish_refusal, commit_refusal, selected_by, station_of}
+use Rattle.jm_machine.specs.Machine.{State, is_of_topic, consumer_of, key_at, may_begin, may_use, publish_refusal, commit_refusal, selected_by, station_of}
 
 -- a reply that says that memory was wanted
 abbrev pub is_want : Result Answer Refusal → Bool
@@ -36,32 +36,34 @@ next_chosen p now rows = find (λ x. is_next_chosen p now (live now (bare rows))
 abbrev pub holders_of : ℕ → List Station → ℕ
 holders_of place stations = sum_by (λ (x : Station). count_by (λ (r : PlacedRow). r.place == place) x.rows) stations
 
--- a delivery of the row in that mode hands out a copy: the row stays, or it is not the only one that holds its message
-abbrev pub is_copied : Option Mode → List Station → Option PlacedRow → Bool
-is_copied mode stations None = false
-is_copied mode stations (Some x) = not (settles_at_once mode) || not (holders_of x.place stations == 1)
+-- a row of a subscription is next, and its message is held after a delivery in that mode: the row stays, or another row
+-- holds the message too
+abbrev pub is_held_after : Option Mode → List Station → Option PlacedRow → Bool
+is_held_after mode stations None = false
+is_held_after mode stations (Some x) = not (settles_at_once mode) || not (holders_of x.place stations == 1)
 
 -- the rows of a subscription that there is, at their places
 abbrev pub placed_rows : Option Station → List PlacedRow
 placed_rows None = []
 placed_rows (Some x) = x.rows
 
--- a delivery from a queue hands out a copy where the row stays: a queue's message is held there alone
-abbrev pub is_kept : Option Mode → Option PlacedRow → Bool
-is_kept mode x = not (settles_at_once mode) && is_some x
+-- a row of a queue is next, and its message is held after a delivery in that mode: the row stays, and no other holds it
+abbrev pub is_queued_after : Option Mode → Option PlacedRow → Bool
+is_queued_after mode x = not (settles_at_once mode) && is_some x
 
--- a delivery of the next row of the key, where there is one, hands out a copy
-abbrev pub is_next_copied : Option Mode → ℕ → (Content → Bool) → Option Key → State → Bool
-is_next_copied mode now p None state = false
-is_next_copied mode now p (Some (OfQueue name)) state = is_kept mode (next_chosen p now (state.queues name))
-is_next_copied mode now p (Some (Own s c)) state = is_copied mode state.stations (next_placed now (placed_rows (station_of (Own s c) state.stations)))
-is_next_copied mode now p (Some (SharedOwn client name)) state = is_copied mode state.stations (next_placed now (placed_rows (station_of (SharedOwn client name) state.stations)))
-is_next_copied mode now p (Some (Durable client name)) state = is_copied mode state.stations (next_placed now (placed_rows (station_of (Durable client name) state.stations)))
+-- a row of the key is next, and its message is held after its delivery
+abbrev pub is_next_held_after : Option Mode → ℕ → (Content → Bool) → Option Key → State → Bool
+is_next_held_after mode now p None state = false
+is_next_held_after mode now p (Some (OfQueue name)) state = is_queued_after mode (next_chosen p now (state.queues name))
+is_next_held_after mode now p (Some (Own s c)) state = is_held_after mode state.stations (next_placed now (placed_rows (station_of (Own s c) state.stations)))
+is_next_held_after mode now p (Some (SharedOwn client name)) state = is_held_after mode state.stations (next_placed now (placed_rows (station_of (SharedOwn client name) state.stations)))
+is_next_held_after mode now p (Some (Durable client name)) state = is_held_after mode state.stations (next_placed now (placed_rows (station_of (Durable client name) state.stations)))
 
--- a request takes memory where it opens a connection or a session, or makes a consumer, and none of the causes
--- stands that are seen before: a consumer's selector is parsed, so a want of memory may come in place of its
--- refusal, and of each later one. To delete a subscription takes memory in an open session, to look for its name. A receive takes memory where it hands out a copy of a message that is still held after it. To start and
--- to stop, to close, to acknowledge, to recover and to roll back takes none
+-- a request takes memory where it opens a connection or a session, or makes a consumer, and none of the causes stands that
+-- are seen before: a consumer's selector is parsed, so a want of memory may come in place of its refusal, and of each
+-- later one. To delete a subscription takes memory in an open session, to look for its name. A receive takes memory where
+-- the consumer may receive, a row is next, and its message is held after it: a copy is handed out. To start and to stop,
+-- to close, to acknowledge, to recover and to roll back takes none
 abbrev pub takes_memory : State → Who → Request → Bool
 takes_memory state (Connection c) (Open client) = not (is_some (connection_of state.life.connections c)) && not (is_client_taken state.life client)
 takes_memory state (Session s) (CreateSession mode) = is_new_session state.life s
@@ -71,7 +73,7 @@ takes_memory state (Session s) (CreateShared c destination name selector) = may_
 takes_memory state (Session s) (CreateSharedDurable c destination name selector) = may_begin state.life state.consumers s c && is_of_topic destination
 takes_memory state (Session s) (Unsubscribe name) = is_some (mode_of state.life s)
 takes_memory state (Session s) (Receive c now) =
-    is_some (mode_of state.life s) && is_started state.life s.connection && is_next_copied (mode_of state.life s) now (selected_by (consumer_of state.consumers s c)) (key_at (consumer_of state.consumers s c)) state
+    may_use state.life state.consumers s c && (is_started state.life s.connection && is_next_held_after (mode_of state.life s) now (selected_by (consumer_of state.consumers s c)) (key_at (consumer_of state.consumers s c)) state)
 takes_memory state _ _ = false
 
 -- memory may be wanted by a call: a request that takes it, or a publication or a commit that is not refused
