@@ -1,6 +1,7 @@
 -- The row that goes first of those that may be delivered and whose messages pass, and that it is the next one of these.
 use Rattle.std.proofs.Common.{◌≡◌, ℕ, ◌<◌, ◌==◌, nat_lt, List, [], ◌∷◌, ◌++◌, length, get_or, take, true, false, Bool, ◌&&◌, ◌||◌, cond, Option, Some, None, refl, ap, sym, subst, ◌∙◌, arith, suc, zero}
-use Rattle.std.specs.List.{filter, All, Contains}
+use Rattle.std.specs.List.{filter, All, Contains, slice_get}
+use Rattle.std.proofs.lemmas.List.{get_or_default}
 use Rattle.std.proofs.lemmas.Bool.Decides.{nat_tests}
 use Rattle.std.proofs.lemmas.List.Elements.{All-nil, All-cons, All-head, All-tail, All-append, All-weaker, All-contains, All-contains_itself, Contains-append_left, Contains-append_right}
 use Rattle.jm_header.specs.declared.content.Content.{Content}
@@ -8,13 +9,13 @@ use Rattle.jm_pending.specs.declared.row.Row.{Row}
 use Rattle.jm_pending.specs.Lists.{sorted}
 use Rattle.jm_pending.specs.Holders.{Messages}
 use Rattle.jm_pending.specs.Rows.{IsRising, is_ready, next}
-use Rattle.jm_pending.specs.Lanes.{IsSoonestOf, is_lower, is_sooner}
+use Rattle.jm_pending.specs.Lanes.{Lane, IsSoonestOf, is_lower, is_sooner}
 use Rattle.jm_pending.specs.Chosen.{passes, is_choice, goes_before, next_where}
 use Rattle.jm_pending.proofs.Places.{sorted-filter}
 use Rattle.jm_pending.proofs.Rising.{rising-filter}
-use Rattle.jm_pending.proofs.Soonest.{all_that_pass, next_soonest, not_both, not_later, soonest_both}
+use Rattle.jm_pending.proofs.Soonest.{all_that_pass, next_soonest, not_both, not_later, soonest_second}
 
-left_true : (a b : Bool) → (a && b) ≡ true → a ≡ true
+pub left_true : (a b : Bool) → (a && b) ≡ true → a ≡ true
 left_true true b h = refl
 left_true false b h = h
 
@@ -62,8 +63,8 @@ better_of best (Some r) = Some r
 
 -- of two lists it is the better of two, where of the second only those were looked at that go before the first
 pub soonest_better : (p : Row → Bool) (us vs : List Row) (a b : Option Row) → IsSoonestOf p us a → IsSoonestOf (λ r. goes_before a r && p r) vs b → IsSoonestOf p (us ++ vs) (better_of a b)
-soonest_better p us vs None None h k = soonest_both p us vs None None h k
-soonest_better p us vs None (Some y) h k = soonest_both p us vs None (Some y) h k
+soonest_better p us vs None None h k = soonest_second p us vs None h k
+soonest_better p us vs None (Some y) h k = soonest_second p us vs (Some y) h k
 soonest_better p us vs (Some x) None h k = record {
   pass = h.pass;
   there = Contains-append_left us vs x h.there;
@@ -82,6 +83,15 @@ soonest_better p us vs (Some x) (Some y) h k =
     here z f t true e = f (both_hold (is_sooner z x) (p z) e t)
     here z f t false e = not_later y.priority y.place x.priority x.place z.priority z.place (not_both y.priority y.place x.priority x.place (left_true (is_sooner y x) (p y) k.pass)) e
 
+-- what is found in a lane, or else the best so far
+pub found_better : (p : Row → Bool) (lanes : List Lane) (at index : ℕ) (d lane : Lane) (best seen got o : Option Row) (rows : List Row) → at < length lanes → lane ≡ get_or lanes at lane → seen ≡ best → got ≡ slice_get lane.rows index → got ≡ o → IsSoonestOf (λ r. goes_before seen r && p r) lane.rows (slice_get lane.rows index) → IsSoonestOf p rows best
+    → IsSoonestOf p (rows ++ (get_or lanes at d).rows) (better_of best o)
+found_better p lanes at index d lane best seen got o rows within is same row case here before =
+    let lane_is : lane ≡ get_or lanes at d = is ∙ get_or_default lanes at lane d within in
+    let one = subst (λ r. IsSoonestOf (λ r. goes_before seen r && p r) lane.rows r) (sym row ∙ case) here in
+    let two = subst (λ b. IsSoonestOf (λ r. goes_before b r && p r) lane.rows o) same one in
+    soonest_better p rows (get_or lanes at d).rows best o before (subst (λ (x : Lane). IsSoonestOf (λ r. goes_before best r && p r) x.rows o) lane_is two)
+
 -- a row behind one that does not go before another does not either
 still_behind : (p r q s u v : ℕ) → u ≡ p → r < v → (nat_lt q p || (p == q && nat_lt r s)) ≡ false → (nat_lt q u || (u == q && nat_lt v s)) ≡ false
 still_behind p r q s u v e l h = grind (arith, nat_tests)
@@ -90,7 +100,7 @@ behind_best : (best : Option Row) (x y : Row) → y.priority ≡ x.priority → 
 behind_best None x y same up h = absurd (cc)
 behind_best (Some b) x y same up h = still_behind x.priority x.place b.priority b.place y.priority y.place same up h
 
-fails_left : (a b : Bool) → a ≡ false → (a && b) ≡ false
+pub fails_left : (a b : Bool) → a ≡ false → (a && b) ≡ false
 fails_left true b h = absurd (cc)
 fails_left false b h = refl
 
@@ -110,5 +120,8 @@ none_behind best p pr (x ∷ xs) (suc i) d same up l e before =
     All-cons (λ r. (goes_before best r && p r) ≡ false) x xs (All-head (λ r. (goes_before best r && p r) ≡ false) x (take i xs) before) (none_behind best p pr xs i d (All-tail (λ (r : Row). r.priority ≡ pr) x xs same) up.1 (omega (arith, l)) e (All-tail (λ r. (goes_before best r && p r) ≡ false) x (take i xs) before))
 
 -- a row that does not wait is not better
+pub out_not_ready : (g w e : Bool) → w ≡ false → (g && (w && e)) ≡ false
+out_not_ready g w e h = fails_right g (w && e) (fails_left w e h)
+
 pub out_not_better : (g w e s : Bool) → w ≡ false → (g && ((w && e) && s)) ≡ false
 out_not_better g w e s h = fails_right g ((w && e) && s) (fails_left (w && e) s (fails_left w e h))

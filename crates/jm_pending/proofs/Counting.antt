@@ -76,7 +76,7 @@ others_same old new lists at k d after l kl ne c f =
     placed_same old new (get_or lists k d) f.messages covered
 
 row_same : (old new : Messages) (x : Row) → message_of new x.place ≡ message_of old x.place → IsRowOf old x → IsRowOf new x
-row_same old new x same h = record { priority = rw same h.priority; expiration = rw same h.expiration }
+row_same old new x same h = record { priority = rw same h.priority; expiration = rw same h.expiration; due = rw same h.due }
 
 -- rows are still those of their messages, where these are the old ones
 pub rows_same : (old new : Messages) (rows : List Row) → KeepsMessages old new → Covers new rows → AreRowsOf old rows → AreRowsOf new rows

@@ -9,7 +9,7 @@ use Rattle.std.proofs.lemmas.Bool.Decides.{eqb_tells, leb_tells}
 use Rattle.jm_pending.specs.declared.row.Row.{Row}
 use Rattle.jm_dest.specs.declared.session.SessionId.{SessionId}
 use Rattle.jm_pending.specs.Rows.{is_waiting, is_elsewhere, sent, sent_at}
-use Rattle.jm_pending.specs.Lanes.{Lane, Becomes, EachBecomes, all_rows, IsApart, IsSoonestOf, waiting_in}
+use Rattle.jm_pending.specs.Lanes.{Lane, Becomes, EachBecomes, all_rows, IsApart}
 use Rattle.jm_pending.proofs.Rising.{map_elsewhere, filter_elsewhere}
 use Rattle.jm_pending.proofs.Places.{all_front, all_back, apart_before, apart_behind, apart_tail, find_has}
 
@@ -75,15 +75,6 @@ others_at lanes at r l before behind k e kl ne = elim (lt_or_gt k at ne) [
       rw (← back_at, ← get_or-drop (at + 1) lanes (k - (at + 1)) e) (all_in_lane (λ (y : Row). y.place ≢ r.place) (drop (at + 1) lanes) (k - (at + 1)) e (omega (arith, length-drop (at + 1) lanes)) behind)
 ]
 
--- and than the row that is found in it
-others : (lanes : List Lane) (at : ℕ) (d : Lane) (r : Row) → IsApart (all_rows lanes) → at < length lanes → find is_waiting (get_or lanes at d).rows ≡ Some r → (k : ℕ) (e : Lane) → k < length lanes → k ≢ at → All (λ (y : Row). y.place ≢ r.place) (get_or lanes k e).rows
-others lanes at d r apart l f =
-    let fronts : List Row = all_rows (take at lanes) in
-    let rows : List Row = (get_or lanes at d).rows in
-    let backs : List Row = all_rows (drop (at + 1) lanes) in
-    let both = apart_lanes lanes at d apart l in
-    others_at lanes at r l (subst (λ o. IfSome o (λ x. All (λ (y : Row). y.place ≢ x.place) fronts)) f (find_has (λ x. All (λ (y : Row). y.place ≢ x.place) fronts) is_waiting rows both.0)) (subst (λ o. IfSome o (λ x. All (λ (y : Row). y.place ≢ x.place) backs)) f (find_has (λ x. All (λ (y : Row). y.place ≢ x.place) backs) is_waiting rows both.1))
-
 -- an edit that leaves the rows of all lanes but one
 pub each_but : (f : List Row → List Row) (lanes : List Lane) (at : ℕ) (d after : Lane) → at < length lanes → Becomes f (get_or lanes at d) after → ((k : ℕ) (e : Lane) → k < length lanes → k ≢ at → f (get_or lanes k e).rows ≡ (get_or lanes k e).rows) → EachBecomes f lanes (set lanes at after)
 each_but f lanes at d after l here rest = record {
@@ -94,36 +85,6 @@ each_but f lanes at d after l here rest = record {
   ];
 }
 
--- the row that goes first is the first that waits in its lane
-first_there : (lanes : List Lane) (at : ℕ) (d : Lane) → IsSoonestOf is_waiting (all_rows lanes) (waiting_in lanes at) → at < length lanes → IsSoonestOf is_waiting (all_rows lanes) (find is_waiting (get_or lanes at d).rows)
-first_there lanes at d soonest l =
-    subst (IsSoonestOf is_waiting (all_rows lanes)) (ap (λ (x : Lane). find is_waiting x.rows) (get_or_default lanes at (record { priority = 0; rows = []; spare = 0 }) d l)) soonest
-
--- past all lanes none waits
-past_all : (lanes : List Lane) (k : ℕ) (d : Lane) → length lanes ≤ k → get_or lanes k d ≡ d
-past_all [] k d l = refl
-past_all (x ∷ xs) zero d l = absurd (omega arith)
-past_all (x ∷ xs) (suc k) d l = past_all xs k d (omega arith)
-
-pub none_waits : (lanes : List Lane) (k : ℕ) → length lanes ≤ k → waiting_in lanes k ≡ None
-none_waits lanes k l = ap (λ (x : Lane). find is_waiting x.rows) (past_all lanes k (record { priority = 0; rows = []; spare = 0 }) l)
-
-pub each_same : (lanes : List Lane) → EachBecomes (λ rows. rows) lanes lanes
-each_same lanes = record { len = refl; at = λ k d l. record { priority = refl; rows = refl; room = omega arith } }
-
--- what `take_first` does to one lane, said of all
-pub taken_first : (s : SessionId) (c : ℕ) (lanes : List Lane) (at : ℕ) (d after : Lane) (res : Option Row) → IsApart (all_rows lanes) → IsSoonestOf is_waiting (all_rows lanes) (waiting_in lanes at) → at < length lanes → after.priority ≡ (get_or lanes at d).priority → res ≡ option_map (sent s c) (find is_waiting (get_or lanes at d).rows) → MatchOption (find is_waiting (get_or lanes at d).rows) (after.rows ≡ (get_or lanes at d).rows) (λ r. after.rows ≡ map (sent_at r.place s c) (get_or lanes at d).rows) → (get_or lanes at d).spare ≤ after.spare
-    → (first : Option Row) × IsSoonestOf is_waiting (all_rows lanes) first × MatchOption first ((res ≡ None) × EachBecomes (λ rows. rows) lanes (set lanes at after)) (λ r. (res ≡ Some (sent s c r)) × EachBecomes (map (sent_at r.place s c)) lanes (set lanes at after))
-taken_first s c lanes at d after res apart soonest l priority result rows room =
-    (find is_waiting (get_or lanes at d).rows, first_there lanes at d soonest l, go (find is_waiting (get_or lanes at d).rows) refl result rows)
-  where
-    go : (o : Option Row) → find is_waiting (get_or lanes at d).rows ≡ o → res ≡ option_map (sent s c) o → MatchOption o (after.rows ≡ (get_or lanes at d).rows) (λ r. after.rows ≡ map (sent_at r.place s c) (get_or lanes at d).rows) → MatchOption o ((res ≡ None) × EachBecomes (λ rows. rows) lanes (set lanes at after)) (λ r. (res ≡ Some (sent s c r)) × EachBecomes (map (sent_at r.place s c)) lanes (set lanes at after))
-    go None f result rows = (result, each_but (λ rs. rs) lanes at d after l (record { priority = priority; rows = rows; room = room }) (λ k e kl ne. refl))
-    go (Some r) f result rows = (
-      result,
-      each_but (map (sent_at r.place s c)) lanes at d after l (record { priority = priority; rows = rows; room = room }) (λ k e kl ne. map_elsewhere s c r.place (get_or lanes k e).rows (others lanes at d r apart l f k e kl ne)),
-    )
-
 -- the lanes up to one have its rows and those before, and no more than all
 pub rows_taken : (lanes : List Lane) (i : ℕ) (d : Lane) → i < length lanes → (length (all_rows (take (i + 1) lanes)) ≡ length (all_rows (take i lanes)) + length (get_or lanes i d).rows) × (length (all_rows (take (i + 1) lanes)) ≤ length (all_rows lanes))
 rows_taken lanes i d l =
@@ -132,19 +93,6 @@ rows_taken lanes i d l =
     let backs : List Row = all_rows (drop (i + 1) lanes) in
     let more = ap length (all_rows_more lanes i d l) ∙ length-append fronts rows in
     (more, omega (arith, more, ap length (all_rows_split lanes i d l), length-append fronts (rows ++ backs), length-append rows backs))
-
--- what `remove_first` does to one lane, said of all
-pub removed_first : (lanes : List Lane) (at : ℕ) (d after : Lane) (res : Option Row) → IsApart (all_rows lanes) → IsSoonestOf is_waiting (all_rows lanes) (waiting_in lanes at) → at < length lanes → after.priority ≡ (get_or lanes at d).priority → res ≡ find is_waiting (get_or lanes at d).rows → MatchOption (find is_waiting (get_or lanes at d).rows) (after.rows ≡ (get_or lanes at d).rows) (λ r. after.rows ≡ filter (is_elsewhere r.place) (get_or lanes at d).rows) → (get_or lanes at d).spare ≤ after.spare
-    → (first : Option Row) × IsSoonestOf is_waiting (all_rows lanes) first × MatchOption first ((res ≡ None) × EachBecomes (λ rows. rows) lanes (set lanes at after)) (λ r. (res ≡ Some r) × EachBecomes (filter (is_elsewhere r.place)) lanes (set lanes at after))
-removed_first lanes at d after res apart soonest l priority result rows room =
-    (find is_waiting (get_or lanes at d).rows, first_there lanes at d soonest l, go (find is_waiting (get_or lanes at d).rows) refl result rows)
-  where
-    go : (o : Option Row) → find is_waiting (get_or lanes at d).rows ≡ o → res ≡ o → MatchOption o (after.rows ≡ (get_or lanes at d).rows) (λ r. after.rows ≡ filter (is_elsewhere r.place) (get_or lanes at d).rows) → MatchOption o ((res ≡ None) × EachBecomes (λ rows. rows) lanes (set lanes at after)) (λ r. (res ≡ Some r) × EachBecomes (filter (is_elsewhere r.place)) lanes (set lanes at after))
-    go None f result rows = (result, each_but (λ rs. rs) lanes at d after l (record { priority = priority; rows = rows; room = room }) (λ k e kl ne. refl))
-    go (Some r) f result rows = (
-      result,
-      each_but (filter (is_elsewhere r.place)) lanes at d after l (record { priority = priority; rows = rows; room = room }) (λ k e kl ne. filter_elsewhere r.place (get_or lanes k e).rows (others lanes at d r apart l f k e kl ne)),
-    )
 
 -- the same of those that pass a test
 pub rows_passed : (q : Row → Bool) (lanes : List Lane) (i : ℕ) (d : Lane) → i < length lanes → (length (filter q (all_rows (take (i + 1) lanes))) ≡ length (filter q (all_rows (take i lanes))) + length (filter q (get_or lanes i d).rows)) × (length (filter q (all_rows (take (i + 1) lanes))) ≤ length (all_rows lanes))

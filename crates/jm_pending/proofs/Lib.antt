@@ -4,6 +4,7 @@ mod Rolling
 pub mod Places
 mod Steps
 mod Turns
+mod Dues
 mod Edited
 mod Found
 mod Keeping
@@ -22,3 +23,4 @@ pub mod From
 pub mod Choice
 mod Spots
 mod Taking
+pub mod Lowest

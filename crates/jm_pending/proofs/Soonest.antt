@@ -2,13 +2,14 @@
 use Rattle.std.proofs.Common.{◌≡◌, ◌≢◌, ℕ, ◌+◌, ◌<◌, ◌≤◌, ◌==◌, nat_lt, nat_le, List, [], ◌∷◌, ◌++◌, length, get_or, take, true, false, Bool, not, ◌&&◌, ◌||◌, cond, Option, Some, None, refl, ap, sym, subst, ◌∙◌, arith, suc, zero, ◌⊎◌, inl, inr}
 use Rattle.std.specs.List.{filter, find, All, Contains, list_all}
 use Rattle.std.specs.Option.{IfSome}
+use Rattle.std.specs.Prelude.{slice_get}
 use Rattle.std.proofs.lemmas.Bool.{eq-eqb, ne_eqb}
 use Rattle.std.proofs.lemmas.Bool.Decides.{nat_tests, eqb_tells}
 use Rattle.std.proofs.lemmas.List.Elements.{All-nil, All-cons, All-head, All-tail, All-append, All-filter, All-weaker, All-contains, All-contains_itself, Contains-get_or, Contains-append_left, Contains-append_right}
 use Rattle.jm_pending.specs.declared.row.Row.{Row}
 use Rattle.jm_pending.specs.Lists.{sorted}
 use Rattle.jm_pending.specs.Rows.{IsRising, is_waiting, is_expired, is_ready, stays, is_next, next}
-use Rattle.jm_pending.specs.Lanes.{Lane, IsApart, IsSoonestOf, all_rows, is_at, is_lower, is_sooner, sooner}
+use Rattle.jm_pending.specs.Lanes.{Lane, IsApart, IsSoonestOf, all_rows, is_at, is_lower, is_sooner}
 use Rattle.jm_pending.proofs.Rising.{find_none}
 use Rattle.jm_pending.proofs.Places.{all_sorted, apart_from_rising, find_has}
 use Rattle.jm_pending.proofs.Ranks.{at_sorted}
@@ -46,37 +47,23 @@ lane_soonest p (x ∷ xs) pr same up = go (p x) refl (find p xs) (lane_soonest p
     go false e (Some r) rest =
         record { pass = rest.pass; there = Contains-append_right (x ∷ []) xs r rest.there; first = All-cons (λ y. p y ≡ true → is_sooner y r ≡ false) x xs (λ h. absurd (cc)) rest.first }
 
--- of two lists it is the sooner of two
-pub soonest_both : (passes : Row → Bool) (us vs : List Row) (a b : Option Row) → IsSoonestOf passes us a → IsSoonestOf passes vs b → IsSoonestOf passes (us ++ vs) (sooner a b)
-soonest_both p us vs None None h k = All-append (λ y. p y ≡ false) us vs h k
-soonest_both p us vs None (Some y) h k = record {
+-- past the end stands none, which is it where none passes
+slice_end : {X : Type 0} (xs : List X) (n : ℕ) → n ≡ length xs → slice_get xs n ≡ None
+slice_end [] n e = refl
+slice_end (x ∷ xs) zero e = absurd (omega (arith, e))
+slice_end (x ∷ xs) (suc n) e = slice_end xs n (omega (arith, e))
+
+pub none_soonest : (passes : Row → Bool) (xs : List Row) (n : ℕ) → n ≡ length xs → All (λ y. passes y ≡ false) xs → IsSoonestOf passes xs (slice_get xs n)
+none_soonest p xs n e h = subst (IsSoonestOf p xs) (sym (slice_end xs n e)) h
+
+-- where none of the first passes, it is that of the second
+pub soonest_second : (passes : Row → Bool) (us vs : List Row) (b : Option Row) → All (λ y. passes y ≡ false) us → IsSoonestOf passes vs b → IsSoonestOf passes (us ++ vs) b
+soonest_second p us vs None h k = All-append (λ y. p y ≡ false) us vs h k
+soonest_second p us vs (Some y) h k = record {
   pass = k.pass;
   there = Contains-append_right us vs y k.there;
   first = All-append (λ z. p z ≡ true → is_sooner z y ≡ false) us vs (All-weaker (λ z. p z ≡ false) (λ z. p z ≡ true → is_sooner z y ≡ false) (λ z e t. absurd (cc)) us h) k.first;
 }
-soonest_both p us vs (Some x) None h k = record {
-  pass = h.pass;
-  there = Contains-append_left us vs x h.there;
-  first = All-append (λ z. p z ≡ true → is_sooner z x ≡ false) us vs h.first (All-weaker (λ z. p z ≡ false) (λ z. p z ≡ true → is_sooner z x ≡ false) (λ z e t. absurd (cc)) vs k);
-}
-soonest_both p us vs (Some x) (Some y) h k = go (is_sooner y x) refl
-  where
-    go : (b : Bool) → is_sooner y x ≡ b → IsSoonestOf p (us ++ vs) (cond b (Some y) (Some x))
-    go true e = record {
-      pass = k.pass;
-      there = Contains-append_right us vs y k.there;
-      first = All-append (λ z. p z ≡ true → is_sooner z y ≡ false) us vs (All-weaker (λ z. p z ≡ true → is_sooner z x ≡ false) (λ z. p z ≡ true → is_sooner z y ≡ false) (λ z f t. not_later y.priority y.place x.priority x.place z.priority z.place (not_both y.priority y.place x.priority x.place e) (f t)) us h.first) k.first;
-    }
-    go false e = record {
-      pass = h.pass;
-      there = Contains-append_left us vs x h.there;
-      first = All-append (λ z. p z ≡ true → is_sooner z x ≡ false) us vs h.first (All-weaker (λ z. p z ≡ true → is_sooner z y ≡ false) (λ z. p z ≡ true → is_sooner z x ≡ false) (λ z f t. not_later x.priority x.place y.priority y.place z.priority z.place e (f t)) vs k.first);
-    }
-
--- one lane more
-pub soonest_more : (passes : Row → Bool) (lanes : List Lane) (i : ℕ) (d : Lane) (a b : Option Row) → i < length lanes → IsSoonestOf passes (all_rows (take i lanes)) a → IsSoonestOf passes (get_or lanes i d).rows b → IsSoonestOf passes (all_rows (take (i + 1) lanes)) (sooner a b)
-soonest_more p lanes i d a b l h k =
-    subst (λ rows. IsSoonestOf p rows (sooner a b)) (sym (all_rows_more lanes i d l)) (soonest_both p (all_rows (take i lanes)) (get_or lanes i d).rows a b h k)
 
 -- of what a filter leaves
 filter_passes : (q : Row → Bool) (xs : List Row) → All (λ x. q x ≡ true) (filter q xs)
@@ -95,33 +82,6 @@ all_that_pass P q (x ∷ xs) a = go (q x) refl (all_that_pass P q xs) a
     go true e rest a = All-cons (λ y. q y ≡ true → P y) x xs (λ h. All-head P x (filter q xs) a) (rest (All-tail P x (filter q xs) a))
     go false e rest a = All-cons (λ y. q y ≡ true → P y) x xs (λ h. absurd (cc)) (rest a)
 
-ready_both : (w e : Bool) → (w && not e) ≡ true → ((not w || not e) ≡ true) × (w ≡ true)
-ready_both true false h = (refl, refl)
-ready_both true true h = absurd (cc)
-ready_both false e h = absurd (cc)
-
-ready_of : (w e : Bool) → w ≡ true → (not w || not e) ≡ true → (w && not e) ≡ true
-ready_of true false h k = refl
-ready_of true true h k = absurd (cc)
-ready_of false e h k = absurd (cc)
-
-unready : (w e : Bool) → ((not w || not e) ≡ true → w ≡ false) → (w && not e) ≡ false
-unready true false h = h refl
-unready true true h = refl
-unready false e h = refl
-
--- what goes first of the rows that wait and stay is what goes first of those that are ready
-pub soonest_ready : (now : ℕ) (xs : List Row) (o : Option Row) → IsSoonestOf is_waiting (filter (stays now) xs) o → IsSoonestOf (is_ready now) xs o
-soonest_ready now xs None h =
-    All-weaker (λ y. stays now y ≡ true → is_waiting y ≡ false) (λ y. is_ready now y ≡ false) (λ y k. unready (is_waiting y) (is_expired now y) k) xs (all_that_pass (λ y. is_waiting y ≡ false) (stays now) xs h)
-soonest_ready now xs (Some r) h =
-    let kept : stays now r ≡ true = All-contains (λ x. stays now x ≡ true) (filter (stays now) xs) r (filter_passes (stays now) xs) h.there in
-    record {
-      pass = ready_of (is_waiting r) (is_expired now r) h.pass kept;
-      there = All-contains (Contains xs) (filter (stays now) xs) r (All-filter (stays now) (Contains xs) xs (All-contains_itself xs)) h.there;
-      first = All-weaker (λ y. stays now y ≡ true → is_waiting y ≡ true → is_sooner y r ≡ false) (λ y. is_ready now y ≡ true → is_sooner y r ≡ false) (λ y k t. let both = ready_both (is_waiting y) (is_expired now y) t in k both.0 both.1) xs (all_that_pass (λ y. is_waiting y ≡ true → is_sooner y r ≡ false) (stays now) xs h.first);
-    }
-
 -- a row of the list, or of what follows its first
 in_rest : (x r : Row) (xs : List Row) (k : ℕ) → k < length (x ∷ xs) → get_or (x ∷ xs) k r ≡ r → (x ≡ r) ⊎ Contains xs r
 in_rest x r xs zero l e = inl e
@@ -138,7 +98,7 @@ found_there (x ∷ xs) r a c = elim (in_rest x r xs c.0 c.1 c.2) [
 ]
 
 -- in rows by place, the row of least place that passes is the first that passes
-find_least : (f : Row → Bool) (zs : List Row) (r : Row) → IsRising zs → find (is_at r.place) zs ≡ Some r → f r ≡ true → All (λ y. f y ≡ true → r.place ≤ y.place) zs → find f zs ≡ Some r
+pub find_least : (f : Row → Bool) (zs : List Row) (r : Row) → IsRising zs → find (is_at r.place) zs ≡ Some r → f r ≡ true → All (λ y. f y ≡ true → r.place ≤ y.place) zs → find f zs ≡ Some r
 find_least f [] r up at e least = absurd (cc)
 find_least f (x ∷ xs) r up at e least = elim (eqb_tells x.place r.place) [
   | inl s ↦ here (rw (eq-eqb x.place r.place s.1) at at)

@@ -117,12 +117,6 @@ lane_out s c rs pr low high least at top next d h l n before h1 h2 h3 =
         let e : high + (top - high) ≡ top = omega arith in
         rw (← e, ← drop-drop (top - high) high rs) (All-drop (λ r. is_waiting r ≡ true) (top - high) (drop high rs) a)
 
--- the first that waits goes out
-pub lane_sent : (s : SessionId) (c : ℕ) (rs : List Row) (pr low high least at top : ℕ) (d : Row) → IsLane rs pr low high least → at < length rs → All (λ r. is_waiting r ≡ false) (take at rs) → high ≤ top → at + 1 ≤ top → top ≤ length rs → IsLane (set rs at (sent s c (get_or rs at d))) pr (at + 1) top least
-lane_sent s c rs pr low high least at top d h l before h1 h2 h3 =
-    let y : Row = sent s c (get_or rs at d) in
-    lane_out s c rs pr low high least at top (at + 1) d h l (omega (arith, l)) (rw (take_more_set rs at y l) (All-push (λ r. is_waiting r ≡ false) (take at rs) y before refl)) h1 h2 h3
-
 stays_by : (w : Bool) (e now : ℕ) → (w ≡ true → e ≢ 0 → now < e) → (not w || not (not (e == 0) && nat_le e now)) ≡ true
 stays_by false e now h = refl
 stays_by true e now h = grind (arith, nat_tests, h refl)

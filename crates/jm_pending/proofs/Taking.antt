@@ -15,14 +15,14 @@ use Rattle.jm_pending.specs.Chosen.{is_choice, is_passed, passes, next_where}
 use Rattle.jm_pending.specs.Holders.{Messages, Covers, Follows, holders_of}
 use Rattle.jm_pending.specs.Lanes.{Lane, all_rows, rows_of, IsHeld, IsApart, IsSoonestOf, EachBecomes, is_at, is_sooner}
 use Rattle.jm_pending.specs.Receivers.{is_known, AreKnown}
-use Rattle.jm_pending.specs.Rows.{Held, stays, is_ready, is_waiting, is_expired, is_elsewhere, next, sent, sent_at}
-use Rattle.jm_pending.proofs.Choice.{next_choice}
+use Rattle.jm_pending.specs.Rows.{Held, stays, is_ready, is_waiting, is_expired, is_held_back, is_elsewhere, next, sent, sent_at}
+use Rattle.jm_pending.proofs.Choice.{left_true, next_choice}
 use Rattle.jm_pending.proofs.Edited.{all_rows_each}
 use Rattle.jm_pending.proofs.Holding.{covers_after, holder_there}
 use Rattle.jm_pending.proofs.Keeping.{held_filter, held_map, held_same}
 use Rattle.jm_pending.proofs.Places.{apart_from_rising}
 use Rattle.jm_pending.proofs.Receiving.{known_filter, known_more, known_same, known_sent}
-use Rattle.jm_pending.proofs.Soonest.{all_that_pass, found_there, next_soonest, soonest_ready}
+use Rattle.jm_pending.proofs.Soonest.{all_that_pass, found_there, next_soonest}
 use Rattle.jm_pending.proofs.Steps.{sent_at_place, sent_at_priority}
 
 -- what a sending does to the lanes, where that row goes first
@@ -39,11 +39,6 @@ dropped now xs ys e = all_rows_each (filter (stays now)) refl (filter-append (st
 
 pub dropped_apart : (now : ℕ) (xs ys : List Lane) (room : ℕ) → IsHeld xs room → EachBecomes (filter (stays now)) xs ys → IsApart (all_rows ys)
 dropped_apart now xs ys room h e = apart_from_rising (all_rows ys) (held_filter (stays now) xs ys room h e).0.rising
-
--- the row that goes first of those that wait, once the expired ones are dropped, is the next one
-pub next_waiting : (now : ℕ) (xs ys : List Lane) (room : ℕ) (o : Option Row) → IsHeld xs room → EachBecomes (filter (stays now)) xs ys → IsSoonestOf is_waiting (all_rows ys) o → next now (rows_of xs) ≡ o
-next_waiting now xs ys room o h e first =
-    next_soonest now (all_rows xs) o h.rising (soonest_ready now (all_rows xs) o (subst (λ rows. IsSoonestOf is_waiting rows o) (dropped now xs ys e) first))
 
 -- what passes one test where it passes another is the first of those that pass the one
 soonest_same : (p q : Row → Bool) (xs : List Row) (o : Option Row) → All (λ r. p r ≡ q r) xs → IsSoonestOf p xs o → IsSoonestOf q xs o
@@ -69,10 +64,15 @@ soonest_kept p q xs (Some r) kept h = record {
 }
 
 -- a row that may be delivered stays
-ready_stays : (w e s : Bool) → ((w && not e) && s) ≡ true → (not w || not e) ≡ true
-ready_stays true true s h = h
-ready_stays true false s h = refl
-ready_stays false e s h = refl
+ready_stays : (w e held : Bool) → (w && (not e && not held)) ≡ true → (not w || not e) ≡ true
+ready_stays true true held h = h
+ready_stays true false held h = refl
+ready_stays false e held h = refl
+
+-- the row that goes first of those that are ready, once the expired ones are dropped, is the next one
+pub next_ready : (now : ℕ) (xs ys : List Lane) (room : ℕ) (o : Option Row) → IsHeld xs room → EachBecomes (filter (stays now)) xs ys → IsSoonestOf (is_ready now) (all_rows ys) o → next now (rows_of xs) ≡ o
+next_ready now xs ys room o h e first =
+    next_soonest now (all_rows xs) o h.rising (soonest_kept (is_ready now) (stays now) (all_rows xs) o (λ r k. ready_stays (is_waiting r) (is_expired now r) (is_held_back now r) k) (subst (λ rows. IsSoonestOf (is_ready now) rows o) (dropped now xs ys e) first))
 
 -- rows that have their holders have the messages that they had
 choice_same : (p : Content → Bool) (t t' : Messages) (now : ℕ) (xs ys : List Row) → Covers t xs → Follows t t' xs ys → All (λ r. is_choice p t' now r ≡ is_choice p t now r) ys
@@ -85,7 +85,7 @@ choice_same p t t' now xs ys covers follows = λ k d l.
 pub next_chosen : (p : Content → Bool) (t t' : Messages) (now : ℕ) (xs ys : List Lane) (room : ℕ) (o : Option Row) → IsHeld xs room → Covers t (all_rows xs) → EachBecomes (filter (stays now)) xs ys → Follows t t' (all_rows xs) (all_rows ys) → IsSoonestOf (is_choice p t' now) (all_rows ys) o → next_where p t now (rows_of xs) ≡ o
 next_chosen p t t' now xs ys room o h covers e follows first =
     let before : IsSoonestOf (is_choice p t now) (all_rows ys) o = soonest_same (is_choice p t' now) (is_choice p t now) (all_rows ys) o (choice_same p t t' now (all_rows xs) (all_rows ys) covers follows) first in
-    next_choice p t now (all_rows xs) o h.rising (soonest_kept (is_choice p t now) (stays now) (all_rows xs) o (λ r k. ready_stays (is_waiting r) (is_expired now r) (passes p t r) k) (subst (λ rows. IsSoonestOf (is_choice p t now) rows o) (dropped now xs ys e) before))
+    next_choice p t now (all_rows xs) o h.rising (soonest_kept (is_choice p t now) (stays now) (all_rows xs) o (λ r k. ready_stays (is_waiting r) (is_expired now r) (is_held_back now r) (left_true (is_ready now r) (passes p t r) k)) (subst (λ rows. IsSoonestOf (is_choice p t now) rows o) (dropped now xs ys e) before))
 
 -- what a drop and a sending do
 pub sent_held : (now : ℕ) (s : SessionId) (c : ℕ) (xs ys zs : List Lane) (room : ℕ) (res o : Option Row) (shown : List Row → Held) → IsHeld xs room → EachBecomes (filter (stays now)) xs ys → Sends s c ys zs res o

@@ -29,6 +29,10 @@ abbrev pub goes_before : Option Row → Row → Bool
 goes_before None r = true
 goes_before (Some other) r = is_sooner r other
 
+-- a row goes before the best so far, and may be delivered
+abbrev pub is_ready_before : Option Row → ℕ → Row → Bool
+is_ready_before best now r = goes_before best r && is_ready now r
+
 -- a row goes before the best so far, may be delivered, and its message passes
 abbrev pub is_better : Option Row → (Content → Bool) → Messages → ℕ → Row → Bool
 is_better best p t now r = goes_before best r && is_choice p t now r

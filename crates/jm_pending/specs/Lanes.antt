@@ -25,6 +25,20 @@ abbrev pub IsSteady : List Row → Type 0
 IsSteady [] = Unit {0}
 IsSteady (x ∷ xs) = All (λ y. in_turn x y ≡ true) xs × IsSteady xs
 
+-- a row that waits is due no earlier
+abbrev pub IsDueBound : ℕ → Row → Type 0
+IsDueBound due r = is_waiting r ≡ true → due ≤ r.due
+
+-- no row is due before an earlier one
+abbrev pub AreDueInTurn : List Row → Type 0
+AreDueInTurn [] = Unit {0}
+AreDueInTurn (x ∷ xs) = All (λ (y : Row). x.due ≤ y.due) xs × AreDueInTurn xs
+
+-- none that waits is due before `due`, and where the lane is marked so its rows are due in turn
+pub record AreDue (rows : List Row) (due : ℕ) (in_turn : Bool) : Type 0 where
+  pub bound : All (IsDueBound due) rows
+  pub turn : in_turn ≡ true → AreDueInTurn rows
+
 -- no row waits before `low`, none is out from `high` on, and none that waits expires before `least`
 pub record IsLane (rows : List Row) (priority low high least : ℕ) : Type 0 where
   pub same : All (λ (r : Row). r.priority ≡ priority) rows
@@ -35,10 +49,11 @@ pub record IsLane (rows : List Row) (priority low high least : ℕ) : Type 0 whe
   pub behind : All (λ r. is_waiting r ≡ true) (drop high rows)
   pub bound : All (IsBound least) rows
 
--- the same, and where the lane is marked as steady its rows expire in turn
-pub record IsSteadyLane (rows : List Row) (priority low high least : ℕ) (steady : Bool) : Type 0 where
+-- the same, and where the lane is marked as steady its rows expire in turn; and what is known of when they are due
+pub record IsSteadyLane (rows : List Row) (priority low high least : ℕ) (steady : Bool) (due : ℕ) (in_turn : Bool) : Type 0 where
   pub lane : IsLane rows priority low high least
   pub turn : steady ≡ true → IsSteady rows
+  pub dues : AreDue rows due in_turn
 
 -- the rows of all lanes, in the order of delivery
 abbrev pub all_rows : List Lane → List Row
@@ -64,12 +79,6 @@ rows_of lanes = sorted is_lower (all_rows lanes)
 abbrev pub is_sooner : Row → Row → Bool
 is_sooner a b = nat_lt b.priority a.priority || (a.priority == b.priority && nat_lt a.place b.place)
 
--- the one of two rows that goes before the other, where one is there
-abbrev pub sooner : Option Row → Option Row → Option Row
-sooner None b = b
-sooner (Some x) None = Some x
-sooner (Some x) (Some y) = if is_sooner y x then Some y else Some x
-
 -- the row passes, is one of those, and none that passes goes before it
 pub record IsSoonest (passes : Row → Bool) (rows : List Row) (r : Row) : Type 0 where
   pub pass : passes r ≡ true
@@ -79,10 +88,6 @@ pub record IsSoonest (passes : Row → Bool) (rows : List Row) (r : Row) : Type 
 -- the same of a row that may be absent, where none passes
 abbrev pub IsSoonestOf : (Row → Bool) → List Row → Option Row → Type 0
 IsSoonestOf passes rows o = MatchOption o (All (λ y. passes y ≡ false) rows) (IsSoonest passes rows)
-
--- the first row that waits in the lane at an index, and none past all lanes
-abbrev pub waiting_in : List Lane → ℕ → Option Row
-waiting_in lanes k = find is_waiting (slice_index_or lanes k (record { priority = 0; rows = []; spare = 0 })).rows
 
 -- the lane at that index is one of the priority's three
 pub record IsLaneOf (k priority : ℕ) : Type 0 where

@@ -6,3 +6,4 @@ pub mod Holders
 pub mod Counts
 pub mod Placed
 pub mod Chosen
+pub mod Cursors

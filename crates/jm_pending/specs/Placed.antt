@@ -7,6 +7,7 @@ use Rattle.jm_header.specs.declared.content.DeliveryMode.TheVariants.{Persistent
 use Rattle.jm_machine.specs.declared.state.PlacedRow.{PlacedRow}
 use Rattle.jm_pending.specs.declared.row.Row.{Row}
 use Rattle.jm_pending.specs.Holders.{Messages, message_of}
+use Rattle.jm_pending.specs.Rows.{due_of}
 
 -- what stands for a message where there is none; no row that has its holder is read so
 abbrev pub no_message : Content
@@ -18,6 +19,7 @@ no_message = record {
   priority = 0;
   timestamp = 0;
   expiration = 0;
+  delivery_time = 0;
   correlation = None;
   message_type = None;
   body = no_body;
@@ -43,11 +45,12 @@ placed t r = record { place = r.place; row = record { message = content_of t r; 
 abbrev pub all_placed : Messages → List Row → List PlacedRow
 all_placed t rows = map (placed t) rows
 
--- a row has the priority and the expiration of its message
+-- a row has the priority, the expiration and the due moment of its message
 pub record IsRowOf (t : Messages) (r : Row) : Type 0 where
   pub priority : r.priority ≡ (content_of t r).priority
   pub expiration : r.expiration ≡ (content_of t r).expiration
+  pub due : r.due ≡ due_of (content_of t r)
 
--- each row has the priority and the expiration of its message
+-- each row has those of its message
 pub record AreRowsOf (t : Messages) (rows : List Row) : Type 0 where
   pub each : All (IsRowOf t) rows

@@ -3,6 +3,7 @@ use Rattle.std.specs.Prelude.{ℕ, ◌+◌, ◌<◌, ◌==◌, nat_lt, nat_le, B
 use Rattle.std.specs.List.{list_all, list_any}
 use Rattle.jm_dest.specs.declared.session.SessionId.{SessionId}
 use Rattle.jm_header.specs.declared.content.Content.{Content}
+use Rattle.jm_header.specs.Headers.{is_delayed}
 use Rattle.jm_machine.specs.declared.state.RowState.{RowState}
 use Rattle.jm_machine.specs.declared.state.RowState.TheVariants.{Waiting, Out}
 use Rattle.jm_machine.specs.Rows.{waits, goes_out}
@@ -11,9 +12,14 @@ use Rattle.jm_pending.specs.declared.row.Row.{Row}
 use Rattle.jm_pending.specs.declared.row.Outs.{Outs}
 use Rattle.jm_pending.specs.declared.row.Outs.TheVariants.{Of, Through}
 
+-- the moment before which a message is held back: its delivery time, where it has a delay, and else 0
+abbrev pub due_of : Content → ℕ
+due_of m = if is_delayed m then m.delivery_time else 0
+
 -- the row of a message that was delivered so often, at its place and in that state
 abbrev pub row_of : ℕ → Content → ℕ → RowState → Row
-row_of place m count state = record { place = place; count = count; state = state; priority = m.priority; expiration = m.expiration }
+row_of place m count state =
+    record { place = place; count = count; state = state; priority = m.priority; expiration = m.expiration; due = due_of m }
 
 -- the row of a message that comes, at its place: it waits, and was never delivered
 abbrev pub fresh : ℕ → Content → Row
@@ -52,9 +58,13 @@ is_expired now r = not (r.expiration == 0) && nat_le r.expiration now
 abbrev pub stays : ℕ → Row → Bool
 stays now r = not (is_waiting r) || not (is_expired now r)
 
--- a row may be delivered: it waits, and is not expired
+-- a row is held back before its due moment
+abbrev pub is_held_back : ℕ → Row → Bool
+is_held_back now r = nat_lt now r.due
+
+-- a row may be delivered: it waits, is not expired, and is not held back
 abbrev pub is_ready : ℕ → Row → Bool
-is_ready now r = is_waiting r && not (is_expired now r)
+is_ready now r = is_waiting r && (not (is_expired now r) && not (is_held_back now r))
 
 -- a row may be delivered, and none of higher priority may
 abbrev pub is_next : ℕ → List Row → Row → Bool

@@ -8,12 +8,14 @@ ghost use Rattle.jm_pending.specs.Rows as spec;
 ghost use Rattle.jm_pending.specs.Chosen.{next_where};
 ghost use Rattle.jm_selector.specs.Selectors.{read_selects, selector_read};
 ghost use Rattle.jm_pending.specs.Holders.{Covers, Follows, holders_of, last_message};
+ghost use Rattle.jm_pending.specs.Lanes.{is_at};
+ghost use Rattle.jm_pending.specs.Cursors as cursor;
 
 use crate::lane::Lane;
-use crate::lanes;
 use crate::receivers::Receivers;
 use crate::row::{Outs, Row};
 use crate::table::Table;
+use crate::{cursors, lanes};
 use jm_dest::{ConsumerId, Moment, SessionId};
 use jm_header::Message;
 use jm_machine::Consumers;
@@ -155,6 +157,43 @@ impl Held {
         lanes::row_from(&self.lanes, place)
     }
 
+    /// The row at that place, where there is one. Looks for it in each lane by halves.
+    #[tactic(auto, using(crate::proofs::Ranks::at_sorted))]
+    pub fn row_of(&self, place: u64) -> Option<Row>
+        ensures { result ≡ find (is_at place) self.now.rows }
+    {
+        lanes::at(&self.lanes, place)
+    }
+
+    /// The first row by place, from that place on, that waits and is expired at that moment. All such rows are met in turn
+    /// from 0 on, each looked for from the place after the one before. Takes no memory. A lane of which no row expires by
+    /// then costs nothing; in any other the place is found by halves, and of rows that expire in turn those are looked at
+    /// that are out and expired, up to the first that waits. Where rows do not expire in turn, those of the lane are
+    /// looked at from the place on, up to the row that is given, or to the first such row of that lane.
+    pub fn lapsed_from(&self, place: u64, now: Moment) -> Option<Row>
+        ensures row { result ≡ find (cursor.lapsed_from place now) self.now.rows }
+        ensures place { IfSome result (λ r. r.place < long_end) }
+        ensures rising { spec.IsRising self.now.rows }
+    {
+        cursors::lapsed_from(&self.lanes, place, now)
+    }
+
+    /// The first row by place, from that place on, that is out through one of those consumers. All such rows are met in turn
+    /// from 0 on, each looked for from the place after the one before. Takes no memory. Where it is known that no row is
+    /// out through them, no row is looked at; else the place is found by halves in each lane, and rows are looked at from
+    /// there on, up to the first such row of the lane, and never behind the last that is out.
+    pub fn out_from(&self, place: u64, which: &Consumers) -> Option<Row>
+        ensures row { result ≡ find (cursor.out_from place (are_meant which.now)) self.now.rows }
+        ensures place { IfSome result (λ r. r.place < long_end) }
+        ensures rising { spec.IsRising self.now.rows }
+    {
+        if self.receivers.include(which) {
+            cursors::out_from(&self.lanes, place, which)
+        } else {
+            None
+        }
+    }
+
     /// Whether one more publication would be missed.
     pub fn is_at_limit(&self) -> bool
         ensures { result ≡ spec.is_at_limit self.now.limit (length self.now.rows) }
@@ -210,7 +249,7 @@ impl Held {
         self.room -= 1;
     }
 
-    /// The row that a delivery at that moment would take: of those that wait and are not expired the
+    /// The row that a delivery at that moment would take: of those that wait, and are not expired and not held back, the
     /// one of highest priority, then of least place.
     #[tactic(auto, using(crate::proofs::Soonest::next_soonest))]
     pub fn next(&self, now: Moment) -> Option<Row>
@@ -220,8 +259,8 @@ impl Held {
         lanes::next(&self.lanes, now)
     }
 
-    /// The row that a delivery at that moment would take of those whose messages the selector selects: of those that wait
-    /// and are not expired the one of highest priority, then of least place. A row of which the table has no message is
+    /// The row that a delivery at that moment would take of those whose messages the selector selects: of those that wait,
+    /// and are not expired and not held back, the one of highest priority, then of least place. A row of which the table has no message is
     /// not selected. Looks at the rows that wait, from the first on, up to that row, and at none of lower priority.
     #[tactic(auto, using(crate::proofs::Choice::next_choice))]
     pub fn next_where(&self, table: &Table, now: Moment, selector: &Selector) -> Option<Row>
@@ -253,7 +292,7 @@ impl Held {
     {
         lanes::drop_expired(&mut self.lanes, table, now);
         self.receivers = self.receivers.with_one(&session, consumer);
-        lanes::take_first(&mut self.lanes, session, consumer)
+        lanes::take_first(&mut self.lanes, now, session, consumer)
     }
 
     /// Drops the waiting rows that are expired at that moment, and delivers the next row, which is
@@ -272,7 +311,7 @@ impl Held {
         ensures rising { spec.IsRising self.old.rows }
     {
         lanes::drop_expired(&mut self.lanes, table, now);
-        let row = lanes::remove_first(&mut self.lanes)?;
+        let row = lanes::remove_first(&mut self.lanes, now)?;
         let message = table.release(row.place);
         Some(Taken {
             row: row.counted(),

@@ -2,28 +2,32 @@
 
 ghost use Rattle.std.specs.Prelude.{◌≡◌, ℕ, ◌+◌, ◌<◌, ◌≤◌, [], ◌∷◌, ◌++◌, length, All, find, filter, map, take, true, false, OnOk, MatchOption, option_map, slice_get};
 ghost use Rattle.jm_pending.specs.declared.row.Row.{Row};
-ghost use Rattle.jm_pending.specs.Rows.{IsRising, are_home, back, is_among, is_elsewhere, is_ready, is_waiting, keeps, sent_at, stays};
+ghost use Rattle.jm_pending.specs.Rows.{IsRising, are_home, back, is_among, is_elsewhere, is_waiting, keeps, sent_at, stays};
 ghost use Rattle.jm_pending.specs.Rows as spec;
-ghost use Rattle.jm_pending.specs.Chosen.{StandsIn, is_better};
+ghost use Rattle.jm_pending.specs.Chosen.{StandsIn, is_better, is_ready_before};
 ghost use Rattle.jm_selector.specs.Selectors.{read_selects, selector_read};
 ghost use Rattle.jm_dest.specs.Numbers.{long_end};
 ghost use Rattle.jm_pending.specs.Lanes.{IsCopied, IsPlaceFrom, IsSoonestOf, is_at, is_below};
 ghost use Rattle.jm_pending.specs.Holders.{Covers, Follows};
+ghost use Rattle.jm_machine.specs.Machine.{are_meant};
+ghost use Rattle.jm_pending.specs.Cursors.{improves, lapsed_from, out_from};
 
+use crate::cursors;
 use crate::row::{Outs, Row};
 use crate::spot::Spot;
 use crate::table::Table;
-use crate::walks;
+use crate::walks::{self, Bounds};
 use jm_dest::{ConsumerId, Moment, SessionId};
+use jm_machine::Consumers;
 use jm_selector::Selector;
 use std::alloc::{AllocError, Global};
 use std::collections::VecDeque;
 use std::marker::Model;
 
 /// The rows of one priority, by place. Rows stay where they stand, with their states, so that giving
-/// them back moves nothing. Three bounds spare walks: none of the first `low` rows waits, none from `high`
-/// on is out, and none that waits expires before `least`. Where the lane is steady, its rows expire in
-/// turn.
+/// them back moves nothing. Four bounds spare walks: none of the first `low` rows waits, none from `high`
+/// on is out, and none that waits expires before `least`, or is due before `due`. Where the lane is steady, its
+/// rows expire in turn; where it is marked so, they are due in turn.
 pub(crate) struct Lane {
     rows: VecDeque<Row>,
     priority: u8,
@@ -31,6 +35,8 @@ pub(crate) struct Lane {
     high: usize,
     least: u64,
     steady: bool,
+    due: u64,
+    in_turn: bool,
 }
 
 impl Drop for Lane {
@@ -42,6 +48,8 @@ impl Drop for Lane {
             high: _,
             least: _,
             steady: _,
+            due: _,
+            in_turn: _,
         } = self;
     }
 }
@@ -55,7 +63,7 @@ impl Model for Lane {
 
     ghost view = { λ a. record { priority = a.priority; rows = a.rows.items; spare = deque_capacity a.rows - deque_len a.rows } };
 
-    ghost invariant = { λ a. IsSteadyLane a.rows.items a.priority a.low a.high a.least a.steady };
+    ghost invariant = { λ a. IsSteadyLane a.rows.items a.priority a.low a.high a.least a.steady a.due a.in_turn };
 }
 
 impl Clone for Lane {
@@ -70,6 +78,8 @@ impl Clone for Lane {
             high: self.high,
             least: self.least,
             steady: self.steady,
+            due: self.due,
+            in_turn: self.in_turn,
         })
     }
 }
@@ -86,6 +96,8 @@ impl Lane {
             high: 0,
             least: u64::MAX,
             steady: true,
+            due: u64::MAX,
+            in_turn: true,
         }
     }
 
@@ -134,6 +146,27 @@ impl Lane {
         }
     }
 
+    /// Where the first row from that place on stands that has lapsed at that moment and is of a lower place than the best
+    /// so far, where that is there; or how many rows there are. Where no row expires by then, none is looked at.
+    pub(crate) fn first_lapsed(&self, place: u64, now: Moment, best: &Option<Row>) -> usize
+        ensures { slice_get self.now.rows result ≡ find (improves best.now (lapsed_from place now)) self.now.rows }
+    {
+        if now.get() < self.least {
+            return self.rows.len();
+        }
+        let from = self.low.max(self.below(place));
+        cursors::first_lapsed(&self.rows, from, now, self.steady, best)
+    }
+
+    /// Where the first row from that place on stands that is out through one of those consumers and is of a lower place
+    /// than the best so far, where that is there; or how many rows there are. Rows behind the last that is out are not
+    /// looked at.
+    pub(crate) fn first_out(&self, place: u64, which: &Consumers, best: &Option<Row>) -> usize
+        ensures { slice_get self.now.rows result ≡ find (improves best.now (out_from place (are_meant which.now))) self.now.rows }
+    {
+        cursors::first_out(&self.rows, self.below(place), self.high, which, best)
+    }
+
     /// Makes room for that many more rows. A lane without rows, as most are, takes no more than that.
     pub(crate) fn reserve(&mut self, additional: usize) -> Result<(), AllocError>
         ensures ok { OnOk result (additional ≤ self.new.spare) }
@@ -158,6 +191,8 @@ impl Lane {
     {
         self.least = row.earlier(self.least);
         self.steady = walks::is_steady_with(&self.rows, &row, self.steady);
+        self.due = row.due_earlier(self.due);
+        self.in_turn = walks::are_in_turn_with(&self.rows, &row, self.in_turn);
         self.rows.push_back_reserved(Row { ..row });
         if !row.is_waiting() {
             self.high = self.rows.len();
@@ -169,21 +204,12 @@ impl Lane {
         walks::is_steady_with(&self.rows, row, self.steady)
     }
 
-    /// The first row that waits.
-    pub(crate) fn waiting(&self) -> Option<Row>
-        ensures found { result ≡ find is_waiting self.now.rows }
-        ensures soonest { IsSoonestOf is_waiting self.now.rows result }
-    {
-        let at = walks::first_waiting(&self.rows, self.low);
-        self.get(at)
-    }
-
-    /// The first row that is ready.
-    pub(crate) fn next(&self, now: Moment) -> Option<Row>
-        ensures { IsSoonestOf (is_ready now) self.now.rows result }
-    {
-        let at = walks::first_ready(&self.rows, self.low, now);
-        self.get(at)
+    /// Whether a row of it is delayed, as far as its last row says.
+    pub(crate) fn is_delaying(&self) -> bool {
+        match self.rows.back() {
+            Some(last) => !self.in_turn || last.is_delayed(),
+            None => false,
+        }
     }
 
     /// How many rows stand before the first that waits.
@@ -194,8 +220,23 @@ impl Lane {
         walks::first_waiting(&self.rows, self.low)
     }
 
+    /// Where the first row stands that is ready and that goes before the best so far, where that is there; or how many
+    /// rows there are. None of the first `low` rows waits. Where all are known to be held back, none is looked at.
+    pub(crate) fn first_ready(&self, low: usize, now: Moment, best: &Option<Row>) -> usize
+        requires in_range { low ≤ length self.now.rows }
+        requires before { All (λ r. is_waiting r ≡ false) (take low self.now.rows) }
+        ensures from { low ≤ result }
+        ensures soonest { IsSoonestOf (is_ready_before best.now now) self.now.rows (slice_get self.now.rows result) }
+    {
+        if now.get() < self.due {
+            return self.rows.len();
+        }
+        walks::first_ready(&self.rows, low, now, self.in_turn, best)
+    }
+
     /// Where the first row stands that is ready, whose message the selector selects, and that goes before the best so
-    /// far, where that is there; or how many rows there are. None of the first `low` rows waits.
+    /// far, where that is there; or how many rows there are. None of the first `low` rows waits. Where all are known to be
+    /// held back, none is looked at.
     pub(crate) fn first_choice(
         &self,
         low: usize,
@@ -209,7 +250,10 @@ impl Lane {
         ensures from { low ≤ result }
         ensures soonest { IsSoonestOf (is_better best.now (read_selects (selector_read selector.now)) table.now now) self.now.rows (slice_get self.now.rows result) }
     {
-        walks::first_choice(&self.rows, low, table, now, selector, best)
+        if now.get() < self.due {
+            return self.rows.len();
+        }
+        walks::first_choice(&self.rows, low, table, now, self.in_turn, selector, best)
     }
 
     /// Whether no row is out.
@@ -241,44 +285,16 @@ impl Lane {
         self.least = walks::bound_of(&self.rows);
     }
 
-    /// Sends the first row that waits.
-    pub(crate) fn take_first(&mut self, session: SessionId, consumer: ConsumerId) -> Option<Row>
-        ensures priority { self.new.priority ≡ self.old.priority }
-        ensures result { result ≡ option_map (spec.sent session consumer) (find is_waiting self.old.rows) }
-        ensures rows { MatchOption (find is_waiting self.old.rows)
-            (self.new.rows ≡ self.old.rows)
-            (λ r. self.new.rows ≡ map (sent_at r.place session consumer) self.old.rows) }
-        ensures room { self.old.spare ≡ self.new.spare }
+    /// Looks anew when the rows that wait are due, where some may be that are not due in turn, and none is ready.
+    pub(crate) fn look_ahead(&mut self, now: Moment)
+        ensures { self.new ≡ self.old }
     {
-        let at = walks::first_waiting(&self.rows, self.low);
-        if at < self.rows.len() {
-            self.rows[at] = self.rows[at].sent(session, consumer);
-            self.low = at + 1;
-            self.high = self.high.max(self.low);
-            self.get(at)
-        } else {
-            self.low = at;
-            None
+        if self.in_turn || now.get() < self.due {
+            return;
         }
-    }
-
-    /// Removes the first row that waits.
-    pub(crate) fn remove_first(&mut self) -> Option<Row>
-        ensures priority { self.new.priority ≡ self.old.priority }
-        ensures result { result ≡ find is_waiting self.old.rows }
-        ensures rows { MatchOption (find is_waiting self.old.rows)
-            (self.new.rows ≡ self.old.rows)
-            (λ r. self.new.rows ≡ filter (is_elsewhere r.place) self.old.rows) }
-        ensures room { self.old.spare ≤ self.new.spare }
-    {
-        let at = walks::first_waiting(&self.rows, self.low);
-        self.low = at;
-        if at == self.rows.len() {
-            return None;
+        if walks::first_ready(&self.rows, self.low, now, false, &None) == self.rows.len() {
+            self.due = walks::due_of(&self.rows);
         }
-        let row = self.rows.remove(at);
-        self.high = self.high.min(self.rows.len());
-        row
     }
 
     /// Sends the row that stands there.
@@ -326,7 +342,13 @@ impl Lane {
         ensures rows { self.new.rows ≡ map (back (is_among outs.now)) self.old.rows }
         ensures room { self.old.spare ≡ self.new.spare }
     {
-        self.least = walks::give_back_front(&mut self.rows, self.high, outs, self.least);
+        let bounds = Bounds {
+            least: self.least,
+            due: self.due,
+        };
+        let bounds = walks::give_back_front(&mut self.rows, self.high, outs, bounds);
+        self.least = bounds.least;
+        self.due = bounds.due;
         self.low = 0;
     }
 
@@ -343,5 +365,7 @@ impl Lane {
         self.high = 0;
         self.least = u64::MAX;
         self.steady = true;
+        self.due = u64::MAX;
+        self.in_turn = true;
     }
 }

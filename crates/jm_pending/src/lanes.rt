@@ -1,15 +1,15 @@
 //! The lanes of one subscription, three for each priority, from the highest on. Which of the three a row stands in is
-//! free: rows that expire in turn stand together, so that a delivery drops those of them that are expired from the front.
+//! free: rows that expire in turn stand together, so that a delivery drops those of them that are expired from the front;
+//! and those that are delayed stand apart, so that a delivery passes over all that are held back.
 
 ghost use Rattle.std.specs.Prelude.{◌≡◌, ℕ, ◌+◌, ◌-◌, ◌^◌, ◌<◌, ◌≤◌, ◌++◌, List, [], length, All, IfSome, find, filter, map, take, true, false, None, Some, Option, OnOk, MatchOption, slice_get, slice_index_or, slice_set};
 ghost use Rattle.jm_dest.specs.Numbers.{long_end};
 ghost use Rattle.jm_pending.specs.declared.row.Row.{Row};
-ghost use Rattle.jm_pending.specs.Rows.{IsRising, back, is_among, is_elsewhere, is_ready, is_waiting, keeps, sent_at, stays};
+ghost use Rattle.jm_pending.specs.Rows.{IsRising, back, is_among, is_elsewhere, is_ready, keeps, sent_at, stays};
 ghost use Rattle.jm_pending.specs.Rows as spec;
 ghost use Rattle.jm_pending.specs.Chosen.{IsSpot, is_choice, row_of};
 ghost use Rattle.jm_selector.specs.Selectors.{read_selects, selector_read};
 ghost use Rattle.jm_pending.specs.Lanes.{EachBecomes, IsApart, IsLaneOf, IsPlaceFrom, IsPushed, IsSoonestOf, Lane, all_rows, is_at, is_below, rows_of};
-ghost use Rattle.jm_pending.specs.Lanes as by_lane;
 ghost use Rattle.jm_pending.specs.Holders.{Covers, Follows};
 
 use crate::lane::Lane;
@@ -45,7 +45,7 @@ fn below(lanes: &[Lane], place: u64) -> usize
 }
 
 /// The row at that place.
-fn at(lanes: &[Lane], place: u64) -> Option<Row>
+pub(crate) fn at(lanes: &[Lane], place: u64) -> Option<Row>
     ensures { result ≡ find (is_at place) (all_rows lanes.now) }
 {
     for lane in lanes.iter() {
@@ -136,20 +136,25 @@ pub(crate) fn reserve(lanes: &mut [Lane], additional: usize) -> Result<(), Alloc
     Ok(())
 }
 
-/// Which lane of its priority a row goes to: the first whose rows still expire in turn with it, or the last.
+/// Which lane of its priority a row goes to: a delayed one to the last, and each other to the first whose rows still
+/// expire in turn with it, or to the last but where that has delayed ones.
 fn lane_for(lanes: &[Lane], row: &Row) -> usize
     requires number { length lanes.now ≡ 30 }
     requires priority { row.now.priority < 10 }
     ensures { IsLaneOf result row.now.priority }
 {
     let first = (9 - row.priority as usize) * 3;
+    let last = first + 2;
+    if row.is_delayed() {
+        return last;
+    }
     if lanes[first].takes(row) {
         return first;
     }
-    if lanes[first + 1].takes(row) {
+    if lanes[first + 1].takes(row) || lanes[last].is_delaying() {
         return first + 1;
     }
-    first + 2
+    last
 }
 
 /// Adds a row to a lane of its priority.
@@ -167,32 +172,46 @@ pub(crate) fn push(lanes: &mut [Lane], row: Row)
     lane.push(row);
 }
 
-/// The one of two rows that goes before the other, where one is there.
-fn sooner(one: Option<Row>, other: Option<Row>) -> Option<Row>
-    ensures { result ≡ by_lane.sooner one other }
+/// Of the best row so far, where one is there, and the rows of the lane at that index the one that goes first of those
+/// that are ready, and where it stands.
+fn sooner(lanes: &[Lane], at: usize, now: Moment, best: Option<Spot>) -> Option<Spot>
+    requires at { at < length lanes.now }
+    requires best { IfSome best (IsSpot lanes.now) }
+    ensures spot { IfSome result (IsSpot lanes.now) }
+    ensures soonest { (rows : List Row) (d : Lane) → IsSoonestOf (is_ready now) rows (row_of best) →
+        IsSoonestOf (is_ready now) (rows ++ (slice_index_or lanes.now at d).rows) (row_of result) }
 {
-    let Some(first) = one else {
-        return other;
-    };
-    let Some(second) = other else {
-        return Some(first);
-    };
-    if second.is_sooner(&first) {
-        Some(second)
-    } else {
-        Some(first)
+    let lane = &lanes[at];
+    let low = lane.first_waiting();
+    let index = lane.first_ready(low, now, &spot::row_of(&best));
+    match lane.get(index) {
+        Some(row) => Some(Spot {
+            lane: at,
+            low,
+            index,
+            row,
+        }),
+        None => best,
     }
+}
+
+/// The row that goes first of those that are ready, and where it stands.
+fn first_spot(lanes: &[Lane], now: Moment) -> Option<Spot>
+    ensures spot { IfSome result (IsSpot lanes.now) }
+    ensures soonest { IsSoonestOf (is_ready now) (all_rows lanes.now) (row_of result) }
+{
+    let mut best = None;
+    for i in 0..lanes.len() {
+        best = sooner(lanes, i, now, best);
+    }
+    best
 }
 
 /// The row that goes first of those that are ready.
 pub(crate) fn next(lanes: &[Lane], now: Moment) -> Option<Row>
     ensures { IsSoonestOf (is_ready now) (all_rows lanes.now) result }
 {
-    let mut best = None;
-    for lane in lanes.iter() {
-        best = sooner(best, lane.next(now));
-    }
-    best
+    spot::row_of(&first_spot(lanes, now))
 }
 
 /// Of the best row so far, where one is there, and the rows of the lane at that index whose messages the selector selects
@@ -249,7 +268,7 @@ pub(crate) fn next_where(
     spot::row_of(&best_spot(lanes, table, now, selector))
 }
 
-/// Drops the waiting rows that are expired.
+/// Drops the waiting rows that are expired, and looks anew when others are due.
 pub(crate) fn drop_expired(lanes: &mut [Lane], table: &mut Table, now: Moment)
     requires { Covers table.old (all_rows lanes.old) }
     ensures rows { EachBecomes (filter (stays now)) lanes.old lanes.new }
@@ -257,85 +276,39 @@ pub(crate) fn drop_expired(lanes: &mut [Lane], table: &mut Table, now: Moment)
 {
     for lane in lanes.iter_mut() {
         lane.drop_expired(table, now);
+        lane.look_ahead(now);
     }
 }
 
-/// The first row that waits in the lane at that index, and none past all lanes.
-fn waiting_in(lanes: &[Lane], index: usize) -> Option<Row>
-    ensures found { result ≡ by_lane.waiting_in lanes.now index }
-    ensures soonest { (d : Lane) → index < length lanes.now → IsSoonestOf is_waiting (slice_index_or lanes.now index d).rows result }
-{
-    if index < lanes.len() {
-        lanes[index].waiting()
-    } else {
-        None
-    }
-}
-
-/// The index of the one of two lanes whose first waiting row goes before that of the other, where one is there.
-fn sooner_lane(lanes: &[Lane], one: usize, other: usize) -> usize
-    requires one { one ≤ length lanes.now }
-    requires other { other < length lanes.now }
-    ensures within { result ≤ length lanes.now }
-    ensures row { by_lane.waiting_in lanes.now result ≡ by_lane.sooner (by_lane.waiting_in lanes.now one) (by_lane.waiting_in lanes.now other) }
-    ensures other { (d : Lane) → IsSoonestOf is_waiting (slice_index_or lanes.now other d).rows (by_lane.waiting_in lanes.now other) }
-{
-    let Some(second) = waiting_in(lanes, other) else {
-        return one;
-    };
-    let Some(first) = waiting_in(lanes, one) else {
-        return other;
-    };
-    if second.is_sooner(&first) { other } else { one }
-}
-
-/// The lane of the row that goes first of those that wait, or how many lanes there are.
-fn first_lane(lanes: &[Lane]) -> usize
-    ensures within { result ≤ length lanes.now }
-    ensures first { IsSoonestOf is_waiting (all_rows lanes.now) (by_lane.waiting_in lanes.now result) }
-{
-    let mut best = lanes.len();
-    for i in 0..lanes.len() {
-        best = sooner_lane(lanes, best, i);
-    }
-    best
-}
-
-/// Sends the row that goes first of those that wait.
+/// Sends the row that goes first of those that are ready.
 pub(crate) fn take_first(
     lanes: &mut [Lane],
+    now: Moment,
     session: SessionId,
     consumer: ConsumerId,
 ) -> Option<Row>
     requires { IsApart (all_rows lanes.old) }
-    ensures { (first : Option Row) × IsSoonestOf is_waiting (all_rows lanes.old) first × MatchOption first
+    ensures { (first : Option Row) × IsSoonestOf (is_ready now) (all_rows lanes.old) first × MatchOption first
         ((result ≡ None) × EachBecomes (λ rows. rows) lanes.old lanes.new)
         (λ r. (result ≡ Some (spec.sent session consumer r)) ×
         EachBecomes (map (sent_at r.place session consumer)) lanes.old lanes.new) }
 {
-    let at = first_lane(lanes);
-    if at < lanes.len() {
-        let lane = &mut lanes[at];
-        lane.take_first(session, consumer)
-    } else {
-        None
-    }
+    let spot = first_spot(lanes, now)?;
+    let lane = &mut lanes[spot.lane];
+    Some(lane.take_at(&spot, session, consumer))
 }
 
-/// Removes the row that goes first of those that wait.
-pub(crate) fn remove_first(lanes: &mut [Lane]) -> Option<Row>
+/// Removes the row that goes first of those that are ready.
+pub(crate) fn remove_first(lanes: &mut [Lane], now: Moment) -> Option<Row>
     requires { IsApart (all_rows lanes.old) }
-    ensures { (first : Option Row) × IsSoonestOf is_waiting (all_rows lanes.old) first × MatchOption first
+    ensures { (first : Option Row) × IsSoonestOf (is_ready now) (all_rows lanes.old) first × MatchOption first
         ((result ≡ None) × EachBecomes (λ rows. rows) lanes.old lanes.new)
         (λ r. (result ≡ Some r) × EachBecomes (filter (is_elsewhere r.place)) lanes.old lanes.new) }
 {
-    let at = first_lane(lanes);
-    if at < lanes.len() {
-        let lane = &mut lanes[at];
-        lane.remove_first()
-    } else {
-        None
-    }
+    let spot = first_spot(lanes, now)?;
+    let lane = &mut lanes[spot.lane];
+    lane.remove_at(&spot);
+    Some(spot.row)
 }
 
 /// Sends the row that goes first of those that are ready and whose messages the selector selects.

@@ -3,6 +3,7 @@
 //! place. Only `reserve` takes memory; every other call succeeds under its conditions.
 #![tactic(auto)]
 
+mod cursors;
 mod held;
 mod lane;
 mod lanes;

@@ -1,11 +1,11 @@
 //! Rows, and what is asked of one alone.
 
-ghost use Rattle.std.specs.Prelude.{◌≡◌, ◌<◌, ◌≤◌};
+ghost use Rattle.std.specs.Prelude.{◌≡◌, ◌<◌, ◌≤◌, true};
 ghost use Rattle.jm_machine.specs.Machine.{are_meant};
 ghost use Rattle.jm_pending.specs.Rows as spec;
 ghost use Rattle.jm_pending.specs.Chosen as chosen;
 ghost use Rattle.jm_pending.specs.Lanes as by_lane;
-ghost use Rattle.jm_pending.specs.Lanes.{IsBound};
+ghost use Rattle.jm_pending.specs.Lanes.{IsBound, IsDueBound};
 ghost use Rattle.jm_selector.specs.Selectors.{read_selects, selector_read};
 
 use crate::table::Table;
@@ -26,6 +26,8 @@ pub struct Row {
     pub priority: u8,
     /// The message's JMSExpiration, where 0 means that it does not expire.
     pub expiration: Moment,
+    /// The message's JMSDeliveryTime in milliseconds, before which it is held back, where it has a delivery delay, and else 0.
+    pub due: u64,
 }
 
 /// Rows that are out: all through consumers that are meant, or the one at a place through a session's consumer.
@@ -33,6 +35,17 @@ pub struct Row {
 pub(crate) enum Outs {
     Of(Consumers),
     Through(SessionId, ConsumerId, u64),
+}
+
+/// The moment before which a message is held back, and 0 where it has no delivery delay.
+fn due_of(message: &Message) -> u64
+    ensures { result ≡ spec.due_of message.now }
+{
+    if message.is_delayed() {
+        message.delivery_time().get()
+    } else {
+        0
+    }
 }
 
 /// A count of deliveries, one more; from 2,147,483,647 on it stays.
@@ -66,6 +79,7 @@ impl Row {
             state,
             priority: message.priority(),
             expiration: message.expiration(),
+            due: due_of(message),
         }
     }
 
@@ -80,7 +94,7 @@ impl Row {
     }
 
     /// Whether the row is out through one of those consumers.
-    fn is_out(&self, which: &Consumers) -> bool
+    pub(crate) fn is_out(&self, which: &Consumers) -> bool
         ensures { result ≡ spec.is_out (are_meant which.now) self.now }
     {
         match self.state {
@@ -109,11 +123,31 @@ impl Row {
         expiration != 0 && expiration <= now.get()
     }
 
+    /// Whether the row is held back at that moment: its due moment is later.
+    pub(crate) fn is_held_back(&self, now: Moment) -> bool
+        ensures { result ≡ spec.is_held_back now self.now }
+    {
+        now.get() < self.due
+    }
+
+    /// Whether the row is held back at that moment, and its lane's rows are due in turn, so that each later one is too.
+    pub(crate) fn holds_back_rest(&self, now: Moment, in_turn: bool) -> bool
+        ensures turn { result ≡ true → in_turn ≡ true }
+        ensures row { result ≡ true → now < self.now.due }
+    {
+        in_turn && self.is_held_back(now)
+    }
+
+    /// Whether the row is held back at some moment.
+    pub(crate) fn is_delayed(&self) -> bool {
+        self.due != 0
+    }
+
     /// Whether the row may be delivered at that moment.
     pub(crate) fn is_ready(&self, now: Moment) -> bool
         ensures { result ≡ spec.is_ready now self.now }
     {
-        self.is_waiting() && !self.is_expired(now)
+        self.is_waiting() && !self.is_expired(now) && !self.is_held_back(now)
     }
 
     /// Whether the selector selects the row's message, where the table has it.
@@ -149,6 +183,13 @@ impl Row {
         expiration == 0 || (first != 0 && first <= expiration)
     }
 
+    /// Whether the row is not due before the other.
+    pub(crate) fn is_due_after(&self, other: &Row) -> bool
+        ensures { result ≡ true → other.now.due ≤ self.now.due }
+    {
+        other.due <= self.due
+    }
+
     /// Whether the row goes before the other.
     pub(crate) fn is_sooner(&self, other: &Row) -> bool
         ensures { result ≡ by_lane.is_sooner self.now other.now }
@@ -177,6 +218,18 @@ impl Row {
             expiration
         } else {
             least
+        }
+    }
+
+    /// A bound on when what has that bound is due, and the row, where it waits.
+    pub(crate) fn due_earlier(&self, due: u64) -> u64
+        ensures lower { result ≤ due }
+        ensures bound { IsDueBound result self.now }
+    {
+        if self.is_waiting() {
+            self.due.min(due)
+        } else {
+            due
         }
     }
 

@@ -3,10 +3,10 @@
 ghost use Rattle.std.specs.Prelude.{◌≡◌, ℕ, ◌<◌, ◌≤◌, [], ◌∷◌, ◌++◌, length, All, filter, map, drop, take, not, true, false, slice_index_or};
 ghost use Rattle.std.specs.VecDeque.{deque_len, deque_capacity};
 ghost use Rattle.jm_pending.specs.declared.row.Row.{Row};
-ghost use Rattle.jm_pending.specs.Rows.{IsRising, are_home, back, is_among, is_ready, is_waiting, keeps, stays};
-ghost use Rattle.jm_pending.specs.Chosen.{is_better};
+ghost use Rattle.jm_pending.specs.Rows.{IsRising, are_home, back, is_among, is_waiting, keeps, stays};
+ghost use Rattle.jm_pending.specs.Chosen.{is_better, is_ready_before};
 ghost use Rattle.jm_selector.specs.Selectors.{read_selects, selector_read};
-ghost use Rattle.jm_pending.specs.Lanes.{IsBound, IsSteady};
+ghost use Rattle.jm_pending.specs.Lanes.{AreDueInTurn, IsBound, IsDueBound, IsSteady};
 ghost use Rattle.jm_pending.specs.Holders.{Covers, Follows};
 
 use crate::row::{Outs, Row};
@@ -24,6 +24,28 @@ pub(crate) fn is_steady_with(rows: &VecDeque<Row>, row: &Row, steady: bool) -> b
         Some(last) => steady && row.expires_after(last),
         None => true,
     }
+}
+
+/// Whether the rows are still due in turn with one more.
+pub(crate) fn are_in_turn_with(rows: &VecDeque<Row>, row: &Row, in_turn: bool) -> bool
+    requires { in_turn ≡ true → AreDueInTurn rows.now.items }
+    ensures { result ≡ true → AreDueInTurn (rows.now.items ++ row.now ∷ []) }
+{
+    match rows.back() {
+        Some(last) => in_turn && row.is_due_after(last),
+        None => true,
+    }
+}
+
+/// A bound on when the rows are due that wait.
+pub(crate) fn due_of(rows: &VecDeque<Row>) -> u64
+    ensures { All (IsDueBound result) rows.now.items }
+{
+    let mut due = u64::MAX;
+    for i in 0..rows.len() {
+        due = rows[i].due_earlier(due);
+    }
+    due
 }
 
 /// A bound on when the rows expire that wait.
@@ -54,16 +76,34 @@ pub(crate) fn first_waiting(rows: &VecDeque<Row>, low: usize) -> usize
     rows.len()
 }
 
-/// Where the first row that is ready stands; none of the first `low` is.
-pub(crate) fn first_ready(rows: &VecDeque<Row>, low: usize, now: Moment) -> usize
+/// Where the first row stands that is ready and that goes before the best so far, where that is there; or how many rows
+/// there are. None of the first `low` rows waits. The rows, which are of one priority, stand by place, so that the walk
+/// ends at the first that does not go before the best; and where they are due in turn, at the first that is held back.
+pub(crate) fn first_ready(
+    rows: &VecDeque<Row>,
+    low: usize,
+    now: Moment,
+    in_turn: bool,
+    best: &Option<Row>,
+) -> usize
     requires in_range { low ≤ length rows.now.items }
-    requires before { All (λ r. is_ready now r ≡ false) (take low rows.now.items) }
+    requires before { All (λ r. is_waiting r ≡ false) (take low rows.now.items) }
+    requires same { (priority : ℕ) × All (λ (r : Row). r.priority ≡ priority) rows.now.items }
+    requires rising { IsRising rows.now.items }
+    requires turn { in_turn ≡ true → AreDueInTurn rows.now.items }
+    ensures from { low ≤ result }
     ensures within { result ≤ length rows.now.items }
-    ensures before { All (λ r. is_ready now r ≡ false) (take result rows.now.items) }
+    ensures before { All (λ r. is_ready_before best.now now r ≡ false) (take result rows.now.items) }
     ensures found { (d : Row) → result < length rows.now.items →
-        is_ready now (slice_index_or rows.now.items result d) ≡ true }
+        is_ready_before best.now now (slice_index_or rows.now.items result d) ≡ true }
 {
     for i in low..rows.len() {
+        if !rows[i].goes_before(best) {
+            return rows.len();
+        }
+        if rows[i].holds_back_rest(now, in_turn) {
+            return rows.len();
+        }
         if rows[i].is_ready(now) {
             return i;
         }
@@ -87,12 +127,14 @@ pub(crate) fn are_home(rows: &VecDeque<Row>, high: usize) -> bool
 
 /// Where the first row stands that is ready, whose message the selector selects, and that goes before the best so far,
 /// where that is there; or how many rows there are. None of the first `low` rows waits. The rows, which are of one
-/// priority, stand by place, so that the walk ends at the first that does not go before the best.
+/// priority, stand by place, so that the walk ends at the first that does not go before the best; and where they are due
+/// in turn, at the first that is held back.
 pub(crate) fn first_choice(
     rows: &VecDeque<Row>,
     low: usize,
     table: &Table,
     now: Moment,
+    in_turn: bool,
     selector: &Selector,
     best: &Option<Row>,
 ) -> usize
@@ -100,6 +142,7 @@ pub(crate) fn first_choice(
     requires before { All (λ r. is_waiting r ≡ false) (take low rows.now.items) }
     requires same { (priority : ℕ) × All (λ (r : Row). r.priority ≡ priority) rows.now.items }
     requires rising { IsRising rows.now.items }
+    requires turn { in_turn ≡ true → AreDueInTurn rows.now.items }
     ensures from { low ≤ result }
     ensures within { result ≤ length rows.now.items }
     ensures before { All (λ r. is_better best.now (read_selects (selector_read selector.now)) table.now now r ≡ false) (take result rows.now.items) }
@@ -110,6 +153,9 @@ pub(crate) fn first_choice(
         if !rows[i].goes_before(best) {
             return rows.len();
         }
+        if rows[i].holds_back_rest(now, in_turn) {
+            return rows.len();
+        }
         if rows[i].is_choice(table, now, selector) {
             return i;
         }
@@ -117,22 +163,40 @@ pub(crate) fn first_choice(
     rows.len()
 }
 
+/// Bounds on the rows of a lane that wait.
+#[derive(Clone, Copy)]
+pub(crate) struct Bounds {
+    /// None of them expires before that moment.
+    pub least: u64,
+    /// None of them is due before that moment.
+    pub due: u64,
+}
+
 /// Makes those of the first `high` rows wait again that are among `outs`; no other row is out. Returns
-/// a bound on when the rows expire that wait then.
-pub(crate) fn give_back_front(rows: &mut VecDeque<Row>, high: usize, outs: &Outs, least: u64) -> u64
+/// bounds on the rows that wait then.
+pub(crate) fn give_back_front(
+    rows: &mut VecDeque<Row>,
+    high: usize,
+    outs: &Outs,
+    bounds: Bounds,
+) -> Bounds
     requires in_range { high ≤ deque_len rows.old }
     requires behind { All (λ r. is_waiting r ≡ true) (drop high rows.old.items) }
-    requires bound { All (IsBound least) rows.old.items }
+    requires bound { All (IsBound bounds.least) rows.old.items }
+    requires due { All (IsDueBound bounds.due) rows.old.items }
     ensures rows { rows.new.items ≡ map (back (is_among outs.now)) rows.old.items }
-    ensures bound { All (IsBound result) rows.new.items }
+    ensures bound { All (IsBound result.least) rows.new.items }
+    ensures due { All (IsDueBound result.due) rows.new.items }
     ensures room { (deque_capacity rows.new ≡ deque_capacity rows.old) × (deque_len rows.new ≡ deque_len rows.old) }
 {
-    let mut earliest = least;
+    let mut least = bounds.least;
+    let mut due = bounds.due;
     for i in 0..high {
         rows[i] = rows[i].back(outs);
-        earliest = rows[i].earlier(earliest);
+        least = rows[i].earlier(least);
+        due = rows[i].due_earlier(due);
     }
-    earliest
+    Bounds { least, due }
 }
 
 /// Each row leaves at the front, and comes again behind the others where it stays. Else it releases

@@ -1,8 +1,9 @@
 -- A delivery from rows over their table is the machine's delivery from the rows as callers see them.
-use Rattle.std.proofs.Common.{◌≡◌, ◌≢◌, ℕ, ◌<◌, ◌==◌, List, [], ◌∷◌, ◌++◌, map, Bool, true, false, not, ◌&&◌, ◌||◌, nat_le, cond, Option, Some, None, refl, ap, sym, ◌∙◌, arith, option_map}
+use Rattle.std.proofs.Common.{◌≡◌, ◌≢◌, ℕ, ◌<◌, ◌==◌, List, [], ◌∷◌, ◌++◌, map, Bool, true, false, not, ◌&&◌, ◌||◌, nat_le, nat_lt, cond, Option, Some, None, refl, ap, sym, ◌∙◌, arith, option_map}
 use Rattle.std.specs.List.{filter, find, list_all, All}
 use Rattle.std.specs.Option.{IfSome, MatchOption}
 use Rattle.std.proofs.lemmas.Bool.{eq-eqb, ne_eqb}
+use Rattle.std.proofs.lemmas.Bool.Decides.{nat_tests}
 use Rattle.std.proofs.lemmas.List.{map-append}
 use Rattle.std.proofs.lemmas.List.Elements.{All-head, All-tail, All-filter, All-weaker}
 use Rattle.jm_dest.specs.declared.session.SessionId.{SessionId}
@@ -11,7 +12,7 @@ use Rattle.jm_machine.specs.declared.state.PlacedRow.{PlacedRow}
 use Rattle.jm_machine.specs.Rows as machine
 use Rattle.jm_machine.specs.Rows.{is_next as machine_is_next, has_lapsed, live, bare, live_placed, change_placed, deliver_placed}
 use Rattle.jm_pending.specs.declared.row.Row.{Row}
-use Rattle.jm_pending.specs.Rows.{Held, IsRising, is_waiting, is_expired, is_ready, is_next, is_elsewhere, next, stays, counted, sent, sent_at}
+use Rattle.jm_pending.specs.Rows.{Held, IsRising, is_waiting, is_expired, is_held_back, is_ready, is_next, is_elsewhere, next, stays, counted, sent, sent_at}
 use Rattle.jm_pending.specs.Holders.{Messages, last_message}
 use Rattle.jm_pending.specs.declared.held.Taken.{Taken}
 use Rattle.jm_pending.specs.Placed.{placed, all_placed, IsRowOf}
@@ -28,6 +29,16 @@ row_at t r = (placed t r).row
 expired_same : (t : Messages) (now : ℕ) (r : Row) → IsRowOf t r → is_expired now r ≡ machine.is_expired now (row_at t r).message
 expired_same t now r h = ap (λ e. not (e == 0) && nat_le e now) h.expiration
 
+-- and held back with it
+held_due : (now stamp due : ℕ) → nat_lt now (cond (nat_lt stamp due) due 0) ≡ (nat_lt stamp due && nat_lt now due)
+held_due now stamp due = elim (nat_lt stamp due) as (λ b. nat_lt now (cond b due 0) ≡ (b && nat_lt now due)) [
+  | true ↦ refl
+  | false ↦ grind (arith, nat_tests)
+]
+
+held_same : (t : Messages) (now : ℕ) (r : Row) → IsRowOf t r → is_held_back now r ≡ machine.is_held_back now (row_at t r).message
+held_same t now r h = ap (nat_lt now) h.due ∙ held_due now (row_at t r).message.timestamp (row_at t r).message.delivery_time
+
 stays_same : (t : Messages) (now : ℕ) (r : Row) → IsRowOf t r → stays now r ≡ not (has_lapsed now (row_at t r))
 stays_same t now r h = go (is_waiting r) (is_expired now r) (machine.is_expired now (row_at t r).message) (expired_same t now r h)
   where
@@ -36,7 +47,10 @@ stays_same t now r h = go (is_waiting r) (is_expired now r) (machine.is_expired 
     go false e f s = refl
 
 ready_same : (t : Messages) (now : ℕ) (r : Row) → IsRowOf t r → is_ready now r ≡ machine.is_ready now (row_at t r)
-ready_same t now r h = ap (λ e. is_waiting r && not e) (expired_same t now r h)
+ready_same t now r h =
+    let expired = expired_same t now r h in
+    let held = held_same t now r h in
+    λ i. is_waiting r && (not (expired i) && not (held i))
 
 -- the rows that stay are those that have not lapsed
 pub live_same : (t : Messages) (now : ℕ) (rs : List Row) → All (IsRowOf t) rs → all_placed t (filter (stays now) rs) ≡ live_placed now (all_placed t rs)
@@ -49,12 +63,12 @@ live_same t now (r ∷ rs) h = go (stays now r) (stays_same t now r (All-head (I
 
 -- rows that have lapsed may not be delivered, and do not matter
 lapsed_ready : (now : ℕ) (x : MachineRow) → not (has_lapsed now x) ≡ false → machine.is_ready now x ≡ false
-lapsed_ready now x = go (machine.is_waiting x) (machine.is_expired now x.message)
+lapsed_ready now x = go (machine.is_waiting x) (machine.is_expired now x.message) (machine.is_held_back now x.message)
   where
-    go : (w e : Bool) → not (w && e) ≡ false → (w && not e) ≡ false
-    go true true h = refl
-    go true false h = absurd (cc)
-    go false e h = refl
+    go : (w e held : Bool) → not (w && e) ≡ false → (w && (not e && not held)) ≡ false
+    go true true held h = refl
+    go true false held h = absurd (cc)
+    go false e held h = refl
 
 all_live : (now : ℕ) (below : MachineRow → Bool) (xs : List MachineRow) → list_all (λ x. not (machine.is_ready now x) || below x) (live now xs) ≡ list_all (λ x. not (machine.is_ready now x) || below x) xs
 all_live now below [] = refl
@@ -85,12 +99,12 @@ is_next_same t now rs r h p =
 
 -- what is next stays
 pub next_stays : (now : ℕ) (rs : List Row) (r : Row) → is_next now rs r ≡ true → stays now r ≡ true
-next_stays now rs r h = go (is_waiting r) (is_expired now r) (list_all (λ x. not (is_ready now x) || nat_le x.priority r.priority) rs) h
+next_stays now rs r h = go (is_waiting r) (is_expired now r) (is_held_back now r) (list_all (λ x. not (is_ready now x) || nat_le x.priority r.priority) rs) h
   where
-    go : (w e b : Bool) → ((w && not e) && b) ≡ true → (not w || not e) ≡ true
-    go true true b h = h
-    go true false b h = refl
-    go false e b h = refl
+    go : (w e held b : Bool) → ((w && (not e && not held)) && b) ≡ true → (not w || not e) ≡ true
+    go true true held b h = h
+    go true false held b h = refl
+    go false e held b h = refl
 
 find_kept : (q p : Row → Bool) → ((r : Row) → q r ≡ true → p r ≡ true) → (rs : List Row) → find q (filter p rs) ≡ find q rs
 find_kept q p imp [] = refl

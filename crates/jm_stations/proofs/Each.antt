@@ -94,8 +94,8 @@ back_like : (p : SessionId → ℕ → Bool) (r : Row) → IsLike r (back (is_ou
 back_like p r = go (goes_out p r.state)
   where
     go : (b : Bool) → IsLike r (cond b (record r { state = Waiting }) r)
-    go true = record { place = refl; priority = refl; expiration = refl }
-    go false = record { place = refl; priority = refl; expiration = refl }
+    go true = record { place = refl; priority = refl; expiration = refl; due = refl }
+    go false = record { place = refl; priority = refl; expiration = refl; due = refl }
 
 pub returned_backlog : (t : Messages) (place : ℕ) (p : SessionId → ℕ → Bool) (h : Held) → IsBacklog t place h → IsBacklog t place (given_back p h)
 returned_backlog t place p h b = mapped_backlog t place (back (is_out p)) (back_like p) h b

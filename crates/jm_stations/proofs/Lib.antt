@@ -12,3 +12,5 @@ mod Copied
 mod Removed
 mod Each
 mod Closing
+mod StoredRows
+mod Readers

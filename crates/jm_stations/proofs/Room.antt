@@ -36,7 +36,7 @@ abbrev pub with_spare : Messages → ℕ → Messages
 with_spare t n = record t { spare = n }
 
 spare_backlog : (t : Messages) (n place : ℕ) (h : Held) → IsBacklog t place h → IsBacklog (with_spare t n) place h
-spare_backlog t n place h b = record { below = b.below; own = record { each = λ k d l. let o = b.own.each k d l in record { priority = o.priority; expiration = o.expiration } } }
+spare_backlog t n place h b = record { below = b.below; own = record { each = λ k d l. let o = b.own.each k d l in record { priority = o.priority; expiration = o.expiration; due = o.due } } }
 
 room_backlog : (t : Messages) (n place : ℕ) (h : Held) → IsBacklog t place h → IsBacklog t place (with_room h n)
 room_backlog t n place h b = record { below = b.below; own = b.own }

@@ -9,7 +9,7 @@ use Rattle.jm_machine.specs.declared.state.Row.{Row as MachineRow}
 use Rattle.jm_machine.specs.declared.state.RowState.{RowState}
 use Rattle.jm_machine.specs.declared.state.PlacedRow.{PlacedRow}
 use Rattle.jm_pending.specs.declared.row.Row.{Row}
-use Rattle.jm_pending.specs.Rows.{Held, IsRising, is_at_limit, row_of, stays, next, sent}
+use Rattle.jm_pending.specs.Rows.{Held, IsRising, is_at_limit, due_of, row_of, stays, next, sent}
 use Rattle.jm_pending.specs.Chosen.{next_where}
 use Rattle.jm_pending.specs.Holders.{Messages, KeepsMessages, Covers, message_of}
 use Rattle.jm_pending.specs.Placed.{placed, all_placed, message_or_none, IsRowOf}
@@ -56,11 +56,13 @@ pub record IsLike (r r' : Row) : Type 0 where
   pub place : r'.place ≡ r.place
   pub priority : r'.priority ≡ r.priority
   pub expiration : r'.expiration ≡ r.expiration
+  pub due : r'.due ≡ r.due
 
 like_own : (t : Messages) (r r' : Row) → IsLike r r' → IsRowOf t r → IsRowOf t r'
 like_own t r r' l o = record {
   priority = l.priority ∙ o.priority ∙ ap (λ n. (message_or_none (message_of t n)).priority) (sym l.place);
   expiration = l.expiration ∙ o.expiration ∙ ap (λ n. (message_or_none (message_of t n)).expiration) (sym l.place);
+  due = l.due ∙ o.due ∙ ap (λ n. due_of (message_or_none (message_of t n))) (sym l.place);
 }
 
 -- and so are rows that change in their counts and states alone
@@ -83,12 +85,12 @@ pub sent_shown : (t : Messages) (place : ℕ) (s : SessionId) (c now : ℕ) (h :
 sent_shown t place s c now h covers b rising = ap (backlog_of h) (sent_same t s c now h b.own.each rising)
 
 sent_like : (o : Option Row) (s : SessionId) (c : ℕ) (r : Row) → IsLike r (sent_if o s c r)
-sent_like None s c r = record { place = refl; priority = refl; expiration = refl }
+sent_like None s c r = record { place = refl; priority = refl; expiration = refl; due = refl }
 sent_like (Some x) s c r = go (r.place == x.place)
   where
     go : (b : Bool) → IsLike r (cond b (sent s c r) r)
-    go true = record { place = refl; priority = refl; expiration = refl }
-    go false = record { place = refl; priority = refl; expiration = refl }
+    go true = record { place = refl; priority = refl; expiration = refl; due = refl }
+    go false = record { place = refl; priority = refl; expiration = refl; due = refl }
 
 pub sent_backlog : (t : Messages) (place : ℕ) (s : SessionId) (c now : ℕ) (h : Held) → IsBacklog t place h → IsBacklog t place (sent_off s c now h)
 sent_backlog t place s c now h b =
@@ -143,7 +145,7 @@ placed_below old new place (r ∷ rows) same b =
     rw (same r.place (omega (arith, lt)), placed_below old new place rows same (All-tail (λ (r : Row). r.place < place) r rows b)) refl
 
 row_kept : (old new : Messages) (r : Row) → message_of new r.place ≡ message_of old r.place → IsRowOf old r → IsRowOf new r
-row_kept old new r same h = record { priority = rw same h.priority; expiration = rw same h.expiration }
+row_kept old new r same h = record { priority = rw same h.priority; expiration = rw same h.expiration; due = rw same h.due }
 
 rows_below : (old new : Messages) (place : ℕ) (rows : List Row) → ((p : ℕ) → p ≢ place → message_of new p ≡ message_of old p) → AreBelow place rows → All (IsRowOf old) rows → All (IsRowOf new) rows
 rows_below old new place rows same b own = λ k d l. row_kept old new (get_or rows k d) (same (get_or rows k d).place (let lt : (get_or rows k d).place < place = b k d l in omega (arith, lt))) (own k d l)
@@ -180,7 +182,7 @@ pub with_row_backlog : (t : Messages) (place : ℕ) (x : MachineRow) (h : Held) 
 with_row_backlog t place x h is b = go (is_at_limit h.limit (length h.rows)) refl
   where
     own : IsRowOf t (row_of place x.message x.count x.state)
-    own = record { priority = rw is refl; expiration = rw is refl }
+    own = record { priority = rw is refl; expiration = rw is refl; due = rw is refl }
 
     go : (c : Bool) → is_at_limit h.limit (length h.rows) ≡ c → IsBacklog t (place + 1) (with_row (row_of place x.message x.count x.state) h)
     go true e = rw e (record { below = b.below; own = b.own })

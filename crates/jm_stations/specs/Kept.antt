@@ -35,7 +35,7 @@ without_room h = record h { room = 0 }
 abbrev pub AreBelow : ℕ → List Row → Type 0
 AreBelow place rows = All (λ (r : Row). r.place < place) rows
 
--- what each list keeps: its rows stand below the next place, and have the priority and the expiration of their messages
+-- what each list keeps: its rows stand below the next place, and have the priority, the expiration and the due moment of their messages
 pub record IsBacklog (t : Messages) (next_place : ℕ) (h : Held) : Type 0 where
   pub below : AreBelow next_place h.rows
   pub own : AreRowsOf t h.rows

@@ -1,3 +1,5 @@
 pub mod Backlogs
 pub mod Kept
+pub mod Standing
 pub mod Stations
+pub mod Loading

@@ -7,7 +7,13 @@ ghost use Rattle.jm_selector.specs.Selectors.{read_selects, selector_read};
 ghost use Rattle.jm_stations.specs.Backlogs as spec;
 ghost use Rattle.jm_stations.specs.Backlogs.{Backlog};
 ghost use Rattle.jm_stations.specs.Kept as kept;
+ghost use Rattle.jm_stations.specs.Loading.{AreLoaded};
+ghost use Rattle.std.specs.Prelude.{find, option_map};
+ghost use Rattle.jm_machine.specs.Wants.{next_chosen};
+ghost use Rattle.jm_stations.specs.Standing as standing;
 
+use crate::loading::{self, StoredRow};
+use crate::standing::{self, Standing};
 use crate::{copies, lists};
 use jm_dest::{ConsumerId, Moment, SessionId};
 use jm_header::Message;
@@ -263,6 +269,26 @@ impl Backlogs {
         self.bring(row, &[index]);
     }
 
+    /// A message that was stored takes the next place, with a waiting row in the list of each of those indexes, each with
+    /// its count; at its limit a list misses it instead. Takes no memory, since room was reserved.
+    pub fn load_shared(&mut self, message: Message, rows: &[StoredRow])
+        requires places { self.old.next_place < places_end }
+        requires messages { 0 < self.old.message_room }
+        requires within { All (λ (r : StoredRow). r.index < length self.old.list) rows.now }
+        requires once { IsDistinct nat_eq (map (λ (r : StoredRow). r.index) rows.now) }
+        requires rows { All (λ (r : StoredRow). (d : Backlog) → 0 < (slice_index_or self.old.list r.index d).room) rows.now }
+        ensures list { AreLoaded rows.now self.old.next_place message self.old.list self.new.list }
+        ensures next_place { self.new.next_place ≡ self.old.next_place + 1 }
+        ensures room { self.old.message_room ≤ self.new.message_room + 1 }
+    {
+        let place = self.next_place;
+        let row = Row::new(place, &message);
+        self.table.put(place, message);
+        loading::offer_stored(&mut self.lists, &mut self.table, &row, rows);
+        let _ = self.table.release(place);
+        self.next_place = place + 1;
+    }
+
     /// The next publication will be at that place. Takes no memory.
     pub fn skip_to(&mut self, place: u64)
         requires from { self.old.next_place ≤ place }
@@ -443,6 +469,70 @@ impl Backlogs {
         ensures room { self.old.message_room ≤ self.new.message_room }
     {
         lists::give_back_each(&mut self.lists, which);
+    }
+
+    /// The row of the list with that index that stands at that place, with its message, which is not copied.
+    pub fn row_of(&self, index: usize, place: u64) -> Option<Standing<'_>>
+        requires { index < length self.now.list }
+        ensures { (d : Backlog) → option_map standing.row_of result ≡ find (standing.is_at place) (slice_index_or self.now.list index d).rows }
+    {
+        standing::row_of(&self.table, &self.lists[index], place)
+    }
+
+    /// The first row of the list with that index by place, from that place on.
+    pub fn row_from(&self, index: usize, place: u64) -> Option<Standing<'_>>
+        requires within { index < length self.now.list }
+        requires place { place ≤ places_end }
+        ensures { (d : Backlog) → option_map standing.row_of result ≡ find (standing.is_from place) (slice_index_or self.now.list index d).rows }
+    {
+        standing::row_from(&self.table, &self.lists[index], place)
+    }
+
+    /// The first row of the list with that index by place, from that place on, that has lapsed at that moment.
+    pub fn lapsed_from(&self, index: usize, place: u64, now: Moment) -> Option<Standing<'_>>
+        requires { index < length self.now.list }
+        ensures { (d : Backlog) → option_map standing.row_of result ≡ find (standing.lapsed_from place now) (slice_index_or self.now.list index d).rows }
+    {
+        standing::lapsed_from(&self.table, &self.lists[index], place, now)
+    }
+
+    /// The first row of the list with that index by place, from that place on, that is out through one of those consumers.
+    pub fn out_from(&self, index: usize, place: u64, which: &Consumers) -> Option<Standing<'_>>
+        requires { index < length self.now.list }
+        ensures { (d : Backlog) → option_map standing.row_of result ≡ find (standing.out_from place (are_meant which.now)) (slice_index_or self.now.list index d).rows }
+    {
+        standing::out_from(&self.table, &self.lists[index], place, which)
+    }
+
+    /// The row of the list with that index that a delivery at that moment would take.
+    pub fn next(&self, index: usize, now: Moment) -> Option<Standing<'_>>
+        requires { index < length self.now.list }
+        ensures { (d : Backlog) → option_map standing.row_of result ≡ spec.next_placed now (slice_index_or self.now.list index d).rows }
+    {
+        standing::next(&self.table, &self.lists[index], now)
+    }
+
+    /// The row of the list with that index that a delivery at that moment would take of those whose messages the selector
+    /// selects.
+    pub fn next_where(&self, index: usize, now: Moment, selector: &Selector) -> Option<Standing<'_>>
+        requires { index < length self.now.list }
+        ensures { (d : Backlog) → option_map standing.row_of result ≡ next_chosen (read_selects (selector_read selector.now)) now (slice_index_or self.now.list index d).rows }
+    {
+        standing::next_where(&self.table, &self.lists[index], now, selector)
+    }
+
+    /// How many rows of all lists stand at that place, each of them a holder of the message there.
+    pub fn holders_of(&self, place: u64) -> u64
+        ensures { result ≡ spec.holders_at place self.now.list }
+    {
+        self.table.holders(place)
+    }
+
+    /// The first index from that one on of a list in which a row stands at that place. Looks for it in each list by halves.
+    pub fn holder_from(&self, index: usize, place: u64) -> Option<usize>
+        ensures { standing.IsFirstOf (standing.holds place) index self.now.list result }
+    {
+        standing::holder_from(self.lists.as_slice(), index, place)
     }
 
     /// How many publications the list with that index missed at its limit.

@@ -6,6 +6,10 @@
 mod backlogs;
 mod copies;
 mod lists;
+mod loading;
+mod standing;
 mod stations;
 
+pub use loading::StoredRow;
+pub use standing::Standing;
 pub use stations::Stations;

@@ -10,10 +10,16 @@ ghost use Rattle.jm_selector.specs.Selectors.{read_selects, selector_read};
 ghost use Rattle.jm_stations.specs.Backlogs as spec;
 ghost use Rattle.jm_stations.specs.Backlogs.{Backlog};
 ghost use Rattle.jm_stations.specs.Kept as kept;
+ghost use Rattle.jm_stations.specs.Loading.{AreLoaded};
 ghost use Rattle.jm_stations.specs.Stations.{index_in};
+ghost use Rattle.std.specs.Prelude.{find, option_map};
+ghost use Rattle.jm_machine.specs.Wants.{next_chosen};
+ghost use Rattle.jm_stations.specs.Standing as standing;
 
 use crate::backlogs::Backlogs;
 use crate::copies;
+use crate::loading::StoredRow;
+use crate::standing::Standing;
 use indexmap::IndexSet;
 use jm_dest::{ConsumerId, Key, Moment, SessionId};
 use jm_header::Message;
@@ -292,6 +298,23 @@ impl Stations {
         self.backlogs.load(index, row);
     }
 
+    /// A message that was stored takes the next place, with a waiting row under the key of each of those indexes, each with
+    /// the count of its deliveries, and stands once for all of them; at the limit of a key it is missed there instead. Takes
+    /// no memory, since room was reserved.
+    pub fn load_shared(&mut self, message: Message, rows: &[StoredRow])
+        requires places { self.old.next_place < places_end }
+        requires messages { 0 < self.old.message_room }
+        requires within { All (λ (r : StoredRow). r.index < length self.old.list) rows.now }
+        requires once { IsDistinct nat_eq (map (λ (r : StoredRow). r.index) rows.now) }
+        requires rows { All (λ (r : StoredRow). (d : Backlog) → 0 < (slice_index_or self.old.list r.index d).room) rows.now }
+        ensures keys { self.new.keys ≡ self.old.keys }
+        ensures list { AreLoaded rows.now self.old.next_place message self.old.list self.new.list }
+        ensures next_place { self.new.next_place ≡ self.old.next_place + 1 }
+        ensures room { self.old.message_room ≤ self.new.message_room + 1 }
+    {
+        self.backlogs.load_shared(message, rows);
+    }
+
     /// The next publication, or the next row that is loaded, will be at that place, which is not below the one that it
     /// would have had. Takes no memory.
     pub fn skip_to(&mut self, place: u64)
@@ -444,6 +467,83 @@ impl Stations {
         ensures room { self.old.message_room ≤ self.new.message_room }
     {
         self.backlogs.give_back(which);
+    }
+
+    /// The row under the key with that index that stands at that place, with its message, which is not copied.
+    pub fn row_of(&self, index: usize, place: u64) -> Option<Standing<'_>>
+        requires { index < length self.now.list }
+        ensures { (d : Backlog) → option_map standing.row_of result ≡ find (standing.is_at place) (slice_index_or self.now.list index d).rows }
+    {
+        self.backlogs.row_of(index, place)
+    }
+
+    /// The first row under the key with that index by place, from that place on, with its message, which is not copied.
+    /// Takes no memory.
+    pub fn row_from(&self, index: usize, place: u64) -> Option<Standing<'_>>
+        requires within { index < length self.now.list }
+        requires place { place ≤ places_end }
+        ensures { (d : Backlog) → option_map standing.row_of result ≡ find (standing.is_from place) (slice_index_or self.now.list index d).rows }
+    {
+        self.backlogs.row_from(index, place)
+    }
+
+    /// The first row under the key with that index by place, from that place on, that has lapsed at that moment: it waits, and
+    /// its message is expired. Costs what `Held::lapsed_from` says. Takes no memory.
+    pub fn lapsed_from(&self, index: usize, place: u64, now: Moment) -> Option<Standing<'_>>
+        requires { index < length self.now.list }
+        ensures { (d : Backlog) → option_map standing.row_of result ≡ find (standing.lapsed_from place now) (slice_index_or self.now.list index d).rows }
+    {
+        self.backlogs.lapsed_from(index, place, now)
+    }
+
+    /// The first row under the key with that index by place, from that place on, that is out through one of those consumers.
+    /// Costs what `Held::out_from` says: where no row is out through them, no row is looked at. Takes no memory.
+    pub fn out_from(&self, index: usize, place: u64, which: &Consumers) -> Option<Standing<'_>>
+        requires { index < length self.now.list }
+        ensures { (d : Backlog) → option_map standing.row_of result ≡ find (standing.out_from place (are_meant which.now)) (slice_index_or self.now.list index d).rows }
+    {
+        self.backlogs.out_from(index, place, which)
+    }
+
+    /// The row under the key with that index that a delivery at that moment would take.
+    pub fn next(&self, index: usize, now: Moment) -> Option<Standing<'_>>
+        requires { index < length self.now.list }
+        ensures { (d : Backlog) → option_map standing.row_of result ≡ spec.next_placed now (slice_index_or self.now.list index d).rows }
+    {
+        self.backlogs.next(index, now)
+    }
+
+    /// The row under the key with that index that a delivery at that moment would take of those whose messages the selector
+    /// selects.
+    pub fn next_where(&self, index: usize, now: Moment, selector: &Selector) -> Option<Standing<'_>>
+        requires { index < length self.now.list }
+        ensures { (d : Backlog) → option_map standing.row_of result ≡ next_chosen (read_selects (selector_read selector.now)) now (slice_index_or self.now.list index d).rows }
+    {
+        self.backlogs.next_where(index, now, selector)
+    }
+
+    /// How many rows of all keys stand at that place, each of them a holder of the message there.
+    pub fn holders_of(&self, place: u64) -> u64
+        ensures { result ≡ spec.holders_at place self.now.list }
+    {
+        self.backlogs.holders_of(place)
+    }
+
+    /// The first index from that one on of a key under which a row stands at that place. Looks for it under
+    /// each key in turn, by halves in each of thirty lanes, most of which are empty; where `holders_of` is 1 there is no
+    /// other. Takes no memory.
+    pub fn holder_from(&self, index: usize, place: u64) -> Option<usize>
+        ensures { standing.IsFirstOf (standing.holds place) index self.now.list result }
+    {
+        self.backlogs.holder_from(index, place)
+    }
+
+    /// The key with that index.
+    pub fn key_at(&self, index: usize) -> &Key
+        requires { index < length self.now.list }
+        ensures { (d : Key) → result.now ≡ slice_index_or self.now.keys index d }
+    {
+        &self.keys.as_slice()[index]
     }
 
     /// How many publications were missed under the key with that index, since it was at its limit; at

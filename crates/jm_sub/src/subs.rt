@@ -368,8 +368,9 @@ impl Subs {
         Ok(())
     }
 
-    /// The creation of that subscription under the key, with the room that it needs.
-    fn decide(&mut self, key: Key, created: Definition) -> Result<Decision, AllocError>
+    /// Decides the creation of an empty subscription under the key, which asks for that, and takes the room that the change
+    /// needs; the subscriptions stay as they are. `AllocError` where a request for memory was refused.
+    pub fn decide(&mut self, key: Key, created: Definition) -> Result<Decision, AllocError>
         ensures decided { IfOk result (λ d. d ≡ record { key = key; definition = created }) }
         ensures room { OnOk result (0 < self.new.spare) }
         ensures unchanged { self.new.list ≡ self.old.list }

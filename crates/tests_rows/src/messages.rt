@@ -15,24 +15,30 @@ pub(crate) fn session(number: u32) -> Result<SessionId, Refusal> {
     SessionId::new(ConnectionId::new(1)?, number)
 }
 
-/// A draft of those words; a want of memory is seen by what is missing.
-fn draft(alloc: Global, words: Words) -> Draft {
+/// A draft of those words, with that delivery delay in milliseconds; a want of memory is seen by what is missing.
+fn draft(alloc: Global, words: Words, delay: i64) -> Draft {
     let mut draft = Draft::new(alloc);
     let _ = draft.set_text(words.0);
     let _ = draft.set_type(words.0);
     let _ = draft.set_priority(words.1);
     let _ = draft.set_time_to_live(words.2);
+    let _ = draft.set_delivery_delay(delay);
     draft
 }
 
 /// A message of those words to the topic t, sent at the moment 1000.
 pub(crate) fn sent(alloc: Global, words: Words) -> Result<Message, Refusal> {
+    delayed(alloc, words, 0)
+}
+
+/// The same with that delivery delay in milliseconds.
+pub(crate) fn delayed(alloc: Global, words: Words, delay: i64) -> Result<Message, Refusal> {
     let opening = Number::new(1)?;
     let session = session(1)?;
     let now = Moment::new(1000)?;
     let topic = Destination::topic(alloc, "t")?;
     let sender = Sender { opening, session };
-    stamp(draft(alloc, words), topic, sender, 1, now)
+    stamp(draft(alloc, words, delay), topic, sender, 1, now)
 }
 
 /// The selector of that text.

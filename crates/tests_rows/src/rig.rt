@@ -2,7 +2,7 @@
 
 ghost use Rattle.std.specs.Prelude.{◌≡◌};
 
-use crate::messages::{Words, is_there, sent};
+use crate::messages::{Words, delayed, is_there};
 use jm_base::Refusal;
 use jm_dest::{ConsumerId, Moment, SessionId};
 use jm_machine::{Consumers, RowState};
@@ -70,14 +70,20 @@ impl Rig {
         self.held.missed()
     }
 
-    /// Adds a row of those words at a place that is above all others.
-    pub(crate) fn add(&mut self, alloc: Global, place: u64, words: Words) -> Result<u64, Refusal> {
+    /// Adds a row of those words, with that delivery delay, at a place that is above all others.
+    pub(crate) fn add(
+        &mut self,
+        alloc: Global,
+        place: u64,
+        words: Words,
+        delay: i64,
+    ) -> Result<u64, Refusal> {
         if place > 100 || self.table.holders(place) != 0 || self.held.row_from(place).is_some() {
             return Err(Refusal::IllegalState);
         }
         self.table.reserve(1)?;
         self.held.reserve(1)?;
-        let message = sent(alloc, words)?;
+        let message = delayed(alloc, words, delay)?;
         let row = Row::new(place, &message);
         self.table.put(place, message);
         self.held.add(&mut self.table, row);

@@ -1,4 +1,5 @@
-//! Rows that go out to sessions, are chosen by selectors, settled, given back and cleared, and that are missed or expire.
+//! Rows that go out to sessions, are chosen by selectors, settled, given back and cleared, and that are missed, expire or
+//! are held back.
 
 use crate::messages::{Words, selector, session};
 use crate::rig::{Rig, Seen};
@@ -11,6 +12,8 @@ use std::alloc::Global;
 enum Op {
     /// A message comes to the place.
     Add(u64, Words),
+    /// A message with that delivery delay comes to the place.
+    AddDelayed(u64, Words, i64),
     /// The next row goes out at that moment, to the session of the first number through its consumer of the second.
     Take(i64, u32, u32),
     /// The next row is delivered at that moment and settled.
@@ -96,7 +99,8 @@ fn clear(rig: &mut Rig) -> Result<u64, Refusal> {
 /// The place of the row that the call delivers or finds, or 0.
 fn does(alloc: Global, rig: &mut Rig, op: &Op) -> Result<u64, Refusal> {
     match op {
-        Op::Add(place, words) => rig.add(alloc, *place, *words),
+        Op::Add(place, words) => rig.add(alloc, *place, *words, 0),
+        Op::AddDelayed(place, words, delay) => rig.add(alloc, *place, *words, *delay),
         Op::Take(now, to, through) => take(rig, *now, *to, *through),
         Op::TakeSettled(now) => take_settled(rig, *now),
         Op::NextWhere(text, now) => next_where(alloc, rig, text, *now),
@@ -335,14 +339,114 @@ const CHOSEN_LATE: [Step; 6] = [
     (Op::TakeSettledWhere("JMSType = 'b'", 1500), 0, &[(2, 1, 1)]),
 ];
 
+/// A row that is held back hides none of lower priority, and goes from its due moment on.
+const HELD_BACK: [Step; 5] = [
+    (Op::Add(1, ("a", 4, 0)), 0, &[(1, 0, 0)]),
+    (
+        Op::AddDelayed(2, ("b", 9, 0), 500),
+        0,
+        &[(1, 0, 0), (2, 0, 0)],
+    ),
+    (Op::Take(1000, 1, 1), 1, &[(1, 1, 1), (2, 0, 0)]),
+    (Op::Take(1499, 1, 1), 0, &[(1, 1, 1), (2, 0, 0)]),
+    (Op::Take(1500, 1, 1), 2, &[(1, 1, 1), (2, 1, 1)]),
+];
+
+/// A row that is held back is not dropped before it expires, and is then not delivered.
+const EXPIRED_AS_DUE: [Step; 3] = [
+    (Op::AddDelayed(1, ("a", 4, 500), 500), 0, &[(1, 0, 0)]),
+    (Op::TakeSettled(1499), 0, &[(1, 0, 0)]),
+    (Op::TakeSettled(1500), 0, &[]),
+];
+
+/// A row that was due is held back again where it waits again and the moment goes back.
+const BACK_BEFORE_DUE: [Step; 5] = [
+    (Op::AddDelayed(1, ("a", 4, 0), 500), 0, &[(1, 0, 0)]),
+    (Op::Take(1500, 1, 1), 1, &[(1, 1, 1)]),
+    (Op::GiveBack(1), 0, &[(1, 1, 0)]),
+    (Op::Take(1400, 1, 1), 0, &[(1, 1, 0)]),
+    (Op::Take(1500, 1, 1), 1, &[(1, 2, 1)]),
+];
+
+/// Rows of many delays go each from its due moment on, whatever waits before it.
+const MIXED_DUES: [Step; 14] = [
+    (Op::AddDelayed(1, ("a", 4, 0), 900), 0, &[(1, 0, 0)]),
+    (
+        Op::AddDelayed(2, ("b", 4, 0), 300),
+        0,
+        &[(1, 0, 0), (2, 0, 0)],
+    ),
+    (
+        Op::AddDelayed(3, ("c", 4, 0), 600),
+        0,
+        &[(1, 0, 0), (2, 0, 0), (3, 0, 0)],
+    ),
+    (
+        Op::Add(4, ("d", 4, 0)),
+        0,
+        &[(1, 0, 0), (2, 0, 0), (3, 0, 0), (4, 0, 0)],
+    ),
+    (
+        Op::Take(1000, 1, 1),
+        4,
+        &[(1, 0, 0), (2, 0, 0), (3, 0, 0), (4, 1, 1)],
+    ),
+    (
+        Op::Take(1299, 1, 1),
+        0,
+        &[(1, 0, 0), (2, 0, 0), (3, 0, 0), (4, 1, 1)],
+    ),
+    (
+        Op::Take(1300, 1, 1),
+        2,
+        &[(1, 0, 0), (2, 1, 1), (3, 0, 0), (4, 1, 1)],
+    ),
+    (
+        Op::Take(1599, 1, 1),
+        0,
+        &[(1, 0, 0), (2, 1, 1), (3, 0, 0), (4, 1, 1)],
+    ),
+    (
+        Op::Take(1899, 1, 1),
+        3,
+        &[(1, 0, 0), (2, 1, 1), (3, 1, 1), (4, 1, 1)],
+    ),
+    (
+        Op::GiveBack(1),
+        0,
+        &[(1, 0, 0), (2, 1, 0), (3, 1, 0), (4, 1, 0)],
+    ),
+    (Op::TakeSettled(1300), 2, &[(1, 0, 0), (3, 1, 0), (4, 1, 0)]),
+    (Op::TakeSettled(1000), 4, &[(1, 0, 0), (3, 1, 0)]),
+    (
+        Op::TakeSettledWhere("JMSType = 'a'", 1899),
+        0,
+        &[(1, 0, 0), (3, 1, 0)],
+    ),
+    (Op::TakeSettledWhere("JMSType = 'a'", 1900), 1, &[(3, 1, 0)]),
+];
+
+/// A row that is held back counts at the limit.
+const HELD_BACK_AT_LIMIT: [Step; 4] = [
+    (Op::AddDelayed(1, ("a", 4, 0), 500), 0, &[(1, 0, 0)]),
+    (Op::Add(2, ("b", 4, 0)), 0, &[(1, 0, 0)]),
+    (Op::Take(1000, 1, 1), 0, &[(1, 0, 0)]),
+    (Op::Take(1500, 1, 1), 1, &[(1, 1, 1)]),
+];
+
 /// The limit, what is done, and how many are missed.
-static RUNS: [(&str, Option<u32>, &[Step], u64); 6] = [
+static RUNS: [(&str, Option<u32>, &[Step], u64); 11] = [
     ("out", None, &OUT, 0),
     ("limited", Some(2), &LIMITED, 2),
     ("expiring", None, &EXPIRING, 0),
     ("chosen", None, &CHOSEN, 0),
     ("behind", None, &BEHIND, 0),
     ("chosen late", None, &CHOSEN_LATE, 0),
+    ("held back", None, &HELD_BACK, 0),
+    ("expired as due", None, &EXPIRED_AS_DUE, 0),
+    ("back before due", None, &BACK_BEFORE_DUE, 0),
+    ("mixed dues", None, &MIXED_DUES, 0),
+    ("held back at the limit", Some(1), &HELD_BACK_AT_LIMIT, 1),
 ];
 
 #[test]

@@ -8,7 +8,7 @@ drop_expired-requires c = covers_lane c.loop-lane.table c.loop-lane.lanes c.loop
 
 pub loop-lane-preserved : goal.loop-lane-preserved
 loop-lane-preserved c =
-    record {
+    rw c.look_ahead.ensures (record {
       edited = edited_one (stays c.args.now) c.args.lanes.now c.loop-lane.lanes c.loop-lane.lane-index c.lane-item.result c.drop_expired.new.self c.loop-lane.invariant.edited (omega (arith, c.loop-lane-test.true, c.loop-lane.invariant.edited.len)) c.drop_expired.ensures.priority c.drop_expired.ensures.rows c.drop_expired.ensures.room;
       let_go = let_more (stays c.args.now) c.args.table.now c.loop-lane.table c.drop_expired.new.table c.args.lanes.now c.loop-lane.lanes c.loop-lane.lane-index c.lane-item.result c.drop_expired.new.self c.loop-lane.invariant.let_go (omega (arith, c.loop-lane-test.true, c.loop-lane.invariant.edited.len)) c.drop_expired.ensures.rows c.drop_expired.ensures.table;
-    }
+    })

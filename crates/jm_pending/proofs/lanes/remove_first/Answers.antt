@@ -1,6 +1,8 @@
-use Rattle.jm_pending.proofs.Found.{removed_first}
+use Rattle.std.proofs.Common.{refl, Some}
+use Rattle.jm_pending.proofs.Spots.{spot_left}
 use Rattle.jm_pending.proofs.lanes.remove_first.Goals as goal
 
-pub returns-then-at-lanes : goal.returns-then-at-lanes
-returns-then-at-lanes c =
-    removed_first c.args.lanes.now c.first_lane-at.result c.index-lanes-at.result c.remove_first.new.self c.remove_first.result c.requires c.first_lane-at.ensures.first c.if-at-lanes.true c.remove_first.ensures.priority c.remove_first.ensures.result c.remove_first.ensures.rows c.remove_first.ensures.room
+pub returns : goal.returns
+returns c =
+    let spot = c.in_ok-spot.spot in
+    (Some spot.row, c.in_ok-spot.ensures.soonest, (refl, spot_left c.args.lanes.now spot c.index-lanes-spot.result c.remove_at.new.self c.requires c.in_ok-spot.ensures.spot c.remove_at.ensures.priority c.remove_at.ensures.rows c.remove_at.ensures.room))

@@ -1,7 +1,8 @@
-use Rattle.std.proofs.Common.{arith}
-use Rattle.jm_pending.proofs.Found.{taken_first}
+use Rattle.std.proofs.Common.{arith, ap, Some}
+use Rattle.jm_pending.proofs.Spots.{spot_taken}
 use Rattle.jm_pending.proofs.lanes.take_first.Goals as goal
 
-pub returns-then-at-lanes : goal.returns-then-at-lanes
-returns-then-at-lanes c =
-    taken_first c.args.session c.args.consumer c.args.lanes.now c.first_lane-at.result c.index-lanes-at.result c.take_first.new.self c.take_first.result c.requires c.first_lane-at.ensures.first c.if-at-lanes.true c.take_first.ensures.priority c.take_first.ensures.result c.take_first.ensures.rows (omega (arith, c.take_first.ensures.room))
+pub returns : goal.returns
+returns c =
+    let spot = c.in_ok-spot.spot in
+    (Some spot.row, c.in_ok-spot.ensures.soonest, (ap Some c.take_at.ensures.result, spot_taken c.args.session c.args.consumer c.args.lanes.now spot c.index-lanes-spot.result c.take_at.new.self c.requires c.in_ok-spot.ensures.spot c.take_at.ensures.priority c.take_at.ensures.rows (omega (arith, c.take_at.ensures.room))))

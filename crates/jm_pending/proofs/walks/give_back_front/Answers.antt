@@ -3,7 +3,8 @@ use Rattle.std.proofs.lemmas.List.{map-append, take-append-drop, get_or-set_same
 use Rattle.std.proofs.lemmas.List.Edits.{map_over_more}
 use Rattle.std.proofs.lemmas.List.Elements.{All-set}
 use Rattle.jm_pending.specs.Rows.{back, is_among}
-use Rattle.jm_pending.specs.Lanes.{IsBound}
+use Rattle.jm_pending.specs.Lanes.{IsBound, IsDueBound}
+use Rattle.jm_pending.proofs.Dues.{due_lower}
 use Rattle.jm_pending.proofs.Steps.{lower_bound, map_back_waiting}
 use Rattle.jm_pending.proofs.walks.give_back_front.Goals as goal
 
@@ -11,9 +12,11 @@ pub loop-i-preserved : goal.loop-i-preserved
 loop-i-preserved c =
     let at = c.loop-i.i in
     let row : (get_or (set c.loop-i.rows.items at c.back.result) at c.index-in-loop-i.result.now) ≡ c.back.result = get_or-set_same c.loop-i.rows.items at c.back.result c.index-in-loop-i.result.now (omega arith) in
+    let row2 : (get_or (set c.loop-i.rows.items at c.back.result) at c.index-in-loop-i-2.result.now) ≡ c.back.result = get_or-set_same c.loop-i.rows.items at c.back.result c.index-in-loop-i-2.result.now (omega arith) in
     record {
       items = rw c.back.ensures (map_over_more (back (is_among c.args.outs.now)) c.args.rows.now.items c.loop-i.rows.items at c.index.result.now (omega arith) c.loop-i.invariant.items c.index.ensures);
-      bound = All-set (IsBound c.earlier-earliest.result) c.loop-i.rows.items at c.back.result (subst (IsBound c.earlier-earliest.result) (c.index-in-loop-i.ensures ∙ row) c.earlier-earliest.ensures.bound) (lower_bound c.loop-i.rows.items c.earlier-earliest.result c.loop-i.earliest c.earlier-earliest.ensures.lower c.loop-i.invariant.bound);
+      bound = All-set (IsBound c.earlier-least.result) c.loop-i.rows.items at c.back.result (subst (IsBound c.earlier-least.result) (c.index-in-loop-i.ensures ∙ row) c.earlier-least.ensures.bound) (lower_bound c.loop-i.rows.items c.earlier-least.result c.loop-i.least c.earlier-least.ensures.lower c.loop-i.invariant.bound);
+      due = All-set (IsDueBound c.due_earlier-due.result) c.loop-i.rows.items at c.back.result (subst (IsDueBound c.due_earlier-due.result) (c.index-in-loop-i-2.ensures ∙ row2) c.due_earlier-due.ensures.bound) (due_lower c.loop-i.rows.items c.due_earlier-due.result c.loop-i.due c.due_earlier-due.ensures.lower c.loop-i.invariant.due);
       room = c.loop-i.invariant.room;
       len = c.loop-i.invariant.len;
     }

@@ -2,7 +2,7 @@ use Rattle.std.proofs.Common.{◌≡◌}
 use Rattle.jm_pending.specs.Rows.{next}
 use Rattle.jm_pending.specs.Lanes.{rows_of}
 use Rattle.jm_pending.proofs.Holding.{covers_all, follows_taken}
-use Rattle.jm_pending.proofs.Taking.{dropped_apart, known_out, next_waiting, sent_held}
+use Rattle.jm_pending.proofs.Taking.{dropped_apart, known_out, next_ready, sent_held}
 use Rattle.jm_pending.proofs.held.Held.take.Goals as goal
 
 pub take_first-requires : goal.take_first-requires
@@ -19,7 +19,7 @@ drop_expired-requires c = covers_all c.args.table.now c.self.inside.lanes (rw (�
 
 pub returns-clause-rows : goal.returns-clause-rows
 returns-clause-rows c =
-    let first : next c.args.now (rows_of c.self.inside.lanes) ≡ c.take_first.ensures.0 = next_waiting c.args.now c.self.inside.lanes c.drop_expired.new.lanes c.self.inside.room c.take_first.ensures.0 c.self.invariant.0 c.drop_expired.ensures.rows c.take_first.ensures.1 in
+    let first : next c.args.now (rows_of c.self.inside.lanes) ≡ c.take_first.ensures.0 = next_ready c.args.now c.self.inside.lanes c.drop_expired.new.lanes c.self.inside.room c.take_first.ensures.0 c.self.invariant.0 c.drop_expired.ensures.rows c.take_first.ensures.1 in
     rw (← c.self.view_is, first) (sent_held c.args.now c.args.session c.args.consumer c.self.inside.lanes c.drop_expired.new.lanes c.take_first.new.lanes c.self.inside.room c.take_first.result c.take_first.ensures.0 (λ rows. record { rows = rows; limit = c.self.inside.limit; missed = c.self.inside.missed; room = c.self.inside.room }) c.self.invariant.0 c.drop_expired.ensures.rows c.take_first.ensures.2).1
 
 pub returns-clause-table : goal.returns-clause-table

@@ -2,6 +2,7 @@ use Rattle.std.proofs.Common.{◌≡◌, ◌<◌, arith, length, sym}
 use Rattle.std.specs.List.{filter}
 use Rattle.std.proofs.Common.{true}
 use Rattle.jm_pending.specs.Rows.{stays, is_waiting}
+use Rattle.jm_pending.proofs.Dues.{dues_filter}
 use Rattle.jm_pending.proofs.Sieve.{filter_all}
 use Rattle.jm_pending.proofs.Steps.{lane_filter, lane_low, bound_stays}
 use Rattle.jm_pending.proofs.Turns.{steady-filter, lane_kept, top_is, away, behind_least, behind_filter}
@@ -19,6 +20,7 @@ invariant_of-self c =
     rw is (record {
       lane = lane_low (filter (stays c.args.now) c.self.inside.rows.items) c.self.inside.priority c.self.inside.low c.min-self-inside.result c.self.inside.least c.drop_front-self-inside.result (lane_kept (stays c.args.now) c.self.inside.rows.items c.self.inside.priority c.self.inside.low c.self.inside.high c.self.inside.least c.min-self-inside.result c.self.invariant.lane (away c.args.now _ c.self.invariant.lane.before) (omega (arith, len, c.min-self-inside.ensures)) (top_is c.self.inside.high c.len.result _ c.min-self-inside.result c.min-self-inside.ensures len)) (rw is at c.drop_front-self-inside.ensures.within) (rw is at c.drop_front-self-inside.ensures.low);
       turn = λ e. steady-filter (stays c.args.now) c.self.inside.rows.items (c.self.invariant.turn e);
+      dues = dues_filter (stays c.args.now) c.self.inside.rows.items c.self.inside.due c.self.inside.in_turn c.self.invariant.dues;
     })
 
 pub invariant_of-self-2 : goal.invariant_of-self-2
@@ -28,4 +30,5 @@ invariant_of-self-2 c =
     rw is (record {
       lane = lane_filter (stays c.args.now) c.self.inside.rows.items c.self.inside.priority c.self.inside.low c.self.inside.high c.self.inside.least c.min-self-inside-2.result c.bound_of-self-inside.result c.self.invariant.lane (omega (arith, len, c.min-self-inside-2.ensures)) (behind_least (λ r. is_waiting r ≡ true) c.self.inside.high c.min-self-inside-2.result (filter (stays c.args.now) c.self.inside.rows.items) (top_is c.self.inside.high c.len-2.result _ c.min-self-inside-2.result c.min-self-inside-2.ensures len) (behind_filter (λ r. is_waiting r ≡ true) (stays c.args.now) c.self.inside.high c.self.inside.rows.items c.self.invariant.lane.behind)) (rw (← is) c.bound_of-self-inside.ensures);
       turn = λ e. steady-filter (stays c.args.now) c.self.inside.rows.items (c.self.invariant.turn e);
+      dues = dues_filter (stays c.args.now) c.self.inside.rows.items c.self.inside.due c.self.inside.in_turn c.self.invariant.dues;
     })

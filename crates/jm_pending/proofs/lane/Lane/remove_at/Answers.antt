@@ -2,6 +2,7 @@ use Rattle.std.proofs.Common.{◌≡◌, ◌∙◌, arith, length}
 use Rattle.std.specs.List.{filter}
 use Rattle.jm_pending.specs.Rows.{is_elsewhere}
 use Rattle.jm_pending.specs.Chosen.{StandsIn}
+use Rattle.jm_pending.proofs.Dues.{dues_filter}
 use Rattle.jm_pending.proofs.Spots.{spot_gone, spot_removed}
 use Rattle.jm_pending.proofs.Turns.{steady-filter, top_is}
 use Rattle.jm_pending.proofs.lane.Lane.remove_at.Goals as goal
@@ -16,6 +17,7 @@ invariant_of-self c =
     rw gone (record {
       lane = spot_gone rows c.self.inside.priority c.self.inside.low c.self.inside.high c.self.inside.least c.min-self-inside.result spot c.self.invariant.lane at (omega (arith, len, c.min-self-inside.ensures)) (top_is c.self.inside.high c.len.result _ c.min-self-inside.result c.min-self-inside.ensures len);
       turn = λ e. steady-filter (is_elsewhere spot.row.place) rows (c.self.invariant.turn e);
+      dues = dues_filter (is_elsewhere spot.row.place) rows c.self.inside.due c.self.inside.in_turn c.self.invariant.dues;
     })
 
 pub returns-clause-rows : goal.returns-clause-rows

@@ -1,6 +1,7 @@
 use Rattle.std.proofs.Common.{◌∙◌, ap, arith, set}
 use Rattle.jm_pending.specs.Rows.{sent_at}
 use Rattle.jm_pending.specs.Chosen.{StandsIn}
+use Rattle.jm_pending.proofs.Dues.{dues_sent}
 use Rattle.jm_pending.proofs.Spots.{spot_out, spot_sent}
 use Rattle.jm_pending.proofs.Turns.{steady-map, sent_at_expiration}
 use Rattle.jm_pending.proofs.lane.Lane.take_at.Goals as goal
@@ -15,6 +16,7 @@ invariant_of-self c =
     rw (c.sent-row.ensures, c.low_after-self-inside.ensures) (record {
       lane = spot_out s to rows c.self.inside.priority c.self.inside.low c.self.inside.high c.self.inside.least c.max-self-inside.result spot c.self.invariant.lane at (omega (arith, c.max-self-inside.ensures)) (omega (arith, c.max-self-inside.ensures)) (omega (arith, c.max-self-inside.ensures, at.within, c.self.invariant.lane.high_in));
       turn = λ e. rw (spot_sent s to rows spot c.self.invariant.lane.rising at) (steady-map (sent_at spot.row.place s to) (sent_at_expiration spot.row.place s to) rows (c.self.invariant.turn e));
+      dues = rw (spot_sent s to rows spot c.self.invariant.lane.rising at) (dues_sent spot.row.place s to rows c.self.inside.due c.self.inside.in_turn c.self.invariant.dues);
     })
 
 pub returns-clause-rows : goal.returns-clause-rows

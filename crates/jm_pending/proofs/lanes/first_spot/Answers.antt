@@ -1,0 +1,18 @@
+use Rattle.std.proofs.Common.{[], take, sym, subst}
+use Rattle.jm_pending.specs.Rows.{is_ready}
+use Rattle.jm_pending.specs.Lanes.{Lane, all_rows, IsSoonestOf}
+use Rattle.jm_pending.specs.Chosen.{row_of}
+use Rattle.jm_pending.proofs.Found.{all_rows_more}
+use Rattle.jm_pending.proofs.lanes.first_spot.Goals as goal
+
+no_lane : Lane
+no_lane = record { priority = 0; rows = []; spare = 0 }
+
+pub loop-i-preserved : goal.loop-i-preserved
+loop-i-preserved c =
+    let lanes = c.args.lanes.now in
+    let i = c.loop-i.i in
+    record {
+      spot = c.sooner-best.ensures.spot;
+      soonest = subst (λ rows. IsSoonestOf (is_ready c.args.now) rows (row_of c.sooner-best.result)) (sym (all_rows_more lanes i no_lane c.loop-i-test.true)) (c.sooner-best.ensures.soonest (all_rows (take i lanes)) no_lane c.loop-i.invariant.soonest);
+    }
