@@ -1,0 +1,4 @@
+pub mod Standing
+pub mod Planned
+pub mod Subscriptions
+pub mod Sending

@@ -1,0 +1,159 @@
+//! What a planned step changes of what is stored.
+
+ghost use Rattle.std.specs.Prelude.{◌≡◌, ◌≤◌, ◌+◌, ℕ, List, true, length, IfOk, IsOk};
+ghost use Rattle.jm_dest.specs.declared.key.Key.{Key as KeyShown};
+ghost use Rattle.jm_dest.specs.declared.session.SessionId.{SessionId as SessionShown};
+ghost use Rattle.jm_machine.specs.declared.call.Request.TheVariants.{Acknowledge, Receive, Unsubscribe};
+ghost use Rattle.jm_machine.specs.declared.state.Definition.{Definition as DefinitionShown};
+ghost use Rattle.jm_machine.specs.Machine as machine;
+ghost use Rattle.jm_machine.specs.Machine.{definition_of, places_end, reply, station_of};
+ghost use Rattle.jm_keep.specs.Calls.{AreChanges, AreCommitted, AreRequested, AreSubscribed};
+ghost use Rattle.jm_keep.specs.Persisted.{LeadsTo, is_lasting as lasts};
+ghost use Rattle.jm_keep.specs.Steps.{StandsInOrder};
+ghost use Rattle.jm_changes.specs.Planned.{IsDecided, IsPlannedCall, IsPlannedRequest};
+
+use crate::planned::Planned;
+use crate::sending::published;
+use crate::settling::{delivered, lost_out};
+use crate::subscriptions::{deleted, put};
+use jm_base::Mode;
+use jm_dest::{ConsumerId, Moment, SessionId};
+use jm_header::Message;
+use jm_keep::RowChange;
+use jm_machine::{Call, Consumers, Request, Step, Who};
+use std::alloc::{AllocError, Global};
+
+/// What a receive of the session's consumer changes.
+fn received<P: Planned>(
+    alloc: Global,
+    planned: &P,
+    session: &SessionId,
+    id: ConsumerId,
+    now: Moment,
+) -> Result<Vec<RowChange>, AllocError>
+    requires { StandsInOrder (P.state planned.now) }
+    ensures { IfOk result (λ changes. AreRequested (P.state planned.now) session.now (Receive id now) changes.items) }
+{
+    if !planned.is_started(session.connection) {
+        return Ok(Vec::new(alloc));
+    }
+    match planned.consumer_of(session, id) {
+        None => Ok(Vec::new(alloc)),
+        Some(consumer) => delivered(alloc, planned, consumer, planned.mode_of(session), now),
+    }
+}
+
+/// What an acknowledgement of the session changes: only its mode says whether it settles anything.
+fn acknowledged<P: Planned>(
+    alloc: Global,
+    planned: &P,
+    session: &SessionId,
+) -> Result<Vec<RowChange>, AllocError>
+    requires { StandsInOrder (P.state planned.now) }
+    ensures { IfOk result (λ changes. AreRequested (P.state planned.now) session.now Acknowledge changes.items) }
+{
+    match planned.mode_of(session) {
+        Some(Mode::Client) => {
+            lost_out(alloc, planned, &Consumers::OfSession(*session))?.into_changes()
+        }
+        Some(Mode::Auto | Mode::Dups | Mode::Transacted) | None => Ok(Vec::new(alloc)),
+    }
+}
+
+/// What it changes that the durable subscription is deleted that was planned to be.
+fn unsubscribed<P: Planned>(alloc: Global, planned: &P) -> Result<Vec<RowChange>, AllocError>
+    requires { StandsInOrder (P.state planned.now) }
+    ensures { (s : SessionShown) (name : List ℕ) → IsPlannedRequest (P.state planned.now) s (Unsubscribe name) (P.deletes planned.now) (P.puts planned.now) →
+        IfOk result (λ changes. AreRequested (P.state planned.now) s (Unsubscribe name) changes.items) }
+{
+    match planned.deleted() {
+        None => Ok(Vec::new(alloc)),
+        Some(key) => deleted(alloc, planned, key),
+    }
+}
+
+/// What it changes that the durable subscription is put that was planned to be, where one was.
+fn created<P: Planned>(alloc: Global, planned: &P) -> Result<Vec<RowChange>, AllocError>
+    requires { StandsInOrder (P.state planned.now) }
+    ensures { (k : KeyShown) (d : DefinitionShown) → lasts k ≡ true → IsDecided k d (definition_of (station_of k (P.state planned.now).stations)) (P.puts planned.now) →
+        IfOk result (λ changes. AreSubscribed k d (definition_of (station_of k (P.state planned.now).stations)) (P.state planned.now) changes.items) }
+{
+    match planned.decided() {
+        None => Ok(Vec::new(alloc)),
+        Some((key, definition)) => put(alloc, planned, key, definition),
+    }
+}
+
+/// What a request of the session changes.
+fn requested<P: Planned>(
+    alloc: Global,
+    planned: &P,
+    session: &SessionId,
+    request: &Request,
+) -> Result<Vec<RowChange>, AllocError>
+    requires order { StandsInOrder (P.state planned.now) }
+    requires planned { IsPlannedRequest (P.state planned.now) session.now request.now (P.deletes planned.now) (P.puts planned.now) }
+    ensures { IfOk result (λ changes. AreRequested (P.state planned.now) session.now request.now changes.items) }
+{
+    match request {
+        Request::CreateDurable { .. } | Request::CreateSharedDurable { .. } => {
+            created(alloc, planned)
+        }
+        Request::Unsubscribe { .. } => unsubscribed(alloc, planned),
+        Request::Receive { consumer, now } => received(alloc, planned, session, *consumer, *now),
+        Request::Acknowledge => acknowledged(alloc, planned, session),
+        _ => Ok(Vec::new(alloc)),
+    }
+}
+
+/// What a commit of the session changes that sent those messages: first what is out to it goes, then they come.
+fn committed<P: Planned>(
+    alloc: Global,
+    planned: &P,
+    session: &SessionId,
+    messages: &[Message],
+) -> Result<Vec<RowChange>, AllocError>
+    requires order { StandsInOrder (P.state planned.now) }
+    requires messages { P.messages planned.now ≡ messages.now }
+    requires places { (P.state planned.now).next_place + length messages.now ≤ places_end }
+    ensures { IfOk result (λ changes. AreCommitted (P.state planned.now) session.now messages.now changes.items) }
+{
+    let mut changes = lost_out(alloc, planned, &Consumers::OfSession(*session))?.into_changes()?;
+    changes.append(&mut published(alloc, planned, messages)?)?;
+    Ok(changes)
+}
+
+/// What the planned step asks for, call by call.
+fn listed<P: Planned>(alloc: Global, planned: &P, step: &Step) -> Result<Vec<RowChange>, AllocError>
+    requires order { StandsInOrder (P.state planned.now) }
+    requires planned { IsPlannedCall (P.state planned.now) step.now.who step.now.call (P.deletes planned.now) (P.puts planned.now) (P.messages planned.now) }
+    ensures { IfOk result (λ changes. AreChanges (P.state planned.now) step.now.who step.now.call changes.items) }
+{
+    match step.who {
+        Who::Connection(_) => Ok(Vec::new(alloc)),
+        Who::Session(session) => match &step.call {
+            Call::Ask(request) => requested(alloc, planned, &session, request),
+            Call::Publish(messages) => published(alloc, planned, messages.as_slice()),
+            Call::Commit(messages) => committed(alloc, planned, &session, messages.as_slice()),
+        },
+    }
+}
+
+/// What the planned step changes of what is stored: rows go before their message, and come after it and their station.
+/// Only a publication, a commit, a receive, an acknowledgement in a session of mode `Client`, and the making and deleting of a
+/// durable subscription change anything; no other call takes memory for it. Nothing is listed of a message that is not
+/// PERSISTENT, nor of a subscription that is not durable. Where the step is not refused, they lead from
+/// what is stored before it to what is stored after it. `AllocError` where a request for memory was refused.
+pub fn changes<P: Planned>(
+    alloc: Global,
+    planned: &P,
+    step: &Step,
+) -> Result<Vec<RowChange>, AllocError>
+    requires order { StandsInOrder (P.state planned.now) }
+    requires planned { IsPlannedCall (P.state planned.now) step.now.who step.now.call (P.deletes planned.now) (P.puts planned.now) (P.messages planned.now) }
+    ensures listed { IfOk result (λ changes. AreChanges (P.state planned.now) step.now.who step.now.call changes.items) }
+    ensures leads { IsOk (reply (P.state planned.now) step.now.who step.now.call) → IfOk result (λ changes.
+        LeadsTo (P.state planned.now) (machine.step (P.state planned.now) step.now.who step.now.call) changes.items) }
+{
+    listed(alloc, planned, step)
+}

@@ -1,0 +1,88 @@
+-- What is stored of the provider's state: the definitions of durable subscriptions, and the rows of PERSISTENT messages
+-- under them and under queues, each with its place and count.
+use Rattle.std.specs.Prelude.{◌≡◌, ℕ, Bool, true, false, ◌==◌, List, [], ◌∷◌, Option, Some, None, IfSome, if◌then◌else◌}
+use Rattle.jm_dest.specs.declared.key.Key.{Key}
+use Rattle.jm_dest.specs.declared.key.Key.TheVariants.{Queue, Own, SharedOwn, Durable}
+use Rattle.jm_header.specs.declared.content.Content.{Content}
+use Rattle.jm_header.specs.declared.content.DeliveryMode.{DeliveryMode}
+use Rattle.jm_header.specs.declared.content.DeliveryMode.TheVariants.{Persistent, NonPersistent}
+use Rattle.jm_format.specs.Format as format
+use Rattle.jm_machine.specs.declared.state.PlacedRow.{PlacedRow}
+use Rattle.jm_machine.specs.declared.state.Row.{Row}
+use Rattle.jm_machine.specs.declared.state.Definition.{Definition}
+use Rattle.jm_machine.specs.Machine.{State, station_of, definition_of}
+use Rattle.jm_machine.specs.Wants.{placed_rows}
+use Rattle.jm_keep.specs.Stored.{Stored, changed_all}
+use Rattle.jm_keep.specs.declared.change.RowChange.{RowChange}
+
+-- the mode stores messages (Jakarta Messaging 3.1, section 3.4.2)
+abbrev pub is_persistent : DeliveryMode → Bool
+is_persistent NonPersistent = false
+is_persistent Persistent = true
+
+-- what is held under the key outlasts the process: under a queue and a durable subscription
+abbrev pub is_lasting : Key → Bool
+is_lasting (Queue name) = true
+is_lasting (Own s c) = false
+is_lasting (SharedOwn client name) = false
+is_lasting (Durable client name) = true
+
+-- the key is that of a durable subscription
+abbrev pub is_durable : Key → Bool
+is_durable (Queue name) = false
+is_durable (Own s c) = false
+is_durable (SharedOwn client name) = false
+is_durable (Durable client name) = true
+
+-- the rows under a key, at their places
+abbrev pub rows_under : State → Key → List PlacedRow
+rows_under state (Queue name) = state.queues name
+rows_under state (Own s c) = placed_rows (station_of (Own s c) state.stations)
+rows_under state (SharedOwn client name) = placed_rows (station_of (SharedOwn client name) state.stations)
+rows_under state (Durable client name) = placed_rows (station_of (Durable client name) state.stations)
+
+-- the row at the place
+abbrev pub row_at : ℕ → List PlacedRow → Option Row
+row_at place [] = None
+row_at place (x ∷ rows) = if x.place == place then Some x.row else row_at place rows
+
+-- what is stored of a row: whether it waits or is out is not
+pub record StoredRow : Type 0 where
+  pub count : ℕ
+  pub message : Content
+
+abbrev pub shown : Row → StoredRow
+shown r = record { count = r.count; message = r.message }
+
+-- a row is stored where its message is PERSISTENT
+abbrev pub if_stored : Option Row → Option StoredRow
+if_stored None = None
+if_stored (Some r) = if is_persistent r.message.mode then Some (shown r) else None
+
+-- the row that is stored of a key at a place
+abbrev pub stored_row : State → Key → ℕ → Option StoredRow
+stored_row state key place = if is_lasting key then if_stored (row_at place (rows_under state key)) else None
+
+-- the count of a row
+abbrev pub count_of : Option StoredRow → Option ℕ
+count_of None = None
+count_of (Some r) = Some r.count
+
+-- what the durable subscription of the key asks for
+abbrev pub durable_definition : State → Key → Option Definition
+durable_definition state key = if is_durable key then definition_of (station_of key state.stations) else None
+
+-- of the message at a place its record is stored where a stored row holds it, and nothing where none does
+pub record IsRecord (state : State) (place : ℕ) (bytes : Option (List ℕ)) : Type 0 where
+  pub held : (key : Key) → IfSome (stored_row state key place) (λ r. bytes ≡ Some (format.record r.message))
+  pub free : ((key : Key) → stored_row state key place ≡ None) → bytes ≡ None
+
+-- that is what is stored of the state
+pub record IsPersisted (state : State) (s : Stored) : Type 0 where
+  pub definitions : (key : Key) → s.definition key ≡ durable_definition state key
+  pub counts : (key : Key) (place : ℕ) → s.count key place ≡ count_of (stored_row state key place)
+  pub messages : (place : ℕ) → IsRecord state place (s.message place)
+
+-- the changes lead from what is stored of one state to what is stored of another
+abbrev pub LeadsTo : State → State → List RowChange → Type 0
+LeadsTo old new changes = (s : Stored) → IsPersisted old s → IsPersisted new (changed_all s changes)

@@ -1,0 +1,14 @@
+pub mod Folds
+pub mod Leads
+pub mod Placed
+pub mod Gone
+pub mod Received
+pub mod Published
+pub mod Ordered
+pub mod Settled
+pub mod Counted
+pub mod New
+pub mod Deleted
+pub mod Quiet
+pub mod Calls
+pub mod Apart
