@@ -20,7 +20,7 @@ use Rattle.jm_selector.specs.Selectors.{selector_read, read_selects, selects, ho
 use Rattle.jm_machine.specs.Life.{Life}
 use Rattle.jm_machine.specs.declared.state.RowState.TheVariants.{Waiting}
 use Rattle.jm_machine.specs.Machine.{Publisher, publisher_of, accepts, at_key, is_full, is_local, is_to, offered, one_missed, returned_rows, with_rows}
-use Rattle.jm_core.specs.Accepted.{IsAccepted, AllAccepted, HoldsAccepted}
+use Rattle.jm_machine.specs.Accepted.{IsAccepted, AllAccepted, HoldsAccepted}
 use Rattle.jm_core.specs.Steps.{published_stations}
 
 by_value : (v : Value) → holds (condition_of v) ≡ true → v ≡ Boolean true
@@ -30,7 +30,7 @@ by_value Unknown h = cc
 by_value (Number n) h = cc
 by_value (Text cs) h = cc
 
-selected : (tree : Option Tree) (m : Content) → selects tree m ≡ true → Selects (view m) tree
+pub selected : (tree : Option Tree) (m : Content) → selects tree m ≡ true → Selects (view m) tree
 unfolding selects
 selected None m h = tt
 selected (Some tree) m h = by_value (value (view m) tree) h

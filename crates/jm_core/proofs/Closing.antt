@@ -20,7 +20,7 @@ use Rattle.jm_machine.specs.Machine.{are_meant, closed_consumer, consumer_of, en
 use Rattle.jm_stations.specs.Backlogs.{Backlog, kept_under, settled}
 use Rattle.jm_machine.proofs.Keys.{key_refl, key_same}
 use Rattle.jm_sub.specs.Subscriptions.{Subscription}
-use Rattle.jm_core.specs.Accepted.{HoldsAccepted}
+use Rattle.jm_machine.specs.Accepted.{HoldsAccepted}
 use Rattle.jm_core.specs.Closing.{acknowledged, given_back, is_kept, kept_keys, kept_subscriptions}
 use Rattle.jm_core.specs.State.{AllOwn, AreLimited, IsOwn, station, stations_of, keys_of, IsOfSubscription, IsSound}
 use Rattle.jm_core.proofs.Accepted.{all_returned_hold, all_settled_hold}

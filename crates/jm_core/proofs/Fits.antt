@@ -23,7 +23,7 @@ use Rattle.jm_machine.specs.Life.{Life, is_started, mode_of}
 use Rattle.jm_machine.specs.Rows.{bare, deliver_chosen, deliver_placed, live, next}
 use Rattle.jm_selector.specs.Selectors.{selector_refusal}
 use Rattle.jm_machine.specs.Machine.{State, after, answer, at_key, at_queue, consumer_of, delivered, delivery, first_cause, held, holding_at, key_at, may_begin, missed_of, receive, refusal, replied, reply, rows_of, rows_under, selected_by, station_of, step, unless, with_rows}
-use Rattle.jm_machine.specs.Wants.{is_copied, is_want, is_next_copied, may_want, next_placed, placed_rows}
+use Rattle.jm_machine.specs.Wants.{is_held_after, is_want, is_next_held_after, may_want, next_placed, placed_rows}
 use Rattle.jm_session.specs.Known.{may_receive}
 use Rattle.jm_stations.specs.Backlogs.{Backlog, answered_where, copy_wanted, empty}
 use Rattle.jm_stations.specs.Stations.{index_in}
@@ -142,16 +142,16 @@ module _ (opening limit : ℕ) (life : Life) (consumers : List Consumer) (ss : L
           subst (λ y. Fits (selected_by (Some y)) y.key) (sym same) (subst (Fits (selected_by (Some source))) (sym key) there)
 
   -- memory is wanted for a copy alone
-  wants_copied : (r : Receiver) (key : Key) → length list ≡ length ss → wants_copy (Some key) r (keys_of ss) list ≡ true → is_copied (Some r.mode) (stations_of ss list) (next_placed r.moment (placed_rows (station_of key (stations_of ss list)))) ≡ true
+  wants_copied : (r : Receiver) (key : Key) → length list ≡ length ss → wants_copy (Some key) r (keys_of ss) list ≡ true → is_held_after (Some r.mode) (stations_of ss list) (next_placed r.moment (placed_rows (station_of key (stations_of ss list)))) ≡ true
   wants_copied r key n w = there (index_in (keys_of ss) key) refl w
     where
-      at : (i : ℕ) (o : Option Backlog) → slice_get list i ≡ o → index_in (keys_of ss) key ≡ Some i → wants_from r list o ≡ true → is_copied (Some r.mode) (stations_of ss list) (next_placed r.moment (placed_rows (station_of key (stations_of ss list)))) ≡ true
+      at : (i : ℕ) (o : Option Backlog) → slice_get list i ≡ o → index_in (keys_of ss) key ≡ Some i → wants_from r list o ≡ true → is_held_after (Some r.mode) (stations_of ss list) (next_placed r.moment (placed_rows (station_of key (stations_of ss list)))) ≡ true
       at i None e f w = cc
       at i (Some b) e f w =
           let same : get_or list i b ≡ b = get_or_from_slice_get list i b b e in
           sym (copy_is_copied (Some r.mode) r.moment key ss list i b n f) ∙ ap (λ (x : Backlog). is_some (copy_wanted (settles r) r.moment list x.rows)) same ∙ w
 
-      there : (o : Option ℕ) → index_in (keys_of ss) key ≡ o → wants_from r list (backlog_at list o) ≡ true → is_copied (Some r.mode) (stations_of ss list) (next_placed r.moment (placed_rows (station_of key (stations_of ss list)))) ≡ true
+      there : (o : Option ℕ) → index_in (keys_of ss) key ≡ o → wants_from r list (backlog_at list o) ≡ true → is_held_after (Some r.mode) (stations_of ss list) (next_placed r.moment (placed_rows (station_of key (stations_of ss list)))) ≡ true
       there None e w = cc
       there (Some i) e w = at i (slice_get list i) refl e w
 
@@ -159,33 +159,33 @@ module _ (opening limit : ℕ) (life : Life) (consumers : List Consumer) (ss : L
       is_queue k ≡ false → wants_copy k r (keys_of ss) list ≡ true → f ≡ Memory → IsRefused before (Session r.session) (Ask (Receive r.consumer r.moment)) f
   unfolding may_want
   receive_wants r k f n mode m e apart w is =
-      rw (is, mode) (go (is_started life r.session.connection) (consumer_of consumers r.session r.consumer) (subst (λ x. is_queue x ≡ false) e apart) (subst (λ x. wants_copy x r (keys_of ss) list ≡ true) e w))
+      rw (is, m, mode) (go (is_started life r.session.connection) (consumer_of consumers r.session r.consumer) (subst (λ x. is_queue x ≡ false) e apart) (subst (λ x. wants_copy x r (keys_of ss) list ≡ true) e w))
     where
-      by : (pass : Content → Bool) (key : Key) → is_queue (Some key) ≡ false → wants_copy (Some key) r (keys_of ss) list ≡ true → is_next_copied (Some r.mode) r.moment pass (Some key) before ≡ true
+      by : (pass : Content → Bool) (key : Key) → is_queue (Some key) ≡ false → wants_copy (Some key) r (keys_of ss) list ≡ true → is_next_held_after (Some r.mode) r.moment pass (Some key) before ≡ true
       by pass (Queue name) q w = cc
       by pass (Own s c) q w = wants_copied r (Own s c) n w
       by pass (SharedOwn client name) q w = wants_copied r (SharedOwn client name) n w
       by pass (Durable client name) q w = wants_copied r (Durable client name) n w
 
       go : (started : Bool) (source : Option Consumer) → is_queue (key_at (cond started source None)) ≡ false → wants_copy (key_at (cond started source None)) r (keys_of ss) list ≡ true →
-          (started && is_next_copied (Some r.mode) r.moment (selected_by source) (key_at source) before) ≡ true
+          (started && is_next_held_after (Some r.mode) r.moment (selected_by source) (key_at source) before) ≡ true
       go false source q w = cc
       go true None q w = cc
       go true (Some x) q w = by (selected_by (Some x)) x.key q w
 
   -- of a queue it is wanted where a row stays
-  pub receive_wants_from : (r : Receiver) (source : Consumer) (name : List ℕ) (f : Refusal) → mode_of life r.session ≡ Some r.mode → source_of life consumers r.session r.consumer ≡ Some source → source.key ≡ Queue name →
+  pub receive_wants_from : (r : Receiver) (source : Consumer) (name : List ℕ) (f : Refusal) → mode_of life r.session ≡ Some r.mode → may_receive life consumers r.session r.consumer ≡ true → source_of life consumers r.session r.consumer ≡ Some source → source.key ≡ Queue name →
       wants_copy_of (selected_by (Some source)) r (queues name) ≡ true → f ≡ Memory → IsRefused before (Session r.session) (Ask (Receive r.consumer r.moment)) f
   unfolding may_want
-  receive_wants_from r source name f mode e key w is = rw (is, mode) (go (is_started life r.session.connection) (consumer_of consumers r.session r.consumer) e)
+  receive_wants_from r source name f mode m e key w is = rw (is, m, mode) (go (is_started life r.session.connection) (consumer_of consumers r.session r.consumer) e)
     where
-      go : (started : Bool) (o : Option Consumer) → cond started o None ≡ Some source → (started && is_next_copied (Some r.mode) r.moment (selected_by o) (key_at o) before) ≡ true
+      go : (started : Bool) (o : Option Consumer) → cond started o None ≡ Some source → (started && is_next_held_after (Some r.mode) r.moment (selected_by o) (key_at o) before) ≡ true
       go false o e = cc
       go true None e = cc
       go true (Some x) e =
           let same : x ≡ source = cc in
-          subst (λ y. is_next_copied (Some r.mode) r.moment (selected_by (Some y)) (Some y.key) before ≡ true) (sym same)
-          (subst (λ k. is_next_copied (Some r.mode) r.moment (selected_by (Some source)) (Some k) before ≡ true) (sym key) w)
+          subst (λ y. is_next_held_after (Some r.mode) r.moment (selected_by (Some y)) (Some y.key) before ≡ true) (sym same)
+          (subst (λ k. is_next_held_after (Some r.mode) r.moment (selected_by (Some source)) (Some k) before ≡ true) (sym key) w)
 
   -- what was missed under the key of a consumer
   pub missed_seen : (key : Key) (number : ℕ) → length list ≡ length ss → IsMissed (index_in (keys_of ss) key) list number → number ≡ missed_of (station_of key (stations_of ss list))

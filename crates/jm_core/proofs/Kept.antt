@@ -11,7 +11,7 @@ use Rattle.jm_stations.specs.Backlogs.{Backlog, kept_under}
 use Rattle.jm_stations.specs.Stations.{index_in}
 use Rattle.jm_machine.proofs.Keys.{key_same, key_sym}
 use Rattle.jm_sub.specs.Subscriptions.{Subscription}
-use Rattle.jm_core.specs.Accepted.{HoldsAccepted}
+use Rattle.jm_machine.specs.Accepted.{HoldsAccepted}
 use Rattle.jm_core.specs.Closing.{is_other, kept_keys, kept_subscriptions}
 use Rattle.jm_core.specs.State.{AreLimited, IsOfSubscription, IsSound, keys_of, station, stations_of}
 use Rattle.jm_core.proofs.Accepted.{kept_hold}
@@ -193,7 +193,7 @@ past_all p (x ∷ xs) h =
     let rest = past_all p xs (All-tail (λ x. p x ≡ false) x xs h) in
     rw e (omega (arith, rest))
 
-found_nowhere : {A : Type 0} (p : A → Bool) (xs : List A) → All (λ x. p x ≡ false) xs → position p xs ≡ None
+pub found_nowhere : {A : Type 0} (p : A → Bool) (xs : List A) → All (λ x. p x ≡ false) xs → position p xs ≡ None
 found_nowhere p xs h = go (position_or_len p xs) (length xs) (past_all p xs h) (nat_lt (position_or_len p xs) (length xs)) refl
   where
     go : (n m : ℕ) → n ≡ m → (b : Bool) → nat_lt n m ≡ b → cond b (Some n) None ≡ None

@@ -17,3 +17,5 @@ mod Sends
 mod Reached
 mod Within
 mod Outstanding
+mod Reopening
+mod Restored

@@ -1,5 +1,5 @@
 -- In every state that the provider reaches what is out is out to a session that is open.
-use Rattle.std.proofs.Common.{◌≡◌, ℕ, Bool, true, false, cond, List, [], ◌∷◌, ◌++◌, map, length, refl, ◌∙◌, arith, Option, Some, None}
+use Rattle.std.proofs.Common.{◌≡◌, ℕ, Bool, true, false, cond, List, [], ◌∷◌, ◌++◌, map, length, refl, sym, subst, ◌∙◌, arith, Option, Some, None}
 use Rattle.std.specs.Prelude.{◌==◌, ◌&&◌, filter, find, is_some, not}
 use Rattle.std.proofs.lemmas.Bool.Decides.{nat_tests}
 use Rattle.jm_base.specs.declared.mode.Mode.{Mode}
@@ -30,8 +30,9 @@ use Rattle.jm_machine.specs.declared.state.Station.{Station}
 use Rattle.jm_machine.specs.Life.{Life, client_of, open_mode, mode_of, is_started, is_new_session, close_sessions, life_after}
 use Rattle.jm_machine.specs.Rows.{bare, fresh, goes_out, has_lapsed, is_next, is_out, live, settles_at_once, sent_out, left_of, live_placed, change_placed, deliver_placed, deliver_chosen, is_next_chosen}
 use Rattle.jm_machine.specs.Machine.{State, Publisher, publisher_of, accepts, is_full, one_missed, brought, offered, with_message, with_rows, at_key, without, published, receive, consumer_of, key_at, asked, definition_of, deleted, durable_of, is_same, joined, made, put, shared_of, standing_as, station_of, subscribed, selected_by, at_queue, at_queue_of, at_queues, queued, defined, of_number, unless, of_session, of_connection, settled_rows, returned_rows, settled, returned, closed, with_life, is_client, is_active, held, refusal, publish_refusal, commit_refusal, after, after_commit, moved, step}
+use Rattle.jm_machine.specs.Reopened.{AreDurable, AreWaiting}
 use Rattle.jm_machine.specs.Isolation.{Reached}
-use Rattle.jm_machine.specs.Isolation.Reached.{New, Stepped}
+use Rattle.jm_machine.specs.Isolation.Reached.{New, Reopened, Stepped}
 use Rattle.jm_core.specs.Outstanding.{IsOutToOpen, AllOutToOpen, HoldsOutToOpen, QueuesOutToOpen, AreOutToOpen}
 
 -- ---- sessions that stay open
@@ -342,6 +343,19 @@ open_step state who (Ask request) h = open_moved (refusal state.life state.consu
 open_step state who (Publish messages) h = open_moved (publish_refusal state who messages) (published state messages) state (λ e. open_published state messages h) h
 open_step state who (Commit messages) h = open_moved (commit_refusal state who messages) (after_commit state who messages) state (λ e. open_committed state who messages h) h
 
+-- what was stored waits
+open_waiting : (life : Life) (rows : List PlacedRow) → AreWaiting rows → AllOutToOpen life rows
+open_waiting life [] h = tt
+open_waiting life (x ∷ rows) h = (subst (IsOutToOpen life) (sym h.0) tt, open_waiting life rows h.1)
+
+open_stored : (life : Life) (messages : ℕ → Option Content) (stations : List Station) → AreDurable messages stations → HoldsOutToOpen life stations
+open_stored life messages [] h = tt
+open_stored life messages (x ∷ stations) h = (open_waiting life x.rows h.2, open_stored life messages stations h.4)
+
 pub reached_open : (state : State) → Reached state → AreOutToOpen state
 reached_open state (New opening limit) = record { stations = tt; queues = λ name. tt }
+reached_open state (Reopened opening limit stations queues next_place h) = record {
+  stations = open_stored (record { connections = []; sessions = [] }) h.messages stations h.durable;
+  queues = λ name. open_waiting (record { connections = []; sessions = [] }) (queues name) (h.waiting name);
+}
 reached_open state (Stepped before who call r) = open_step before who call (reached_open before r)

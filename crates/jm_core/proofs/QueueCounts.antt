@@ -10,9 +10,9 @@ use Rattle.jm_header.specs.declared.content.Content.{Content}
 use Rattle.jm_machine.specs.declared.state.PlacedRow.{PlacedRow}
 use Rattle.jm_machine.specs.declared.state.Row.{Row}
 use Rattle.jm_machine.specs.Machine.{returned_row, returned_rows, settled_rows}
-use Rattle.jm_machine.specs.Rows.{bare, change_placed, deliver_chosen, fresh, has_lapsed, is_next_chosen, is_out, live, live_placed, sent_out}
+use Rattle.jm_machine.specs.Rows.{bare, change_placed, deliver_chosen, has_lapsed, is_next_chosen, is_out, live, live_placed, sent_out}
 use Rattle.jm_machine.specs.Wants.{next_chosen}
-use Rattle.jm_stations.specs.Backlogs.{Backlog, HasMoreRoom, IsPublished, added, changed_at, copy_wanted_where, empty, holders_at, is_named, kept_message, placed_at, without_room}
+use Rattle.jm_stations.specs.Backlogs.{Backlog, HasCome, HasMoreRoom, changed_at, copy_wanted_where, empty, holders_at, is_named, joined, kept_message, placed_at, without_room}
 use Rattle.jm_core.specs.Queues.{AreQueues, HasNoLimit}
 use Rattle.jm_core.proofs.Stations.{with}
 use Rattle.jm_core.proofs.QueueRows.{HaveSameRows, copies_same, more_same, published_same, same_tail, with_new}
@@ -97,12 +97,12 @@ lists_same (x ∷ xs) (y ∷ ys) h p =
     let here : placed_at p y.rows ≡ placed_at p x.rows = ap (placed_at p) (h.each zero x (omega arith)) in
     omega (arith, here, lists_same xs ys (same_tail x y xs ys h) p, holders-cons p x xs, holders-cons p y ys)
 
-lists_new : (i place : ℕ) (m : Content) (bs : List Backlog) (p : ℕ) → i < length bs → holders_at p (changed_at i (with (with_new place m)) bs) ≡ holders_at p bs + cond (place == p) 1 0
-lists_new i place m [] p l = absurd (omega arith)
-lists_new zero place m (b ∷ bs) p l =
-    let more : placed_at p (with_new place m b.rows) ≡ placed_at p b.rows + cond (place == p) 1 0 = sum_by_push (λ (y : PlacedRow). cond (y.place == p) 1 0) b.rows (record { place = place; row = fresh m }) in
-    omega (arith, more, holders-cons p b bs, holders-cons p (with (with_new place m) b) bs)
-lists_new (suc i) place m (b ∷ bs) p l = omega (arith, lists_new i place m bs p (omega arith), holders-cons p b bs, holders-cons p b (changed_at i (with (with_new place m)) bs))
+lists_new : (i place : ℕ) (row : Row) (bs : List Backlog) (p : ℕ) → i < length bs → holders_at p (changed_at i (with (with_new place row)) bs) ≡ holders_at p bs + cond (place == p) 1 0
+lists_new i place row [] p l = absurd (omega arith)
+lists_new zero place row (b ∷ bs) p l =
+    let more : placed_at p (with_new place row b.rows) ≡ placed_at p b.rows + cond (place == p) 1 0 = sum_by_push (λ (y : PlacedRow). cond (y.place == p) 1 0) b.rows (record { place = place; row = row }) in
+    omega (arith, more, holders-cons p b bs, holders-cons p (with (with_new place row) b) bs)
+lists_new (suc i) place row (b ∷ bs) p l = omega (arith, lists_new i place row bs p (omega arith), holders-cons p b bs, holders-cons p b (changed_at i (with (with_new place row)) bs))
 
 -- one list has no more than all
 pub one_list : (p i : ℕ) (bs : List Backlog) (d : Backlog) → i < length bs → placed_at p (get_or bs i d).rows ≤ holders_at p bs
@@ -155,20 +155,20 @@ queues_push bs place h = queues_fewer bs (bs ++ empty None ∷ []) place h (All-
 pub queues_skipped : (bs : List Backlog) (place next : ℕ) → place ≤ next → AreQueues bs place → AreQueues bs next
 queues_skipped bs place next le h = record { unlimited = h.unlimited; single = h.single; below = λ p l. h.below p (omega (arith, le, l)) }
 
-unlimited_published : (i place : ℕ) (m : Content) (old new : List Backlog) → All HasNoLimit old → IsPublished (i ∷ []) place m old new → All HasNoLimit new
-unlimited_published i place m old new u h = λ k d l.
+unlimited_published : (i place : ℕ) (row : Row) (old new : List Backlog) → All HasNoLimit old → HasCome (i ∷ []) place row old new → All HasNoLimit new
+unlimited_published i place row old new u h = λ k d l.
     let within : k < length old = omega (arith, h.number, l) in
     ap (λ (b : Backlog). b.limit) (h.each k d within) ∙ go (is_named (i ∷ []) k) (get_or old k d) (u k d within)
   where
-    go : (t : Bool) (b : Backlog) → b.limit ≡ None → (cond t (added place m b) b).limit ≡ None
+    go : (t : Bool) (b : Backlog) → b.limit ≡ None → (cond t (joined place row b) b).limit ≡ None
     go true b e = rw e refl
     go false b e = e
 
-pub queues_published : (i place : ℕ) (m : Content) (old new : List Backlog) → i < length old → IsPublished (i ∷ []) place m old new → AreQueues old place → AreQueues new (place + 1)
-queues_published i place m old new at h q =
-    let count : (p : ℕ) → holders_at p new ≡ holders_at p old + cond (place == p) 1 0 = λ p. lists_same (changed_at i (with (with_new place m)) old) new (published_same i place m old new q.unlimited h) p ∙ lists_new i place m old p at in
+pub queues_published : (i place : ℕ) (row : Row) (old new : List Backlog) → i < length old → HasCome (i ∷ []) place row old new → AreQueues old place → AreQueues new (place + 1)
+queues_published i place row old new at h q =
+    let count : (p : ℕ) → holders_at p new ≡ holders_at p old + cond (place == p) 1 0 = λ p. lists_same (changed_at i (with (with_new place row)) old) new (published_same i place row old new q.unlimited h) p ∙ lists_new i place row old p at in
     record {
-      unlimited = unlimited_published i place m old new q.unlimited h;
+      unlimited = unlimited_published i place row old new q.unlimited h;
       single = λ p. one p (place == p) refl (count p);
       below = λ p l. none p l (count p);
     }

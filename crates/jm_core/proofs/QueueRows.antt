@@ -9,11 +9,10 @@ use Rattle.jm_dest.specs.declared.key.Key.{Key}
 use Rattle.jm_dest.specs.declared.key.Key.TheVariants.{Queue}
 use Rattle.jm_dest.specs.Keys.{key_eq}
 use Rattle.jm_dest.specs.Names.{text_eq}
-use Rattle.jm_header.specs.declared.content.Content.{Content}
 use Rattle.jm_machine.specs.declared.state.PlacedRow.{PlacedRow}
+use Rattle.jm_machine.specs.declared.state.Row.{Row}
 use Rattle.jm_machine.specs.Machine.{at_queue, at_queues}
-use Rattle.jm_machine.specs.Rows.{fresh}
-use Rattle.jm_stations.specs.Backlogs.{Backlog, HasMoreRoom, IsPublished, added, changed_at, empty, without_room}
+use Rattle.jm_stations.specs.Backlogs.{Backlog, HasCome, HasMoreRoom, changed_at, empty, joined, without_room}
 use Rattle.jm_stations.specs.Stations.{Stations, index_in}
 use Rattle.jm_machine.proofs.Keys.{key_refl, key_same, text_same}
 use Rattle.jm_core.specs.Publications.{IsReserved}
@@ -198,9 +197,9 @@ rows_mapped ks bs g e = λ i name. rows_mapped_at ks bs g e name i
 
 -- ---- a message that comes
 
--- the rows with that of a message more
-abbrev pub with_new : ℕ → Content → List PlacedRow → List PlacedRow
-with_new place m rows = rows ++ record { place = place; row = fresh m } ∷ []
+-- the rows with one more
+abbrev pub with_new : ℕ → Row → List PlacedRow → List PlacedRow
+with_new place row rows = rows ++ record { place = place; row = row } ∷ []
 
 pub changed_rows : (i k : ℕ) (g : List PlacedRow → List PlacedRow) (bs : List Backlog) (d : Backlog) → k < length bs → (get_or (changed_at i (with g) bs) k d).rows ≡ cond (i == k) (g (get_or bs k d).rows) (get_or bs k d).rows
 changed_rows i k g [] d l = absurd (omega arith)
@@ -211,23 +210,43 @@ changed_rows (suc i) (suc k) g (b ∷ bs) d l =
     let same : (suc i == suc k) ≡ (i == k) = grind (arith, nat_tests) in
     changed_rows i k g bs d (omega arith) ∙ ap (λ t. cond t (g (get_or bs k d).rows) (get_or bs k d).rows) (sym same)
 
--- where there is no limit, the row of a message comes to the list that is named
-pub published_same : (i place : ℕ) (m : Content) (old new : List Backlog) → All HasNoLimit old → IsPublished (i ∷ []) place m old new → HaveSameRows (changed_at i (with (with_new place m)) old) new
-published_same i place m old new u h = record {
-  number = h.number ∙ sym (length-changed i (with (with_new place m)) old);
+-- where there is no limit, the row comes to the list that is named
+pub published_same : (i place : ℕ) (row : Row) (old new : List Backlog) → All HasNoLimit old → HasCome (i ∷ []) place row old new → HaveSameRows (changed_at i (with (with_new place row)) old) new
+published_same i place row old new u h = record {
+  number = h.number ∙ sym (length-changed i (with (with_new place row)) old);
   each = λ k d l.
-      let within : k < length old = omega (arith, l, length-changed i (with (with_new place m)) old) in
-      ap (λ (b : Backlog). b.rows) (h.each k d within) ∙ go (i == k) (get_or old k d) (u k d within) ∙ sym (changed_rows i k (with_new place m) old d within);
+      let within : k < length old = omega (arith, l, length-changed i (with (with_new place row)) old) in
+      ap (λ (b : Backlog). b.rows) (h.each k d within) ∙ go (i == k) (get_or old k d) (u k d within) ∙ sym (changed_rows i k (with_new place row) old d within);
 }
   where
-    go : (t : Bool) (b : Backlog) → b.limit ≡ None → (cond (t || false) (added place m b) b).rows ≡ cond t (with_new place m b.rows) b.rows
+    go : (t : Bool) (b : Backlog) → b.limit ≡ None → (cond (t || false) (joined place row b) b).rows ≡ cond t (with_new place row b.rows) b.rows
     go true b e = rw e refl
     go false b e = refl
 
-pub rows_published : (ks : List Key) (name : List ℕ) (i place : ℕ) (m : Content) (old new : List Backlog) → All HasNoLimit old → index_in ks (Queue name) ≡ Some i → i < length old → IsPublished (i ∷ []) place m old new →
-    rows_at ks new ≡ at_queue name (with_new place m) (rows_at ks old)
-rows_published ks name i place m old new u at l h =
-    rows_same ks (changed_at i (with (with_new place m)) old) new (published_same i place m old new u h) ∙ rows_changed ks old name (with_new place m) i at l
+pub rows_published : (ks : List Key) (name : List ℕ) (i place : ℕ) (row : Row) (old new : List Backlog) → All HasNoLimit old → index_in ks (Queue name) ≡ Some i → i < length old → HasCome (i ∷ []) place row old new →
+    rows_at ks new ≡ at_queue name (with_new place row) (rows_at ks old)
+rows_published ks name i place row old new u at l h =
+    rows_same ks (changed_at i (with (with_new place row)) old) new (published_same i place row old new u h) ∙ rows_changed ks old name (with_new place row) i at l
+
+-- what is changed at one index alone has come there
+changed_each : (i k : ℕ) (f : Backlog → Backlog) (bs : List Backlog) (d : Backlog) → k < length bs → get_or (changed_at i f bs) k d ≡ cond (i == k) (f (get_or bs k d)) (get_or bs k d)
+changed_each i k f [] d l = absurd (omega arith)
+changed_each zero zero f (b ∷ bs) d l = refl
+changed_each zero (suc k) f (b ∷ bs) d l = let other : (zero == suc k) ≡ false = grind (arith, nat_tests) in rw other refl
+changed_each (suc i) zero f (b ∷ bs) d l = let other : (suc i == zero) ≡ false = grind (arith, nat_tests) in rw other refl
+changed_each (suc i) (suc k) f (b ∷ bs) d l =
+    let same : (suc i == suc k) ≡ (i == k) = grind (arith, nat_tests) in
+    changed_each i k f bs d (omega arith) ∙ ap (λ t. cond t (f (get_or bs k d)) (get_or bs k d)) (sym same)
+
+pub come_alone : (i place : ℕ) (row : Row) (old new : List Backlog) → new ≡ changed_at i (joined place row) old → HasCome (i ∷ []) place row old new
+come_alone i place row old new e = record {
+  number = ap (λ (xs : List Backlog). length xs) e ∙ length-changed i (joined place row) old;
+  each = λ k d l. ap (λ (xs : List Backlog). get_or xs k d) e ∙ changed_each i k (joined place row) old d l ∙ go (i == k) (get_or old k d);
+}
+  where
+    go : (t : Bool) (b : Backlog) → cond t (joined place row b) b ≡ cond (t || false) (joined place row b) b
+    go true b = refl
+    go false b = refl
 
 -- ---- room
 

@@ -9,7 +9,7 @@ use Rattle.jm_machine.specs.declared.call.Who.{Who}
 use Rattle.jm_machine.specs.Machine.{State, reply, step}
 use Rattle.jm_machine.specs.Wants.{is_want, may_want}
 use Rattle.jm_machine.specs.Client.{Progress, begun, RunOwed}
-use Rattle.jm_machine.specs.Isolation.{Reached}
+use Rattle.jm_machine.specs.Isolation.{AreIsolated, IsolationOfRuns, Reached}
 use Rattle.jm_machine.specs.Isolation.Reached.{Stepped}
 use Rattle.jm_machine.proofs.Reaches.{runs_reach, owed_fits}
 use Rattle.jm_core.specs.Steps.{StepFits}
@@ -27,3 +27,9 @@ pub run_reached : {R E : Type 0} (old new : State) (calls : List ClientCall) (of
     IfOk result (λ replies. (end : Progress) × RunOwed (begun old) calls (of replies) end × (new ≡ end.state)) → OnErr result (new ≡ old) → Reached old → Reached new
 run_reached old new calls of (Ok replies) f g reached = subst Reached (sym f.2) (runs_reach old calls (of replies) f.0 reached (owed_fits (begun old) calls (of replies) f.0 f.1))
 run_reached old new calls of (Err e) f g reached = subst Reached (sym g) reached
+
+-- its replies are isolated
+pub run_isolated : {R E : Type 0} (old new : State) (calls : List ClientCall) (of : R → List (Result Answer Refusal)) (result : Result R E) →
+    IfOk result (λ replies. (end : Progress) × RunOwed (begun old) calls (of replies) end × (new ≡ end.state)) → IsolationOfRuns → Reached old → IfOk result (λ replies. AreIsolated old calls (of replies))
+run_isolated old new calls of (Ok replies) f law reached = law old calls (of replies) f.0 reached f.1
+run_isolated old new calls of (Err e) f law reached = tt

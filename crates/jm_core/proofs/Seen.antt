@@ -12,7 +12,7 @@ use Rattle.jm_stations.specs.Backlogs as spec
 use Rattle.jm_stations.specs.Backlogs.{Backlog, without_room}
 use Rattle.jm_machine.proofs.Keys.{key_same}
 use Rattle.jm_sub.specs.Subscriptions.{Subscription}
-use Rattle.jm_core.specs.Accepted.{HoldsAccepted}
+use Rattle.jm_machine.specs.Accepted.{HoldsAccepted}
 use Rattle.jm_core.specs.Kept.{IsNumberOfMessages}
 use Rattle.jm_core.specs.State.{AreLimited, station, stations_of, keys_of, IsSound}
 use Rattle.jm_core.proofs.Stations.{found_at, found_none, fails_all, key_missing, holders_same, length-keys}

@@ -12,7 +12,7 @@ use Rattle.jm_dest.specs.Numbers.{long_end}
 use Rattle.jm_header.specs.declared.content.Content.{Content}
 use Rattle.jm_header.specs.declared.content.Sender.{Sender}
 use Rattle.jm_header.specs.declared.content.Settings.{Settings}
-use Rattle.jm_header.specs.Headers.{message_of, next_stamped}
+use Rattle.jm_header.specs.Headers.{has_moments, message_of, next_stamped}
 use Rattle.jm_header.proofs.Same.{session_same}
 use Rattle.jm_machine.specs.declared.call.Who.{Who}
 use Rattle.jm_machine.specs.declared.call.Who.TheVariants.{Connection, Session}
@@ -85,7 +85,7 @@ wants_fits p s draft destination now m h t = rw (h, t) (refl, refl)
 
 -- why the next send is not stamped is no want of memory
 next_wanted : (draft : Settings) (destination : Destination) (sender : Sender) (n now : ℕ) (e : Refusal) → next_stamped draft destination sender n now ≡ Err e → is_want (Err e) ≡ false
-next_wanted draft destination sender n now e h = go (nat_lt (now + draft.time_to_live) long_end) (nat_lt (n + 1) long_end) h
+next_wanted draft destination sender n now e h = go (has_moments draft now) (nat_lt (n + 1) long_end) h
   where
     go : (a b : Bool) → cond a (cond b (Ok (message_of draft destination sender (n + 1) now)) (Err Exhausted)) (Err OutOfRange) ≡ Err e → is_want (Err e) ≡ false
     go true true h = cc
@@ -94,7 +94,7 @@ next_wanted draft destination sender n now e h = go (nat_lt (now + draft.time_to
 
 -- a message that is stamped next has the next number
 next_number : (draft : Settings) (destination : Destination) (sender : Sender) (n now : ℕ) (m : Content) → next_stamped draft destination sender n now ≡ Ok m → m.number ≡ n + 1
-next_number draft destination sender n now m h = go (nat_lt (now + draft.time_to_live) long_end) (nat_lt (n + 1) long_end) h
+next_number draft destination sender n now m h = go (has_moments draft now) (nat_lt (n + 1) long_end) h
   where
     go : (a b : Bool) → cond a (cond b (Ok (message_of draft destination sender (n + 1) now)) (Err Exhausted)) (Err OutOfRange) ≡ Ok m → m.number ≡ n + 1
     go true true h =

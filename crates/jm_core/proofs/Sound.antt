@@ -20,7 +20,7 @@ use Rattle.jm_machine.proofs.Keys.{key_refl}
 use Rattle.jm_sub.specs.Subscriptions as subs
 use Rattle.jm_sub.specs.Subscriptions.{Subscription}
 use Rattle.jm_core.specs.declared.publish.Publication.{Publication}
-use Rattle.jm_core.specs.Accepted.{HoldsAccepted}
+use Rattle.jm_machine.specs.Accepted.{HoldsAccepted}
 use Rattle.jm_core.specs.Closing.{is_other, kept_keys, kept_subscriptions}
 use Rattle.jm_core.specs.Named.{IsDecided, IsRoomy, keys_with, list_with, put_decided, subscriptions_with}
 use Rattle.jm_core.specs.Provider.{Provider}

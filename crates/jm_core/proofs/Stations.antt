@@ -12,7 +12,7 @@ use Rattle.jm_machine.specs.declared.state.PlacedRow.{PlacedRow}
 use Rattle.jm_machine.specs.declared.state.Station.{Station}
 use Rattle.jm_machine.specs.Machine.{definition_of, station_of, at_key, missed_of, with_rows, without}
 use Rattle.jm_machine.specs.Rows.{settles_at_once}
-use Rattle.jm_machine.specs.Wants.{holders_of, placed_rows, is_copied}
+use Rattle.jm_machine.specs.Wants.{holders_of, placed_rows, is_held_after}
 use Rattle.jm_stations.specs.Backlogs.{Backlog, HasMoreRoom, changed_at, holders_at, kept_message, copy_wanted, next_placed, placed_at}
 use Rattle.jm_sub.specs.Subscriptions as subs
 use Rattle.jm_sub.specs.Subscriptions.{Subscription}
@@ -162,7 +162,7 @@ holders_same place (s ∷ ss) (b ∷ bs) n =
     ∙ (λ i. placed_at place b.rows + holders_same place ss bs (omega arith) i)
     ∙ sym (sum_by-cons (λ (x : Station). placed_at place x.rows) (station s b) (stations_of ss bs))
 
-copied_same : (mode : Option Mode) (ss : List Subscription) (bs : List Backlog) (o : Option PlacedRow) → length bs ≡ length ss → is_some (kept_message (settles_at_once mode) bs o) ≡ is_copied mode (stations_of ss bs) o
+copied_same : (mode : Option Mode) (ss : List Subscription) (bs : List Backlog) (o : Option PlacedRow) → length bs ≡ length ss → is_some (kept_message (settles_at_once mode) bs o) ≡ is_held_after mode (stations_of ss bs) o
 copied_same mode ss bs None n = refl
 copied_same mode ss bs (Some x) n = go (settles_at_once mode) (holders_at x.place bs == 1) ∙ ap (λ h. not (settles_at_once mode) || not (h == 1)) (holders_same x.place ss bs n)
   where
@@ -173,8 +173,8 @@ copied_same mode ss bs (Some x) n = go (settles_at_once mode) (holders_at x.plac
 
 -- where a delivery from a subscription wants a copy, the machine's hands one out
 pub copy_is_copied : (mode : Option Mode) (now : ℕ) (k : Key) (ss : List Subscription) (bs : List Backlog) (i : ℕ) (d : Backlog) → length bs ≡ length ss → position (λ x. key_eq x k) (keys_of ss) ≡ Some i →
-    is_some (copy_wanted (settles_at_once mode) now bs (get_or bs i d).rows) ≡ is_copied mode (stations_of ss bs) (next_placed now (placed_rows (station_of k (stations_of ss bs))))
+    is_some (copy_wanted (settles_at_once mode) now bs (get_or bs i d).rows) ≡ is_held_after mode (stations_of ss bs) (next_placed now (placed_rows (station_of k (stations_of ss bs))))
 copy_is_copied mode now k ss bs i d n e =
     let at = found_at (λ x. key_eq x k) (keys_of ss) i e in
     let found = key_found k (λ rows. rows) ss bs d i n at.0 (omega (arith, at.1, length-keys ss)) in
-    copied_same mode ss bs (next_placed now (get_or bs i d).rows) n ∙ ap (λ rows. is_copied mode (stations_of ss bs) (next_placed now rows)) (sym found.1)
+    copied_same mode ss bs (next_placed now (get_or bs i d).rows) n ∙ ap (λ rows. is_held_after mode (stations_of ss bs) (next_placed now rows)) (sym found.1)

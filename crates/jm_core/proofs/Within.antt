@@ -9,7 +9,7 @@ use Rattle.jm_dest.specs.declared.session.SessionId.{SessionId}
 use Rattle.jm_dest.specs.declared.destination.Destination.{Destination}
 use Rattle.jm_dest.specs.declared.destination.Destination.TheVariants.{Queue, Topic}
 use Rattle.jm_dest.specs.declared.key.Key.{Key}
-use Rattle.jm_dest.specs.declared.key.Key.TheVariants.{Own}
+use Rattle.jm_dest.specs.declared.key.Key.TheVariants.{Own, SharedOwn, Durable, Queue as OfQueue}
 use Rattle.jm_dest.specs.Keys.{key_eq}
 use Rattle.jm_header.specs.declared.content.Content.{Content}
 use Rattle.jm_machine.specs.declared.call.Who.{Who}
@@ -24,9 +24,10 @@ use Rattle.jm_machine.specs.declared.state.Row.{Row}
 use Rattle.jm_machine.specs.declared.state.Station.{Station}
 use Rattle.jm_machine.specs.Life.{client_of, mode_of, is_started}
 use Rattle.jm_machine.specs.Rows.{bare, fresh, has_lapsed, is_next, is_out, live, settles_at_once, sent_out, left_of, live_placed, change_placed, deliver_placed}
-use Rattle.jm_machine.specs.Machine.{State, Publisher, publisher_of, accepts, is_full, one_missed, brought, offered, with_message, with_rows, at_key, without, published, receive, consumer_of, key_at, asked, definition_of, deleted, durable_of, is_same, made, put, selected_by, shared_of, station_of, subscribed, defined, of_session, of_connection, of_number, settled_rows, returned_row, returned_rows, settled, returned, closed, with_life, is_client, held, refusal, publish_refusal, commit_refusal, after, after_commit, moved, step}
+use Rattle.jm_machine.specs.Machine.{State, is_limited, Publisher, publisher_of, accepts, is_full, one_missed, brought, offered, with_message, with_rows, at_key, without, published, receive, consumer_of, key_at, asked, definition_of, deleted, durable_of, is_same, made, put, selected_by, shared_of, station_of, subscribed, defined, of_session, of_connection, of_number, settled_rows, returned_row, returned_rows, settled, returned, closed, with_life, is_client, held, refusal, publish_refusal, commit_refusal, after, after_commit, moved, step}
+use Rattle.jm_machine.specs.Reopened.{AreDurable, is_durable}
 use Rattle.jm_machine.specs.Isolation.{Reached}
-use Rattle.jm_machine.specs.Isolation.Reached.{New, Stepped}
+use Rattle.jm_machine.specs.Isolation.Reached.{New, Reopened, Stepped}
 use Rattle.jm_core.specs.Limits.{AllWithin, IsWithin}
 
 -- ---- rows
@@ -192,6 +193,18 @@ within_step state who (Ask request) h = within_moved (refusal state.life state.c
 within_step state who (Publish messages) h = within_moved (publish_refusal state who messages) (published state messages) state (within_published state messages h) h
 within_step state who (Commit messages) h = within_moved (commit_refusal state who messages) (after_commit state who messages) state (within_committed state who messages h) h
 
+-- a durable subscription has no limit
+within_stored : (limit : ℕ) (messages : ℕ → Option Content) (stations : List Station) → AreDurable messages stations → AllWithin limit stations
+within_stored limit messages [] h = tt
+within_stored limit messages (x ∷ stations) h = (λ l. absurd (limited x.key h.0 l), within_stored limit messages stations h.4)
+  where
+    limited : (key : Key) → is_durable key ≡ true → is_limited key ≡ true → ⊥
+    limited (OfQueue name) d l = cc
+    limited (Own s c) d l = cc
+    limited (SharedOwn client name) d l = cc
+    limited (Durable client name) d l = cc
+
 pub reached_within : (state : State) → Reached state → AllWithin state.limit state.stations
 reached_within state (New opening limit) = tt
+reached_within state (Reopened opening limit stations queues next_place h) = within_stored limit h.messages stations h.durable
 reached_within state (Stepped before who call r) = within_step before who call (reached_within before r)

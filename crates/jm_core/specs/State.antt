@@ -10,7 +10,7 @@ use Rattle.jm_machine.specs.declared.state.Station.{Station}
 use Rattle.jm_machine.specs.Machine.{consumer_of, is_limited, key_at, places_end}
 use Rattle.jm_stations.specs.Backlogs.{Backlog}
 use Rattle.jm_sub.specs.Subscriptions.{Subscription}
-use Rattle.jm_core.specs.Accepted.{HoldsAccepted}
+use Rattle.jm_machine.specs.Accepted.{HoldsAccepted}
 
 -- a subscription with what is held for it
 abbrev pub station : Subscription → Backlog → Station

@@ -13,7 +13,7 @@ use Rattle.jm_machine.specs.declared.state.Station.{Station}
 use Rattle.jm_machine.specs.Life.{Life, is_started}
 use Rattle.jm_machine.specs.Rows.{deliver_placed, left_of, settles_at_once}
 use Rattle.jm_machine.specs.Machine.{consumer_of, missed_of, station_of}
-use Rattle.jm_machine.specs.Wants.{is_kept, next_chosen}
+use Rattle.jm_machine.specs.Wants.{is_queued_after, next_chosen}
 use Rattle.jm_stations.specs.Backlogs.{Backlog, answered, changed_at, copy_wanted, copy_wanted_where}
 use Rattle.jm_stations.specs.Stations.{Stations, index_in}
 use Rattle.jm_core.specs.declared.receive.Receiver.{Receiver}
@@ -57,7 +57,7 @@ IsTakenFrom name p r queues (Some x) =
 
 -- a delivery from the rows of a queue wants a copy
 abbrev pub wants_copy_of : (Content → Bool) → Receiver → List PlacedRow → Bool
-wants_copy_of p r rows = is_kept (Some r.mode) (next_chosen p r.moment rows)
+wants_copy_of p r rows = is_queued_after (Some r.mode) (next_chosen p r.moment rows)
 
 -- a delivery from what stands there wants a copy
 abbrev pub wants_from : Receiver → List Backlog → Option Backlog → Bool

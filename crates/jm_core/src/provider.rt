@@ -1,10 +1,11 @@
-ghost use Rattle.std.specs.Prelude.{◌≡◌, length, true, false, MatchResult, IfOk, IfErr, OnErr};
+ghost use Rattle.std.specs.Prelude.{◌≡◌, ℕ, List, length, true, false, if◌then◌else◌, MatchResult, IfOk, IfErr, OnErr};
 ghost use Rattle.std.specs.Option.{option_copied};
-ghost use Rattle.jm_base.specs.declared.refusal.Refusal.TheVariants.{OutOfRange};
+ghost use Rattle.jm_base.specs.declared.refusal.Refusal.TheVariants.{Memory, OutOfRange};
 ghost use Rattle.jm_machine.specs.Machine as machine;
 ghost use Rattle.jm_machine.specs.Client.{Progress, begun, RunOwed};
-ghost use Rattle.jm_machine.specs.Isolation.{Reached};
-ghost use Rattle.jm_core.specs.Accepted.{HoldsAccepted};
+ghost use Rattle.jm_machine.specs.Isolation.{AreIsolated, Reached};
+ghost use Rattle.jm_machine.specs.Accepted.{HoldsAccepted};
+ghost use Rattle.jm_machine.specs.Rows.{InOrder};
 ghost use Rattle.jm_core.specs.Kept.{IsNumberOfMessages};
 ghost use Rattle.jm_stations.specs.Backlogs as backlogs;
 ghost use Rattle.jm_core.specs.Limits.{AllWithin};
@@ -12,11 +13,14 @@ ghost use Rattle.jm_core.specs.Outstanding.{AreOutToOpen};
 ghost use Rattle.jm_core.specs.Plans.{InstallFits, IsPlan, IsPlanned, IsRefused};
 ghost use Rattle.jm_core.specs.Provider.{may_open, state_of};
 ghost use Rattle.jm_core.specs.Steps.{StepFits};
+ghost use Rattle.jm_core.specs.Stored as stored;
 
 use crate::plan::Plan;
 use crate::state::CoreState;
+use crate::stored::{StoredMessage, StoredSubscription};
 use jm_base::Refusal;
 use jm_dest::{Key, Name, Number};
+use jm_law::law_isolation_of_runs;
 use jm_machine::{
     Answer, ClientCall, ConnectionState, Consumer, Definition, PlacedRow, Reply, SessionState,
     Station, Step,
@@ -64,10 +68,11 @@ pub fn law_core_reached(core: &Core)
 ///
 /// Each row was accepted: its message goes to the subscription's topic, and the tree of the subscription's
 /// selector is TRUE for it, or there is no selector. The rows of each subscription stand by place, below the
-/// next place.
+/// next place, and so do those of each queue.
 pub fn law_rows_in_order(core: &Core)
     ensures accepted { HoldsAccepted (state_of core.now).stations }
     ensures ordered { machine.AllInOrder (state_of core.now).next_place (state_of core.now).stations }
+    ensures queued { (name : List ℕ) → InOrder (state_of core.now).next_place ((state_of core.now).queues name) }
 {
     core.state.law_accepted();
 }
@@ -100,6 +105,33 @@ impl Core {
             (λ refusal. (refusal ≡ OutOfRange) × (may_open opening held_limit ≡ false)) }
     {
         let state = CoreState::new(alloc, opening, held_limit)?;
+        Ok(Core { state })
+    }
+
+    /// A core that is made of what was stored, in that opening of the provider and with that limit: the subscriptions in
+    /// their order, and under each, and at each queue, the rows of the messages that it holds, by place and with their
+    /// counts. A message stands once, however many hold it. All rows wait, no publication was missed, nobody is connected,
+    /// and the next place is one above the greatest, or 1 where there is none.
+    ///
+    /// The caller sees to it that all of that may be: each key is that of a durable subscription and stands once, the
+    /// messages come by place, and who holds one may hold it (`admits`, `queue_admits`), by the index of the subscription,
+    /// each once, with a count of at most 2,147,483,647.
+    ///
+    /// - `OutOfRange`: exactly where `new` says.
+    /// - `Memory`: a request for memory was refused.
+    pub fn reopen(
+        alloc: Global,
+        opening: u32,
+        held_limit: u32,
+        subscriptions: Vec<StoredSubscription>,
+        messages: Vec<StoredMessage>,
+    ) -> Result<Core, Refusal>
+        requires { stored.MayReopen subscriptions.items messages.items }
+        ensures ok { IfOk result (λ core. (state_of core ≡ stored.state_stored opening held_limit subscriptions.items messages.items)
+            × (may_open opening held_limit ≡ true)) }
+        ensures err { IfErr result (λ refusal. refusal ≡ (if may_open opening held_limit then Memory else OutOfRange)) }
+    {
+        let state = CoreState::reopen(alloc, opening, held_limit, subscriptions, messages)?;
         Ok(Core { state })
     }
 
@@ -255,11 +287,17 @@ impl Core {
     /// no call was made. Where one call wants memory, as `step` says, or a send in a transacted session does, its reply is
     /// `Memory`, the core and what is kept are as they were before that call, and the run goes on; a send that was to be
     /// published has used its number then.
+    ///
+    /// The replies are isolated: at each key of an unshared topic subscription, whose consumers' numbers name nothing else,
+    /// they are those that this subscription answers alone, fed with its own sessions' calls and with the committed
+    /// messages that it accepts.
     pub fn run(&mut self, calls: Vec<ClientCall>) -> Result<Vec<Reply>, AllocError>
         ensures ok { IfOk result (λ replies. (end : Progress)
             × RunOwed (begun (state_of self.old)) calls.items replies.items end × (state_of self.new ≡ end.state)) }
+        ensures isolated { IfOk result (λ replies. AreIsolated (state_of self.old) calls.items replies.items) }
         ensures err { OnErr result (state_of self.new ≡ state_of self.old) }
     {
+        law_isolation_of_runs();
         self.state.run(calls)
     }
 }

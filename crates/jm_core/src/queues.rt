@@ -9,13 +9,15 @@ ghost use Rattle.jm_machine.specs.Wants.{next_chosen};
 ghost use Rattle.jm_selector.specs.Selectors.{read_selects, selector_read};
 ghost use Rattle.jm_stations.specs.Backlogs as backlogs;
 ghost use Rattle.jm_stations.specs.Backlogs.{Backlog};
+ghost use Rattle.jm_stations.specs.Loading.{stored_row};
 ghost use Rattle.jm_stations.specs.Stations.{index_in};
 ghost use Rattle.jm_core.specs.Publications.{IsReserved};
 ghost use Rattle.jm_core.specs.Queues.{HaveMoreRoom, rows_in};
+ghost use Rattle.jm_core.specs.Reopening.{joins};
 
 use jm_dest::{ConsumerId, Key, Moment, Name, SessionId};
 use jm_header::Message;
-use jm_machine::{Answer, Consumers, PlacedRow};
+use jm_machine::{Answer, Consumers, PlacedRow, Row, RowState};
 use jm_selector::Selector;
 use jm_stations::Stations;
 use std::alloc::{AllocError, Global};
@@ -163,6 +165,26 @@ impl Queues {
     {
         self.stations.skip_to(place);
         self.stations.publish(message, from_ref(&index));
+    }
+
+    /// A message that was stored comes to the queue with that index, at that place, after so many deliveries. Takes no
+    /// memory, since room was reserved.
+    pub(crate) fn load(&mut self, message: Message, count: u32, index: usize, place: u64)
+        requires from { self.old.next_place ≤ place }
+        requires places { place < places_end }
+        requires messages { 0 < self.old.message_room }
+        requires reserved { IsReserved 1 self.old.list (index ∷ []) }
+        ensures rows { (name : List ℕ) → index_in self.old.keys (key.Queue name) ≡ Some index →
+            rows_in self.new ≡ at_queue name (joins place (stored_row message count)) (rows_in self.old) }
+        ensures next_place { self.new.next_place ≡ place + 1 }
+    {
+        self.stations.skip_to(place);
+        let row = Row {
+            message,
+            count,
+            state: RowState::Waiting,
+        };
+        self.stations.load(index, row);
     }
 
     /// The copy that a delivery from the queue with that index wants at that moment, which settles at once or not, of the

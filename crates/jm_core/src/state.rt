@@ -5,7 +5,7 @@ ghost use Rattle.std.specs.Option.{option_copied};
 ghost use Rattle.jm_base.specs.declared.refusal.Refusal.TheVariants.{OutOfRange, Memory};
 ghost use Rattle.jm_machine.specs.Life as life;
 ghost use Rattle.jm_machine.specs.Machine as machine;
-ghost use Rattle.jm_core.specs.Accepted.{HoldsAccepted};
+ghost use Rattle.jm_machine.specs.Accepted.{HoldsAccepted};
 ghost use Rattle.jm_core.specs.Kept.{IsNumberOfMessages};
 ghost use Rattle.jm_stations.specs.Backlogs as backlogs;
 ghost use Rattle.jm_stations.specs.Backlogs.{Backlog};
@@ -88,7 +88,7 @@ const GREATEST_LIMIT: u32 = 1_000_000;
 const PLACES_END: u64 = 1 << 63;
 
 /// Whether there may be a limit of so many rows.
-fn is_limit(limit: u32) -> bool
+pub(crate) fn is_limit(limit: u32) -> bool
     ensures { result ≡ (nat_le 1 limit && nat_le limit greatest_limit) }
 {
     limit != 0 && limit <= GREATEST_LIMIT

@@ -17,7 +17,7 @@ use Rattle.jm_machine.specs.declared.state.SessionState.{SessionState}
 use Rattle.jm_machine.specs.Life.{Life, connection_of, session_of, is_open_connection, is_new_session, with_started, started_if, closed_if, closed_where, close_sessions, life_after}
 use Rattle.jm_machine.specs.Machine.{State, published, publish_refusal, refusal, held, after, commit_refusal, after_commit, moved, step}
 use Rattle.jm_machine.specs.Isolation.{Reached}
-use Rattle.jm_machine.specs.Isolation.Reached.{New, Stepped}
+use Rattle.jm_machine.specs.Isolation.Reached.{New, Reopened, Stepped}
 use Rattle.jm_machine.proofs.Keys.{session_same}
 use Rattle.jm_law.proofs.Run.{after_life, published_life, committed_life}
 use Rattle.jm_law.proofs.Transactions.{connection_life}
@@ -100,6 +100,7 @@ known_step state who (Commit messages) h = known_moved (commit_refusal state who
 
 reached_known : (state : State) → Reached state → Known state.life
 reached_known state (New opening limit) = λ s e. cc
+reached_known state (Reopened opening limit stations queues next_place h) = λ s e. cc
 reached_known state (Stepped before who call r) = known_step before who call (reached_known before r)
 
 pub reached_nested : (state : State) → Reached state → AreNested state.life.connections state.life.sessions

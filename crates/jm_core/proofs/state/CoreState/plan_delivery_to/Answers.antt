@@ -13,9 +13,10 @@ returns-in_err-taking-in-Queue c =
     let i = c.self.inside in
     let wants = c.in_err-taking-in-Queue.ensures.err c.in-Queue.field-0 c.in-Queue.is in
     let mode = rw (← c.self.view_is) at c.requires.mode in
+    let allowed = rw (← c.self.view_is) at c.requires.allowed in
     let source = rw (← c.self.view_is) at c.requires.source in
     rw (p.1, p.2, ← c.self.view_is)
-    (refl, receive_wants_from i.opening i.limit i.sessions.life i.sessions.consumers i.subs.list i.stations.list (rows_in i.queues) i.stations.next_place c.args.receiver c.args.source.now c.in-Queue.field-0 Memory mode source c.in-Queue.is wants refl)
+    (refl, receive_wants_from i.opening i.limit i.sessions.life i.sessions.consumers i.subs.list i.stations.list (rows_in i.queues) i.stations.next_place c.args.receiver c.args.source.now c.in-Queue.field-0 Memory mode allowed source c.in-Queue.is wants refl)
 
 pub returns-in_err-taking-in-Own : goal.returns-in_err-taking-in-Own
 returns-in_err-taking-in-Own c =

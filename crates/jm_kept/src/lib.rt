@@ -1,0 +1,6 @@
+//! The provider's core over a keeper: each step that is accepted has told the keeper what it changes of what is stored.
+#![tactic(auto)]
+
+mod steps;
+
+pub use steps::{Lists, step, step_without_store};

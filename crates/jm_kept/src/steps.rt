@@ -1,0 +1,115 @@
+//! Steps whose changes a keeper keeps.
+
+ghost use Rattle.std.specs.Prelude.{◌≡◌, [], true, Err, IsTrue, IfOk, IfErr, OnOk, OnErr, IsErrOf};
+ghost use Rattle.jm_core.specs.Plans.{IsPlan};
+ghost use Rattle.jm_core.specs.Provider.{state_of};
+ghost use Rattle.jm_core.specs.Steps.{StepFits};
+ghost use Rattle.jm_keep.specs.Persisted.{IsPersisted, LeadsTo};
+ghost use Rattle.jm_keep.specs.Stored.{HasRisen, changed_all};
+ghost use Rattle.jm_kept.specs.Kept.{KeptFits};
+ghost use Rattle.jm_machine.specs.Entries.{is_not_made};
+ghost use Rattle.jm_machine.specs.Machine as machine;
+
+use jm_base::Refusal;
+use jm_core::{Answer, Core, Plan, Step};
+use jm_keep::{Keep, RowChange, StoreFault};
+use std::alloc::{AllocError, Global};
+
+/// Who lists what a planned step changes of what is stored.
+pub trait Lists {
+    /// The changes, in turn. `AllocError` where a request for memory was refused.
+    fn changes(
+        &self,
+        alloc: Global,
+        core: &Core,
+        step: &Step,
+        plan: &Plan,
+    ) -> Result<Vec<RowChange>, AllocError>
+        requires { IsPlan core.now step.now.who step.now.call plan.now }
+        ensures { IfOk result (λ changes. LeadsTo (state_of core.now) (machine.step (state_of core.now) step.now.who step.now.call) changes.items) };
+}
+
+fn refusal_of(fault: StoreFault) -> Refusal
+    ensures device { fault ≡ StoreFault.Device → result ≡ Refusal.Store }
+    ensures memory { fault ≡ StoreFault.Memory → result ≡ Refusal.Memory }
+{
+    match fault {
+        StoreFault::Memory => Refusal::Memory,
+        StoreFault::Device => Refusal::Store,
+    }
+}
+
+/// Has the keeper write the changes, where there are some.
+fn write<K: Keep>(keeper: &mut K, changes: &[RowChange]) -> Result<(), Refusal>
+    ensures written { IsTrue (K.is_clean keeper.new) → OnOk result (K.stored keeper.new ≡ changed_all (K.stored keeper.old) changes.now) }
+    ensures refused { IsTrue (K.is_clean keeper.new) → OnErr result (K.stored keeper.new ≡ K.stored keeper.old) }
+    ensures clean { IsTrue (K.is_clean keeper.new) → IsTrue (K.is_clean keeper.old) }
+    ensures not_made { IfErr result (λ refusal. is_not_made (Err refusal) ≡ true) }
+    ensures store { IsErrOf result Refusal.Store → HasRisen (K.faults keeper.old) (K.faults keeper.new) }
+{
+    if changes.is_empty() {
+        return Ok(());
+    }
+    match keeper.write(changes) {
+        Ok(()) => Ok(()),
+        Err(fault) => Err(refusal_of(fault)),
+    }
+}
+
+/// Lists what the planned step changes, and has the keeper write it.
+fn keep<K: Keep, L: Lists>(
+    alloc: Global,
+    lists: &L,
+    core: &Core,
+    keeper: &mut K,
+    step: &Step,
+    plan: &Plan,
+) -> Result<(), Refusal>
+    requires { IsPlan core.now step.now.who step.now.call plan.now }
+    ensures written { IsTrue (K.is_clean keeper.new) → IsPersisted (state_of core.now) (K.stored keeper.old) →
+        OnOk result (IsPersisted (machine.step (state_of core.now) step.now.who step.now.call) (K.stored keeper.new)) }
+    ensures refused { IsTrue (K.is_clean keeper.new) → OnErr result (K.stored keeper.new ≡ K.stored keeper.old) }
+    ensures not_made { IfErr result (λ refusal. is_not_made (Err refusal) ≡ true) }
+    ensures store { IsErrOf result Refusal.Store → HasRisen (K.faults keeper.old) (K.faults keeper.new) }
+{
+    let changes = lists.changes(alloc, core, step, plan)?;
+    write(keeper, &changes)
+}
+
+/// Plans one step and installs it, for a provider without a store: nothing is listed or written. Each refusal and when it
+/// comes is `Core::step`'s.
+pub fn step_without_store(core: &mut Core, step: &Step) -> Result<Answer, Refusal>
+    ensures { StepFits (state_of core.old) step.now.who step.now.call result (state_of core.new) }
+{
+    core.step(step)
+}
+
+/// Plans one step, has the keeper write what it changes, and installs it. Over a keeper that keeps nothing it is
+/// `step_without_store`. A refusal is the first cause that stands, as `Core::step` says, and leaves core and keeper as they
+/// were; so do these, which come after all others:
+///
+/// - `Memory`: a request for memory was refused, as `Core::step` says, or to list what the step changes, or to the keeper.
+/// - `Store`: the keeper failed to write what the step changes: its count of faults rose in this call, or is at its last
+///   value.
+pub fn step<K: Keep, L: Lists>(
+    alloc: Global,
+    lists: &L,
+    core: &mut Core,
+    keeper: &mut K,
+    step: &Step,
+) -> Result<Answer, Refusal>
+    ensures fits { KeptFits (state_of core.old) step.now.who step.now.call result (state_of core.new) }
+    ensures store { IsErrOf result Refusal.Store → HasRisen (K.faults keeper.old) (K.faults keeper.new) }
+    ensures kept { IsTrue (K.is_clean keeper.new) → IsPersisted (state_of core.old) (K.stored keeper.old) →
+        IsPersisted (state_of core.new) (K.stored keeper.new) }
+{
+    if !keeper.keeps() {
+        return step_without_store(core, step);
+    }
+    let plan = match core.plan(step) {
+        Ok(plan) => plan,
+        Err(refusal) => return Err(refusal),
+    };
+    keep(alloc, lists, core, keeper, step, &plan)?;
+    Ok(core.install(plan))
+}
