@@ -19,6 +19,8 @@ pub(crate) struct Parcel {
     pub priority: u8,
     /// In milliseconds; 0 for no end.
     pub time_to_live: i64,
+    /// The delivery delay in milliseconds; 0 for none.
+    pub delay: i64,
     pub now: i64,
 }
 
@@ -58,7 +60,8 @@ fn subscription_name(alloc: Global, topic: u32) -> Result<SubscriptionName, Refu
 fn set(draft: &mut Draft, parcel: Parcel) -> Result<(), Refusal> {
     draft.set_text("work")?;
     draft.set_priority(parcel.priority)?;
-    draft.set_time_to_live(parcel.time_to_live)
+    draft.set_time_to_live(parcel.time_to_live)?;
+    draft.set_delivery_delay(parcel.delay)
 }
 
 fn draft(alloc: Global, parcel: Parcel) -> Result<Draft, Refusal> {

@@ -32,6 +32,10 @@ pub(crate) enum Kind {
     Durables,
     /// A message is sent, and received by the next of the consumers of one shared subscription.
     Shared,
+    /// As one to one, where the rows that are held before are held back, each until a moment of its own past all rounds.
+    HeldBack,
+    /// As one to one, where of the rows that are held before the one in the middle expires, and no other does.
+    Lasting,
 }
 
 /// How many rows are out at most where they are acknowledged or committed together, and how many messages a commit carries.
@@ -62,6 +66,8 @@ pub(crate) fn kind_named(name: &str) -> Option<Kind> {
         "rollback" => Some(Kind::Rollback),
         "durables" => Some(Kind::Durables),
         "shared" => Some(Kind::Shared),
+        "held-back" => Some(Kind::HeldBack),
+        "lasting" => Some(Kind::Lasting),
         _ => None,
     }
 }
@@ -84,7 +90,25 @@ fn parcel(load: Load, round: u32) -> Parcel {
         topic,
         priority,
         time_to_live,
+        delay: 0,
         now: i64::from(round),
+    }
+}
+
+/// The parcel of a row that is held before the first round.
+fn held_parcel(load: Load, number: u32) -> Parcel {
+    let time_to_live = match load.kind {
+        Kind::Lasting if number == load.held / 2 => 1,
+        _ => 0,
+    };
+    let delay = match load.kind {
+        Kind::HeldBack => 10_000_000 + i64::from(number % 1_009) * 9_973,
+        _ => 0,
+    };
+    Parcel {
+        time_to_live,
+        delay,
+        ..parcel(load, number)
     }
 }
 
@@ -147,11 +171,7 @@ pub(crate) fn fill(provider: &mut Provider, load: Load) -> Result<(), Refusal> {
         subscribe(provider, load.kind, number + 1, topic(load.kind, number))?;
     }
     for round in 0..load.held {
-        let held = Parcel {
-            time_to_live: 0,
-            ..parcel(load, round)
-        };
-        provider.send(held)?;
+        provider.send(held_parcel(load, round))?;
         commit_batch(provider, load.kind, round)?;
     }
     finish_fill(provider, load.kind)

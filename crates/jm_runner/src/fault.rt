@@ -28,8 +28,8 @@ pub enum KeyFault {
     /// The text spells no key.
     Syntax,
     /// The key is none of an unshared topic subscription. In a run that is a consumer's own, where a creating call,
-    /// accepted or not, names its number for another subscription or for a queue; and a durable one, where a call asks
-    /// for it as a shared one, or names the number of one of its consumers for anything else.
+    /// accepted or not, names its number for another subscription or for a queue; and a durable one, where a call,
+    /// accepted or not, asks for it as a shared one.
     NotUnshared,
 }
 

@@ -192,9 +192,9 @@ fn told<R: Read>(alloc: Global, source: &mut Source<R>, key: &str) -> Result<Pri
 /// as many rows as the scenario says, in the run and alone; where it says none, 100,000. The exit status is that of
 /// the run.
 ///
-/// The fault of a scenario is told before any of the key, which is judged over the whole run: none is unshared that a
-/// call, accepted or not, asks for as a shared one, or whose consumer's number a creating call, accepted or not, names
-/// for anything else. A key that no call names has no lines.
+/// The fault of a scenario is told before any of the key, which is judged over the whole run: a consumer's own is not
+/// unshared where a creating call, accepted or not, names its number for anything else, nor is a durable one that a
+/// call, accepted or not, asks for as a shared one. A key that no call names has no lines.
 pub fn lone<R: Read, W: Write>(
     alloc: Global,
     source: &mut Source<R>,

@@ -43,6 +43,10 @@ with_persistence value = changed (λ found draft. option_map (λ b. record draft
 abbrev pub with_time_to_live : Data → Settings → Option Settings
 with_time_to_live value = changed (λ found draft. option_map (λ n. record draft { time_to_live = n }) (moment found)) (get (codes "ttl") value)
 
+-- with the delivery delay of the field `delay`: 0 to 2^63-1
+abbrev pub with_delivery_delay : Data → Settings → Option Settings
+with_delivery_delay value = changed (λ found draft. option_map (λ n. record draft { delivery_delay = n }) (moment found)) (get (codes "delay") value)
+
 -- with JMSCorrelationID of the field `correlation`
 abbrev pub with_correlation : Data → Settings → Option Settings
 with_correlation value = changed (λ found draft. option_map (λ text. record draft { correlation = Some text }) (as_str found)) (get (codes "correlation") value)
@@ -54,8 +58,8 @@ with_type value = changed (λ found draft. option_map (λ text. record draft { m
 -- with those header fields, in that order
 abbrev pub with_header : Data → Settings → Option Settings
 with_header value draft =
-    option_and_then (with_type value) (option_and_then (with_correlation value) (option_and_then (with_time_to_live value)
-    (option_and_then (with_persistence value) (with_priority value draft))))
+    option_and_then (with_type value) (option_and_then (with_correlation value) (option_and_then (with_delivery_delay value)
+    (option_and_then (with_time_to_live value) (option_and_then (with_persistence value) (with_priority value draft)))))
 
 -- a byte that is no upper-case letter
 abbrev pub is_no_capital : ℕ → Bool

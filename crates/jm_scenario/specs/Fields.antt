@@ -30,6 +30,7 @@ field_name field.Now = codes "now"
 field_name field.Priority = codes "priority"
 field_name field.Persistent = codes "persistent"
 field_name field.TimeToLive = codes "ttl"
+field_name field.DeliveryDelay = codes "delay"
 field_name field.Correlation = codes "correlation"
 field_name field.Type = codes "type"
 field_name field.Properties = codes "props"
@@ -67,8 +68,8 @@ operation_named text =
 -- the name of a field of a draft
 abbrev pub is_draft_field : List ℕ → Bool
 is_draft_field name =
-    bytes_eq name (codes "priority") || bytes_eq name (codes "persistent") || bytes_eq name (codes "ttl") || bytes_eq name (codes "correlation")
-    || bytes_eq name (codes "type") || bytes_eq name (codes "props") || bytes_eq name (codes "text") || bytes_eq name (codes "bytes")
+    bytes_eq name (codes "priority") || bytes_eq name (codes "persistent") || bytes_eq name (codes "ttl") || bytes_eq name (codes "delay")
+    || bytes_eq name (codes "correlation") || bytes_eq name (codes "type") || bytes_eq name (codes "props") || bytes_eq name (codes "text") || bytes_eq name (codes "bytes")
 
 -- a scenario or a call has a field of that name
 abbrev pub has : Owner → List ℕ → Bool

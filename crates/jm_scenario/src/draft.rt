@@ -61,6 +61,22 @@ fn set_time_to_live(object: &Value, draft: &mut Draft) -> Result<(), Misfit>
     }
 }
 
+/// Sets the delivery delay of the field `delay`, where it stands.
+fn set_delivery_delay(object: &Value, draft: &mut Draft) -> Result<(), Misfit>
+    ensures { LeavesExactly result draft.old draft.new (spec.with_delivery_delay (view object.now) draft.old) }
+{
+    let Some(value) = optional(object, Field::DeliveryDelay) else {
+        return Ok(());
+    };
+    let Some(milliseconds) = value.as_i64() else {
+        return Err(misfit(value, Field::DeliveryDelay));
+    };
+    match draft.set_delivery_delay(milliseconds) {
+        Ok(()) => Ok(()),
+        Err(_) => Err(Misfit::Shape(Field::DeliveryDelay)),
+    }
+}
+
 /// Sets JMSCorrelationID of the field `correlation`, where it stands. `Memory` where a request for
 /// memory was refused.
 fn set_correlation(object: &Value, draft: &mut Draft) -> Result<(), Misfit>
@@ -257,6 +273,7 @@ fn set_header(object: &Value, draft: &mut Draft) -> Result<(), Misfit>
     set_priority(object, draft)?;
     set_persistence(object, draft)?;
     set_time_to_live(object, draft)?;
+    set_delivery_delay(object, draft)?;
     set_correlation(object, draft)?;
     set_type(object, draft)
 }

@@ -47,6 +47,8 @@ pub enum Field {
     Persistent,
     /// The time to live in milliseconds, where 0 means that the message does not expire.
     TimeToLive,
+    /// The delivery delay in milliseconds, for which the message is held back.
+    DeliveryDelay,
     /// JMSCorrelationID.
     Correlation,
     /// JMSType.
@@ -115,6 +117,7 @@ impl Field {
             Field::Priority => "priority",
             Field::Persistent => "persistent",
             Field::TimeToLive => "ttl",
+            Field::DeliveryDelay => "delay",
             Field::Correlation => "correlation",
             Field::Type => "type",
             Field::Properties => "props",
@@ -143,8 +146,10 @@ impl fmt::Display for FieldName {
 fn is_draft_field(name: &str) -> bool
     ensures { result ≡ spec.is_draft_field name.now }
 {
-    matches!(name, "priority" | "persistent" | "ttl" | "correlation")
-        || matches!(name, "type" | "props" | "text" | "bytes")
+    matches!(
+        name,
+        "priority" | "persistent" | "ttl" | "delay" | "correlation"
+    ) || matches!(name, "type" | "props" | "text" | "bytes")
 }
 
 impl Owner {

@@ -1,7 +1,7 @@
 //! Calls as a client makes them.
 
 use crate::op::{At, Kind, Op, session, session_of, who};
-use crate::sends::{destination, draft, expiring, selector};
+use crate::sends::{delayed, destination, draft, expiring, selector};
 use jm_base::{Refusal, Str};
 use jm_dest::{ClientId, ConsumerId, Destination, Moment, SubscriptionName};
 use jm_header::Draft;
@@ -133,7 +133,8 @@ fn request(alloc: Global, op: Op) -> Result<Request, Refusal> {
         Op::Recover(_) => Ok(Request::Recover),
         Op::Rollback(_) => Ok(Request::Rollback),
         Op::Missed(_, k) => missed(k),
-        Op::Send(..) | Op::SendTo(..) | Op::SendAt(..) | Op::Commit(..) => Err(Refusal::Store),
+        Op::Send(..) | Op::SendTo(..) | Op::SendAt(..) | Op::SendDelayed(..) | Op::Commit(..) =>
+            Err(Refusal::Store),
     }
 }
 
@@ -166,6 +167,9 @@ pub fn call(alloc: Global, op: Op) -> Result<ClientCall, Refusal> {
         Op::SendTo(c, at, text, x) => send(alloc, c, at, draft(alloc, text, x), 1000),
         Op::SendAt(c, text, now, ttl) => {
             send(alloc, c, At::Topic("t"), expiring(alloc, text, ttl), now)
+        }
+        Op::SendDelayed(c, at, text, delay, x) => {
+            send(alloc, c, at, delayed(alloc, text, delay, x), 1000)
         }
         Op::Commit(numbers) => Ok(ClientCall::CommitSession(session_of(numbers)?)),
         _ => ask(alloc, op),

@@ -55,6 +55,9 @@ pub enum Op {
     SendTo(u32, At, &'static str, Option<i64>),
     /// A text of session 1 of that connection, at that moment, with that time to live.
     SendAt(u32, &'static str, i64, i64),
+    /// A text of session 1 of that connection to that destination, with that delivery delay, and with that property x or
+    /// with none.
+    SendDelayed(u32, At, &'static str, i64, Option<i64>),
     Receive(Numbers, u32),
     ReceiveAt(Numbers, u32, i64),
     Acknowledge(Numbers),
@@ -80,9 +83,10 @@ pub(crate) fn who(op: Op) -> Result<Who, Refusal> {
         Op::Open(c) | Op::OpenFor(c, _) | Op::Start(c) | Op::Stop(c) | Op::CloseConnection(c) => {
             Ok(Who::Connection(ConnectionId::new(c)?))
         }
-        Op::Send(c, _, _) | Op::SendTo(c, _, _, _) | Op::SendAt(c, _, _, _) => {
-            Ok(Who::Session(session(c)?))
-        }
+        Op::Send(c, _, _)
+        | Op::SendTo(c, _, _, _)
+        | Op::SendAt(c, _, _, _)
+        | Op::SendDelayed(c, _, _, _, _) => Ok(Who::Session(session(c)?)),
         Op::Session(numbers, _)
         | Op::CloseSession(numbers)
         | Op::Consumer(numbers, _, _)

@@ -41,6 +41,13 @@ pub(crate) fn expiring(alloc: Global, text: &str, time_to_live: i64) -> Draft {
     draft
 }
 
+/// A text with that delivery delay, and with that property x or with none; a want of memory is seen by what is missing.
+pub(crate) fn delayed(alloc: Global, text: &str, delay: i64, x: Option<i64>) -> Draft {
+    let mut draft = draft(alloc, text, x);
+    let _ = draft.set_delivery_delay(delay);
+    draft
+}
+
 /// A message of the text a to that destination, of session 2.1 in that opening, with that property x or with none.
 /// `OutOfRange` where the opening is 0; `BadName` where the destination's name is none; `Memory` where a request for memory
 /// was refused.

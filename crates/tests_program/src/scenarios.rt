@@ -368,7 +368,7 @@ fn faults_of_scenarios(rt: HostRuntime) {
     }
 }
 
-static FIELDS: [(Field, &str); 22] = [
+static FIELDS: [(Field, &str); 23] = [
     (Field::Calls, "calls"),
     (Field::Held, "held"),
     (Field::Operation, "op"),
@@ -386,6 +386,7 @@ static FIELDS: [(Field, &str); 22] = [
     (Field::Priority, "priority"),
     (Field::Persistent, "persistent"),
     (Field::TimeToLive, "ttl"),
+    (Field::DeliveryDelay, "delay"),
     (Field::Correlation, "correlation"),
     (Field::Type, "type"),
     (Field::Properties, "props"),

@@ -19,7 +19,7 @@ struct Row {
 
 const Q: At = At::Queue("q");
 
-static ROWS: [Row; 13] = [
+static ROWS: [Row; 15] = [
     // What is sent to a queue waits for the first consumer that comes, whatever waits at another queue.
     Row {
         limit: 100_000,
@@ -81,6 +81,36 @@ static ROWS: [Row; 13] = [
             Op::Receive((1, 1), 2),
         ],
         told: "ok, ok, sent 1, sent 2, b#1, none, a#1, none, 0 and 0 and 0",
+    },
+    // A delayed message of a queue is held back from all its consumers, and hides none that they select.
+    Row {
+        limit: 100_000,
+        mode: Mode::Auto,
+        ops: &[
+            Op::ConsumerAt((1, 1), 1, Q, Some("x > 0"), false),
+            Op::ConsumerAt((1, 1), 2, Q, None, false),
+            Op::SendDelayed(2, Q, "a", 500, Some(1)),
+            Op::SendTo(2, Q, "b", Some(1)),
+            Op::ReceiveAt((1, 1), 1, 1499),
+            Op::ReceiveAt((1, 1), 1, 1499),
+            Op::ReceiveAt((1, 1), 2, 1499),
+            Op::ReceiveAt((1, 1), 1, 1500),
+        ],
+        told: "ok, ok, sent 1, sent 2, b#1, none, none, a#1, 0 and 0 and 0",
+    },
+    // A delayed message counts at the limit of a subscription that is not durable.
+    Row {
+        limit: 1,
+        mode: Mode::Auto,
+        ops: &[
+            Op::Consumer((1, 1), 1, None),
+            Op::SendDelayed(2, At::Topic("t"), "a", 500, None),
+            Op::Send(2, "b", None),
+            Op::Missed((1, 1), 1),
+            Op::Receive((1, 1), 1),
+            Op::ReceiveAt((1, 1), 1, 1500),
+        ],
+        told: "ok, sent 1, sent 2, missed 1, none, a#1, 1 and 0 and 0",
     },
     // A refused selector leaves the number free, and a text without a token is none.
     Row {
