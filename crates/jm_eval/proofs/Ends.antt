@@ -7,7 +7,7 @@ use Rattle.jm_tree.specs.declared.pattern.Item.TheVariants.{One, Any, Only}
 use Rattle.jm_eval.specs.Patterns.{matches, any_suffix, is_any, Reaches}
 use Rattle.jm_eval.proofs.Pieces.{suffix_at}
 
-here_or : (test : List ℕ → Bool) (cs : List ℕ) → test cs ≡ true → any_suffix test cs ≡ true
+pub here_or : (test : List ℕ → Bool) (cs : List ℕ) → test cs ≡ true → any_suffix test cs ≡ true
 here_or test [] h = h
 here_or test (c ∷ cs) h = or_left _ _ h
 
@@ -23,12 +23,12 @@ none_here is all c cs e h =
     let no : matches is (c ∷ cs) ≡ false = ap (matches is) (sym e) ∙ sym h in
     ap (any_suffix (matches is)) e ∙ ap (λ b. b || any_suffix (matches is) cs) no
 
-later_too : (test : List ℕ → Bool) (front back : List ℕ) → any_suffix test back ≡ true → any_suffix test (front ++ back) ≡ true
+pub later_too : (test : List ℕ → Bool) (front back : List ℕ) → any_suffix test back ≡ true → any_suffix test (front ++ back) ≡ true
 later_too test [] back h = h
 later_too test (c ∷ front) back h = or_right _ _ (later_too test front back h)
 
 -- what is left of an end is an end of what is left
-drop_end : (n : ℕ) (front back : List ℕ) → (before : List ℕ) × (drop n (front ++ back) ≡ before ++ drop n back)
+pub drop_end : (n : ℕ) (front back : List ℕ) → (before : List ℕ) × (drop n (front ++ back) ≡ before ++ drop n back)
 drop_end zero front back = (front, refl)
 drop_end (suc n) (c ∷ front) [] = let r = drop_end n front [] in (r.0, r.1 ∙ ap (λ l. r.0 ++ l) (drop_none n))
   where
@@ -48,7 +48,7 @@ past_part (One ∷ part) later (c ∷ cs) plain h = past_part part later cs plai
 past_part (Only d ∷ part) later [] plain h = absurd (cc)
 past_part (Only d ∷ part) later (c ∷ cs) plain h = past_part part later cs plain.1 (and_parts _ _ h).1
 
-same_answer : (a b : Bool) → (a ≡ true → b ≡ true) → (b ≡ true → a ≡ true) → a ≡ b
+pub same_answer : (a b : Bool) → (a ≡ true → b ≡ true) → (b ≡ true → a ≡ true) → a ≡ b
 same_answer true b f g = sym (f refl)
 same_answer false true f g = g refl
 same_answer false false f g = refl

@@ -9,3 +9,4 @@ pub mod Segments
 pub mod Backwards
 pub mod Decided
 pub mod Names
+pub mod Found

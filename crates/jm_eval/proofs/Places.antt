@@ -1,12 +1,12 @@
 -- Places at the front of a text.
-use Rattle.std.proofs.Common.{◌≡◌, ℕ, suc, ◌+◌, ◌<◌, Bool, true, false, ◌&&◌, List, [], ◌∷◌, ◌++◌, length, map, drop, get_or, Option, Some, None, refl, ap, sym, subst, ◌∙◌, arith, append-nil}
+use Rattle.std.proofs.Common.{◌≡◌, ℕ, suc, ◌+◌, ◌<◌, true, false, ◌&&◌, List, [], ◌∷◌, ◌++◌, length, map, drop, get_or, Option, Some, None, refl, ap, sym, subst, ◌∙◌, arith, append-nil}
 use Rattle.std.proofs.lemmas.List.{drop-drop}
 use Rattle.std.proofs.Math.Seq.{drop-cons, drop-length}
 use Rattle.std.specs.List.{AllByRecursion}
 use Rattle.jm_tree.specs.declared.pattern.Item.{Item}
 use Rattle.jm_tree.specs.declared.pattern.Item.TheVariants.{Any}
 use Rattle.jm_tree.specs.Patterns.{item_of}
-use Rattle.jm_eval.specs.Patterns.{matches, any_suffix, after_one, fits_place, is_any, is_empty, Reaches}
+use Rattle.jm_eval.specs.Patterns.{matches, any_suffix, after_one, fits_place, is_any, is_empty}
 use Rattle.jm_eval.proofs.Ends.{none_here, none_at_end, first_match}
 
 -- what the loop has passed

@@ -1,5 +1,5 @@
 -- When two values are the same.
-use Rattle.std.specs.Prelude.{◌≡◌, ℕ, Bool, true, false, refl}
+use Rattle.std.specs.Prelude.{◌≡◌, Bool, true, false, refl}
 use Rattle.std.proofs.Common.{ap, sym, ◌∙◌}
 use Rattle.std.proofs.lemmas.Bool.Decides.{Decides-like, Decides-int_eq, same_from_decides}
 use Rattle.std.specs.Bool.{Decides}

@@ -61,11 +61,26 @@ fn after_places<'a>(places: &[Option<char>], text: &'a str) -> Option<&'a str>
     }
 }
 
-/// The text after the first place at which the segment fits, or none where it fits nowhere.
+/// The text after the first place at which the literal stands, or none where it stands nowhere. It goes once over the
+/// text.
+fn after_literal<'a>(literal: &str, text: &'a str) -> Option<&'a str>
+    ensures { (places : List (Option ℕ)) → patterns.IsLiteral literal.now places → spec.IsAfterFirst places text.now result }
+{
+    match text.split_once(literal) {
+        None => None,
+        Some((_, rest)) => Some(rest),
+    }
+}
+
+/// The text after the first place at which the segment fits, or none where it fits nowhere. A segment without `_` is found
+/// in one walk over the text.
 fn after_segment<'a>(segment: &Segment, text: &'a str) -> Option<&'a str>
     ensures { spec.IsAfterFirst segment.now text.now result }
 {
-    after_places(segment.places(), text)
+    match segment.literal() {
+        Some(literal) => after_literal(literal.as_str(), text),
+        None => after_places(segment.places(), text),
+    }
 }
 
 /// The text after the first place at which the segments fit one after another, or none where they fit nowhere.
@@ -148,8 +163,9 @@ pub(crate) fn is_match_of(text: &str, items: &Items) -> bool
 }
 
 /// Whether the text fits the items of a pattern (Jakarta Messaging 3.1, section 3.8.1): it is a concatenation of pieces
-/// that fit them in order. It goes once over the text, and where a part of it does not fit back to the last `%` alone.
-/// Takes no memory.
+/// that fit them in order. It goes once over the text, and where a part of it does not fit back to the last `%` alone: what
+/// stands between two `%` is found in as many steps as the text is long, or, where it has a `_`, in at most that many for
+/// each of its places. Takes no memory.
 pub fn like_items(text: &str, items: &Items) -> bool
     ensures { IsTrue result ↔ spec.Fits (chars text.now) items.now }
 {

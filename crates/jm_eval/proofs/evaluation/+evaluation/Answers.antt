@@ -1,5 +1,4 @@
 use Rattle.std.proofs.Common.{◌≡◌, arith}
-use Rattle.jm_eval.specs.declared.truth.Truth.TheVariants as t
 use Rattle.jm_eval.specs.Evaluation.{value}
 use Rattle.jm_eval.specs.Values.{and_of, or_of, condition_of}
 use Rattle.jm_eval.specs.Views.{view}

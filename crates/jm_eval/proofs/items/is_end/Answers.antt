@@ -1,5 +1,4 @@
-use Rattle.std.proofs.Common.{◌≡◌, ◌-◌, ◌≤◌, Option, None, true, false, length, get_or, sym, arith, rules}
-use Rattle.jm_eval.specs.Patterns.{fits_place}
+use Rattle.std.proofs.Common.{◌-◌, ◌≤◌, None, length, sym, arith, rules}
 use Rattle.jm_eval.proofs.Backwards.{back_more, back_fails, back_done}
 use Rattle.jm_eval.proofs.items.is_end.Goals as goal
 
