@@ -15,7 +15,7 @@ use Rattle.jm_header.specs.Headers.{has_moments, message_of, stamped, next_stamp
 use Rattle.jm_machine.specs.declared.call.Who.{Who}
 use Rattle.jm_machine.specs.declared.call.Who.TheVariants.{Connection, Session}
 use Rattle.jm_machine.specs.declared.call.Request.{Request}
-use Rattle.jm_machine.specs.declared.call.Request.TheVariants.{CloseConnection, CreateConsumer, CreateDurable, CreateShared, CreateSharedDurable, Receive, Acknowledge}
+use Rattle.jm_machine.specs.declared.call.Request.TheVariants.{CloseConnection, CreateConsumer, CreateDurable, CreateShared, CreateSharedDurable, Receive, Acknowledge, Take, Done as DoneWith}
 use Rattle.jm_machine.specs.declared.call.Call.{Call}
 use Rattle.jm_machine.specs.declared.call.Call.TheVariants.{Publish, Commit, Ask as AskStep}
 use Rattle.jm_machine.specs.declared.call.ClientCall.{ClientCall}
@@ -27,8 +27,8 @@ use Rattle.jm_machine.specs.declared.entry.Entry.TheVariants.{Asked, Sent, Commi
 use Rattle.jm_machine.specs.declared.state.Row.{Row}
 use Rattle.jm_machine.specs.declared.state.Definition.{Definition}
 use Rattle.jm_machine.specs.Life.{client_of, session_of, mode_of, is_started}
-use Rattle.jm_machine.specs.Rows.{left_of}
-use Rattle.jm_machine.specs.Machine.{State, consumer_of, key_at, made, selected_by, durable_of, shared_of, asked, is_same, subscribed, put, joined, definition_of, station_of, with_message, published, of_session, settled, is_client, receive, held, is_transacted, is_untransacted, is_stamped, refusal, publish_refusal, commit_refusal, after, after_commit, replied, moved, reply, step}
+use Rattle.jm_machine.specs.Rows.{left_of, taken, settles_at_once}
+use Rattle.jm_machine.specs.Machine.{State, consumer_of, key_at, made, selected_by, durable_of, shared_of, asked, is_same, subscribed, put, joined, definition_of, station_of, with_message, published, of_session, settled, is_client, receive, set_busy, take, with_done, held, is_transacted, is_untransacted, is_stamped, refusal, publish_refusal, commit_refusal, after, after_commit, replied, moved, reply, step}
 use Rattle.jm_machine.specs.Entries.{sent_entry, is_not_made, pending, entry_of, entries_of}
 use Rattle.jm_machine.specs.Client.{Progress, begun, after_commit_of, after_request, stamp_of, is_in_transaction, stamped_reply, send_reply, stamped_progress, send_progress, reply_to, progress_to, CallFits, RepliesFit}
 use Rattle.jm_law.proofs.EntrySteps.{state_after_entry, EntriesFit, state_at_end, before_by}
@@ -62,6 +62,10 @@ opening_receive : (p : Content → Bool) (f : Row → List Row) (now : ℕ) (k :
 opening_receive p f now None state = refl
 opening_receive p f now (Some k) state = refl
 
+opening_done : (s : SessionId) (c : ℕ) (ok : Bool) (k : Option Key) (state : State) → (with_done s c ok k state).opening ≡ state.opening
+opening_done s c ok None state = refl
+opening_done s c ok (Some k) state = refl
+
 opening_made : (s : SessionId) (c : ℕ) (destination : Destination) (selector : Option (List ℕ)) (no_local : Bool) (state : State) → (made s c destination selector no_local state).opening ≡ state.opening
 opening_made s c (Queue name) selector no_local state = refl
 opening_made s c (Topic name) selector no_local state = refl
@@ -81,6 +85,12 @@ opening_after state (Session s) (CreateSharedDurable c destination name selector
 opening_after state (Session s) (Receive c now) =
     opening_if (is_started state.life s.connection) (receive (selected_by (consumer_of state.consumers s c)) (left_of (mode_of state.life s) s c) now (key_at (consumer_of state.consumers s c)) state) state state.opening
     (opening_receive (selected_by (consumer_of state.consumers s c)) (left_of (mode_of state.life s) s c) now (key_at (consumer_of state.consumers s c)) state) refl
+opening_after state (Session s) (Take c now) =
+    opening_if (is_started state.life s.connection) (take (selected_by (consumer_of state.consumers s c)) s c now (key_at (consumer_of state.consumers s c)) state) state state.opening
+    (opening_receive (selected_by (consumer_of state.consumers s c)) (taken s c) now (key_at (consumer_of state.consumers s c)) state) refl
+opening_after state (Session s) (DoneWith c ok) =
+    let free : State = record state { consumers = set_busy s c false state.consumers } in
+    opening_if (settles_at_once (mode_of state.life s)) (with_done s c ok (key_at (consumer_of state.consumers s c)) free) free state.opening (opening_done s c ok (key_at (consumer_of state.consumers s c)) free) refl
 opening_after state (Session s) _ = refl
 
 opening_step : (state : State) (who : Who) (call : Call) → (step state who call).opening ≡ state.opening

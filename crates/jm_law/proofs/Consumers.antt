@@ -16,12 +16,13 @@ use Rattle.jm_machine.specs.declared.state.Row.{Row}
 use Rattle.jm_machine.specs.declared.state.RowState.{RowState}
 use Rattle.jm_machine.specs.declared.state.RowState.TheVariants.{Waiting, Out}
 use Rattle.jm_machine.specs.Owns.{is_own}
-use Rattle.jm_machine.specs.Machine.{has_number, consumer_of, is_active, key_at, closed_consumer, is_one_of, ends, State, station_of, rows_of}
+use Rattle.jm_machine.specs.Machine.{has_number, consumer_of, is_active, key_at, closed_consumer, listening_if, busy_if, is_one_of, ends, State, station_of, rows_of}
 use Rattle.jm_machine.specs.Lone.{Scope, belongs, names_key, deletes_key}
 use Rattle.jm_machine.specs.Life.{Life, client_of, mode_of}
 use Rattle.jm_machine.specs.Entries.{life_after_entry}
 use Rattle.jm_law.proofs.Lists.{filter_map_same}
 use Rattle.jm_machine.proofs.Keys.{session_same, key_same}
+use Rattle.jm_machine.proofs.Marks.{KeepsName, closed_keeps}
 
 -- the key is that of a subscription which no two consumers share
 abbrev pub Unshared : Key → Type 0
@@ -110,44 +111,58 @@ pub placed_push : (S : Scope) (y : Consumer) → key_eq y.key S.key ≡ belongs 
 placed_push S y h [] p = (h, tt)
 placed_push S y h (x ∷ xs) p = (p.0, placed_push S y h xs p.1)
 
--- consumers close, and keep their keys and numbers
-closed_keeps : (p : SessionId → ℕ → Bool) (x : Consumer) → ((closed_consumer p x).key ≡ x.key) × (((closed_consumer p x).session ≡ x.session) × ((closed_consumer p x).id ≡ x.id))
-closed_keeps p x = go (p x.session x.id)
-  where
-    go : (b : Bool) → ((cond b (record x { is_active = false }) x).key ≡ x.key) × (((cond b (record x { is_active = false }) x).session ≡ x.session) × ((cond b (record x { is_active = false }) x).id ≡ x.id))
-    go true = (refl, (refl, refl))
-    go false = (refl, (refl, refl))
+-- consumers that keep their keys and numbers are the key's as before
+pub placed_map : (S : Scope) (f : Consumer → Consumer) → KeepsName f → (xs : List Consumer) → Placed S xs → Placed S (map f xs)
+placed_map S f k [] h = tt
+placed_map S f k (x ∷ xs) h =
+    (ap (λ (y : Key). key_eq y S.key) (k.key x) ∙ h.0 ∙ sym (ap (λ (s : SessionId). belongs S s x.id) (k.session x)) ∙ sym (ap (λ (c : ℕ). belongs S (f x).session c) (k.id x)), placed_map S f k xs h.1)
 
 pub placed_closed : (S : Scope) (p : SessionId → ℕ → Bool) (xs : List Consumer) → Placed S xs → Placed S (map (closed_consumer p) xs)
-placed_closed S p [] h = tt
-placed_closed S p (x ∷ xs) h =
-    let k = closed_keeps p x in
-    (ap (λ (y : Key). key_eq y S.key) k.0 ∙ h.0 ∙ sym (ap (λ (s : SessionId). belongs S s x.id) k.1.0) ∙ sym (ap (λ (c : ℕ). belongs S (closed_consumer p x).session c) k.1.1), placed_closed S p xs h.1)
+placed_closed S p xs h = placed_map S (closed_consumer p) (closed_keeps p) xs h
 
--- the key's consumers close as all do
+-- the key's consumers change as all do
+pub kept_in : (S : Scope) (f : Consumer → Consumer) → KeepsName f → (xs : List Consumer) → filter (λ x. key_eq x.key S.key) (map f xs) ≡ map f (filter (λ x. key_eq x.key S.key) xs)
+kept_in S f k xs = filter_map_same _ _ (λ x. ap (λ (y : Key). key_eq y S.key) (k.key x)) xs
+
 pub closed_in : (S : Scope) (p : SessionId → ℕ → Bool) (xs : List Consumer) → filter (λ x. key_eq x.key S.key) (map (closed_consumer p) xs) ≡ map (closed_consumer p) (filter (λ x. key_eq x.key S.key) xs)
-closed_in S p xs = filter_map_same _ _ (λ x. ap (λ (y : Key). key_eq y S.key) (closed_keeps p x).0) xs
+closed_in S p xs = kept_in S (closed_consumer p) (closed_keeps p) xs
+
+-- where none of them changes, they are the same
+pub kept_out : (S : Scope) (f : Consumer → Consumer) → KeepsName f → ((x : Consumer) → belongs S x.session x.id ≡ true → f x ≡ x) → (xs : List Consumer) → Placed S xs →
+    filter (λ x. key_eq x.key S.key) (map f xs) ≡ filter (λ x. key_eq x.key S.key) xs
+kept_out S f k h [] q = refl
+kept_out S f k h (x ∷ xs) q = one (key_eq x.key S.key) refl (kept_out S f k h xs q.1)
+  where
+    one : (b : Bool) → key_eq x.key S.key ≡ b → filter (λ y. key_eq y.key S.key) (map f xs) ≡ filter (λ y. key_eq y.key S.key) xs →
+        filter (λ y. key_eq y.key S.key) (map f (x ∷ xs)) ≡ cond b (x ∷ filter (λ y. key_eq y.key S.key) xs) (filter (λ y. key_eq y.key S.key) xs)
+    one true e rest =
+        ap (λ (z : Consumer). cond (key_eq z.key S.key) (z ∷ filter (λ y. key_eq y.key S.key) (map f xs)) (filter (λ y. key_eq y.key S.key) (map f xs))) (h x (sym q.0 ∙ e))
+        ∙ ap (λ (v : Bool). cond v (x ∷ filter (λ y. key_eq y.key S.key) (map f xs)) (filter (λ y. key_eq y.key S.key) (map f xs))) e
+        ∙ ap (λ t. x ∷ t) rest
+    one false e rest =
+        ap (λ (v : Bool). cond v (f x ∷ filter (λ y. key_eq y.key S.key) (map f xs)) (filter (λ y. key_eq y.key S.key) (map f xs))) (ap (λ (y : Key). key_eq y S.key) (k.key x) ∙ e)
+        ∙ rest
+
+-- a mark of a consumer of another key changes none of them
+number_apart : (S : Scope) (s : SessionId) (c : ℕ) → belongs S s c ≡ false → (x : Consumer) → belongs S x.session x.id ≡ true → has_number s c x ≡ false
+number_apart S s c n x b = go (has_number s c x) refl
+  where
+    go : (v : Bool) → has_number s c x ≡ v → v ≡ false
+    go true e = let i : true ≡ false = sym b ∙ named S s c x e ∙ n in cc
+    go false e = refl
+
+pub listening_out : (S : Scope) (s : SessionId) (c : ℕ) (on : Bool) → belongs S s c ≡ false → (x : Consumer) → belongs S x.session x.id ≡ true → listening_if s c on x ≡ x
+listening_out S s c on n x b = ap (λ (v : Bool). cond v (record x { is_listening = on }) x) (number_apart S s c n x b)
+
+pub busy_out : (S : Scope) (s : SessionId) (c : ℕ) (on : Bool) → belongs S s c ≡ false → (x : Consumer) → belongs S x.session x.id ≡ true → busy_if s c on x ≡ x
+busy_out S s c on n x b = ap (λ (v : Bool). cond v (record x { is_busy = on }) x) (number_apart S s c n x b)
 
 -- none of the key's consumers passes
 abbrev pub Passes : Scope → (SessionId → ℕ → Bool) → Type 0
 Passes S p = (s : SessionId) (c : ℕ) → belongs S s c ≡ true → p s c ≡ false
 
 pub closed_out : (S : Scope) (p : SessionId → ℕ → Bool) → Passes S p → (xs : List Consumer) → Placed S xs → filter (λ x. key_eq x.key S.key) (map (closed_consumer p) xs) ≡ filter (λ x. key_eq x.key S.key) xs
-closed_out S p h [] q = refl
-closed_out S p h (x ∷ xs) q = one (key_eq x.key S.key) refl (closed_out S p h xs q.1)
-  where
-    stays : key_eq x.key S.key ≡ true → closed_consumer p x ≡ x
-    stays e = ap (λ (b : Bool). cond b (record x { is_active = false }) x) (h x.session x.id (sym q.0 ∙ e))
-
-    one : (b : Bool) → key_eq x.key S.key ≡ b → filter (λ y. key_eq y.key S.key) (map (closed_consumer p) xs) ≡ filter (λ y. key_eq y.key S.key) xs →
-        filter (λ y. key_eq y.key S.key) (map (closed_consumer p) (x ∷ xs)) ≡ cond b (x ∷ filter (λ y. key_eq y.key S.key) xs) (filter (λ y. key_eq y.key S.key) xs)
-    one true e rest =
-        ap (λ (z : Consumer). cond (key_eq z.key S.key) (z ∷ filter (λ y. key_eq y.key S.key) (map (closed_consumer p) xs)) (filter (λ y. key_eq y.key S.key) (map (closed_consumer p) xs))) (stays e)
-        ∙ ap (λ (v : Bool). cond v (x ∷ filter (λ y. key_eq y.key S.key) (map (closed_consumer p) xs)) (filter (λ y. key_eq y.key S.key) (map (closed_consumer p) xs))) e
-        ∙ ap (λ t. x ∷ t) rest
-    one false e rest =
-        ap (λ (v : Bool). cond v (closed_consumer p x ∷ filter (λ y. key_eq y.key S.key) (map (closed_consumer p) xs)) (filter (λ y. key_eq y.key S.key) (map (closed_consumer p) xs))) (ap (λ (y : Key). key_eq y S.key) (closed_keeps p x).0 ∙ e)
-        ∙ rest
+closed_out S p h xs q = kept_out S (closed_consumer p) (closed_keeps p) (λ x b. ap (λ (v : Bool). cond v (record x { is_active = false }) x) (h x.session x.id b)) xs q
 
 -- the key's consumers say whether it ends
 one_in : (p : SessionId → ℕ → Bool) (k : Key) (xs : List Consumer) → is_one_of p (filter (λ x. key_eq x.key k) xs) k ≡ is_one_of p xs k

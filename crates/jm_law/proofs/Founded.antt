@@ -1,17 +1,18 @@
 -- In every state that the provider reaches a consumer's own subscription is there only once the consumer was made.
 use Rattle.std.proofs.Common.{◌≡◌, ℕ, Bool, true, false, cond, List, [], ◌∷◌, ◌++◌, refl, ap, sym, ◌∙◌, Option, Some, None}
-use Rattle.std.specs.Prelude.{filter, map, not, is_some}
+use Rattle.std.specs.Prelude.{filter, map, not, is_some, ◌&&◌, ◌==◌}
 use Rattle.jm_base.specs.declared.refusal.Refusal.{Refusal}
 use Rattle.jm_dest.specs.declared.session.SessionId.{SessionId}
 use Rattle.jm_dest.specs.declared.destination.Destination.TheVariants.{Queue, Topic}
 use Rattle.jm_dest.specs.declared.key.Key.{Key}
 use Rattle.jm_dest.specs.declared.key.Key.TheVariants.{Own, SharedOwn, Durable, Queue as OfQueue}
+use Rattle.jm_dest.specs.Names.{session_eq}
 use Rattle.jm_dest.specs.Keys.{key_eq}
 use Rattle.jm_header.specs.declared.content.Content.{Content}
 use Rattle.jm_machine.specs.declared.call.Who.{Who}
 use Rattle.jm_machine.specs.declared.call.Who.TheVariants.{Connection, Session}
 use Rattle.jm_machine.specs.declared.call.Request.{Request}
-use Rattle.jm_machine.specs.declared.call.Request.TheVariants.{CloseConnection, CloseSession, CreateConsumer, CreateDurable, CreateShared, CreateSharedDurable, Unsubscribe, CloseConsumer, Receive, Acknowledge, Recover, Rollback}
+use Rattle.jm_machine.specs.declared.call.Request.TheVariants.{CloseConnection, CloseSession, CreateConsumer, CreateDurable, CreateShared, CreateSharedDurable, Unsubscribe, CloseConsumer, Receive, Acknowledge, Recover, Rollback, SetListener, Take, Done as DoneWith}
 use Rattle.jm_machine.specs.declared.call.Call.{Call}
 use Rattle.jm_machine.specs.declared.call.Call.TheVariants.{Ask, Publish, Commit}
 use Rattle.jm_machine.specs.declared.state.Consumer.{Consumer}
@@ -20,12 +21,13 @@ use Rattle.jm_machine.specs.declared.state.PlacedRow.{PlacedRow}
 use Rattle.jm_machine.specs.declared.state.Row.{Row}
 use Rattle.jm_machine.specs.declared.state.Station.{Station}
 use Rattle.jm_machine.specs.Life.{client_of, is_started, mode_of}
-use Rattle.jm_machine.specs.Rows.{left_of, deliver_placed}
-use Rattle.jm_machine.specs.Machine.{State, publisher_of, offered, with_message, published, with_rows, at_key, station_of, definition_of, has_number, consumer_of, key_at, selected_by, new_consumer, standing_as, defined, durable_of, shared_of, asked, is_same, put, joined, subscribed, of_session, of_connection, of_number, settled_rows, returned_rows, settled, returned, closed_consumer, ends, closed, with_life, is_client, receive, held, refusal, publish_refusal, commit_refusal, after, after_commit, moved, step}
+use Rattle.jm_machine.specs.Rows.{left_of, taken, settles_at_once, deliver_placed}
+use Rattle.jm_machine.specs.Machine.{State, publisher_of, offered, with_message, published, with_rows, at_key, station_of, definition_of, has_number, consumer_of, key_at, selected_by, new_consumer, standing_as, defined, durable_of, shared_of, asked, is_same, put, joined, subscribed, of_session, of_connection, of_number, settled_rows, returned_rows, settled, returned, closed_consumer, ends, closed, with_life, is_client, receive, listening_if, busy_if, set_busy, is_coming, take, done_rows, with_done, rows_under, held, refusal, publish_refusal, commit_refusal, after, after_commit, moved, step}
 use Rattle.jm_machine.specs.Reopened.{AreDurable, is_durable}
 use Rattle.jm_machine.specs.Isolation.{Reached}
 use Rattle.jm_machine.specs.Isolation.Reached.{New, Reopened, Stepped}
 use Rattle.jm_machine.proofs.Keys.{key_same}
+use Rattle.jm_machine.proofs.Marks.{KeepsName, closed_keeps, listening_keeps, busy_keeps}
 use Rattle.jm_law.proofs.Stations.{mapped, station_of-map, station_of-at, station_of_other-at, other-put, station-ended}
 use Rattle.jm_law.proofs.OneConsumer.{offered_parts}
 
@@ -35,21 +37,21 @@ Founded s c state = is_some (consumer_of state.consumers s c) ≡ false → stat
 
 -- ---- consumers
 
-made_closed : (p : SessionId → ℕ → Bool) (s : SessionId) (c : ℕ) (xs : List Consumer) → is_some (consumer_of (map (closed_consumer p) xs) s c) ≡ is_some (consumer_of xs s c)
-made_closed p s c [] = refl
-made_closed p s c (x ∷ xs) = go (p x.session x.id) (made_closed p s c xs)
+made_map : (f : Consumer → Consumer) → KeepsName f → (s : SessionId) (c : ℕ) (xs : List Consumer) → is_some (consumer_of (map f xs) s c) ≡ is_some (consumer_of xs s c)
+made_map f k s c [] = refl
+made_map f k s c (x ∷ xs) = found (has_number s c (f x)) (has_number s c x) same (made_map f k s c xs)
   where
-    found : (b : Bool) (y z : Consumer) (o q : Option Consumer) → is_some o ≡ is_some q → is_some (cond b (Some y) o) ≡ is_some (cond b (Some z) q)
-    found true y z o q r = refl
-    found false y z o q r = r
+    same : has_number s c (f x) ≡ has_number s c x
+    same = ap (λ (t : SessionId). session_eq t s && ((f x).id == c)) (k.session x) ∙ ap (λ (n : ℕ). session_eq x.session s && (n == c)) (k.id x)
 
-    shut : Consumer
-    shut = record x { is_active = false }
+    found : (a b : Bool) → a ≡ b → is_some (consumer_of (map f xs) s c) ≡ is_some (consumer_of xs s c) → is_some (cond a (Some (f x)) (consumer_of (map f xs) s c)) ≡ is_some (cond b (Some x) (consumer_of xs s c))
+    found true true e r = refl
+    found true false e r = cc
+    found false true e r = cc
+    found false false e r = r
 
-    go : (b : Bool) → is_some (consumer_of (map (closed_consumer p) xs) s c) ≡ is_some (consumer_of xs s c) →
-        is_some (cond (has_number s c (cond b shut x)) (Some (cond b shut x)) (consumer_of (map (closed_consumer p) xs) s c)) ≡ is_some (cond (has_number s c x) (Some x) (consumer_of xs s c))
-    go true r = found (has_number s c x) shut x (consumer_of (map (closed_consumer p) xs) s c) (consumer_of xs s c) r
-    go false r = found (has_number s c x) x x (consumer_of (map (closed_consumer p) xs) s c) (consumer_of xs s c) r
+made_closed : (p : SessionId → ℕ → Bool) (s : SessionId) (c : ℕ) (xs : List Consumer) → is_some (consumer_of (map (closed_consumer p) xs) s c) ≡ is_some (consumer_of xs s c)
+made_closed p s c xs = made_map (closed_consumer p) (closed_keeps p) s c xs
 
 -- a number that no consumer has once one more joins, none had before, and that one has it not
 made_before : (s : SessionId) (c : ℕ) (y : Consumer) (xs : List Consumer) → is_some (consumer_of (xs ++ y ∷ []) s c) ≡ false → (is_some (consumer_of xs s c) ≡ false) × (has_number s c y ≡ false)
@@ -111,6 +113,19 @@ founded_received : (s : SessionId) (c : ℕ) (p : Content → Bool) (f : Row →
 founded_received s c p f now None state h = h
 founded_received s c p f now (Some l) state h = λ m. none_at (Own s c) l (deliver_placed now f) state.stations (h m)
 
+founded_marked : (s : SessionId) (c : ℕ) (f : Consumer → Consumer) → KeepsName f → (state : State) → Founded s c state → Founded s c (record state { consumers = map f state.consumers })
+founded_marked s c f k state h = λ m. h (sym (made_map f k s c state.consumers) ∙ m)
+
+founded_taken : (s : SessionId) (c : ℕ) (p : Content → Bool) (t : SessionId) (n now : ℕ) (o : Option Key) (state : State) → Founded s c state → Founded s c (take p t n now o state)
+founded_taken s c p t n now None state h = founded_marked s c (busy_if t n false) (busy_keeps t n false) state h
+founded_taken s c p t n now (Some l) state h =
+    let coming : Bool = is_coming now (rows_under p l state) in
+    λ m. none_at (Own s c) l (deliver_placed now (taken t n)) state.stations (h (sym (made_map (busy_if t n coming) (busy_keeps t n coming) s c state.consumers) ∙ m))
+
+founded_done : (s : SessionId) (c : ℕ) (t : SessionId) (n : ℕ) (ok : Bool) (o : Option Key) (state : State) → Founded s c state → Founded s c (with_done t n ok o state)
+founded_done s c t n ok None state h = h
+founded_done s c t n ok (Some l) state h = λ m. none_at (Own s c) l (done_rows t n ok) state.stations (h m)
+
 -- a subscription of another key is had
 founded_subscribed : (s : SessionId) (c : ℕ) (t : SessionId) (n : ℕ) (l : Key) (d : Definition) (state : State) → key_eq l (Own s c) ≡ false → Founded s c state → Founded s c (subscribed t n l d state)
 founded_subscribed s c t n l d state e h = go (is_same (definition_of (station_of l state.stations)) d)
@@ -147,6 +162,14 @@ founded_after s c state (Session t) (Receive n now) h =
 founded_after s c state (Session t) Acknowledge h = founded_if s c (is_client (mode_of state.life t)) (settled (of_session t) state) state (founded_settled s c (of_session t) state h) h
 founded_after s c state (Session t) Recover h = founded_returned s c (of_session t) state h
 founded_after s c state (Session t) Rollback h = founded_returned s c (of_session t) state h
+founded_after s c state (Session t) (SetListener n on) h = founded_marked s c (listening_if t n on) (listening_keeps t n on) state h
+founded_after s c state (Session t) (Take n now) h =
+    founded_if s c (is_started state.life t.connection) (take (selected_by (consumer_of state.consumers t n)) t n now (key_at (consumer_of state.consumers t n)) state) state
+    (founded_taken s c (selected_by (consumer_of state.consumers t n)) t n now (key_at (consumer_of state.consumers t n)) state h) h
+founded_after s c state (Session t) (DoneWith n ok) h =
+    let free : State = record state { consumers = set_busy t n false state.consumers } in
+    let marked : Founded s c free = founded_marked s c (busy_if t n false) (busy_keeps t n false) state h in
+    founded_if s c (settles_at_once (mode_of state.life t)) (with_done t n ok (key_at (consumer_of state.consumers t n)) free) free (founded_done s c t n ok (key_at (consumer_of state.consumers t n)) free marked) marked
 founded_after s c state (Session t) _ h = h
 
 founded_moved : (s : SessionId) (c : ℕ) (o : Option Refusal) (x y : State) → Founded s c x → Founded s c y → Founded s c (moved o x y)

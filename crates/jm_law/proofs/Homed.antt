@@ -13,7 +13,7 @@ use Rattle.jm_header.specs.declared.content.Content.{Content}
 use Rattle.jm_machine.specs.declared.call.Who.{Who}
 use Rattle.jm_machine.specs.declared.call.Who.TheVariants.{Connection, Session}
 use Rattle.jm_machine.specs.declared.call.Request.{Request}
-use Rattle.jm_machine.specs.declared.call.Request.TheVariants.{CloseConnection, CloseSession, CreateConsumer, CreateDurable, CreateShared, CreateSharedDurable, Unsubscribe, CloseConsumer, Receive, Acknowledge, Recover, Rollback}
+use Rattle.jm_machine.specs.declared.call.Request.TheVariants.{CloseConnection, CloseSession, CreateConsumer, CreateDurable, CreateShared, CreateSharedDurable, Unsubscribe, CloseConsumer, Receive, Acknowledge, Recover, Rollback, Take, Done as DoneWith}
 use Rattle.jm_machine.specs.declared.call.Call.{Call}
 use Rattle.jm_machine.specs.declared.call.Call.TheVariants.{Ask, Publish, Commit}
 use Rattle.jm_machine.specs.declared.state.Consumer.{Consumer}
@@ -24,8 +24,8 @@ use Rattle.jm_machine.specs.declared.state.RowState.{RowState}
 use Rattle.jm_machine.specs.declared.state.RowState.TheVariants.{Waiting, Out}
 use Rattle.jm_machine.specs.declared.state.Station.{Station}
 use Rattle.jm_machine.specs.Life.{client_of, mode_of, is_started}
-use Rattle.jm_machine.specs.Rows.{bare, fresh, is_out, left_of, sent_out, settles_at_once, live_placed, change_placed, deliver_placed}
-use Rattle.jm_machine.specs.Machine.{State, Publisher, publisher_of, accepts, is_full, one_missed, brought, offered, with_message, published, with_rows, at_key, without, station_of, rows_of, consumer_of, key_at, defined, selected_by, durable_of, shared_of, asked, is_same, subscribed, put, joined, definition_of, of_session, of_connection, settled_rows, returned_rows, settled, returned, closed, with_life, is_client, receive, held, refusal, publish_refusal, commit_refusal, after, after_commit, moved, step}
+use Rattle.jm_machine.specs.Rows.{bare, fresh, is_out, left_of, taken, sent_out, settles_at_once, live_placed, change_placed, deliver_placed}
+use Rattle.jm_machine.specs.Machine.{State, Publisher, publisher_of, accepts, is_full, one_missed, brought, offered, with_message, published, with_rows, at_key, without, station_of, rows_of, consumer_of, key_at, defined, selected_by, durable_of, shared_of, asked, is_same, subscribed, put, joined, definition_of, of_session, of_connection, of_number, settled_rows, returned_rows, settled, returned, closed, with_life, is_client, receive, set_busy, take, done_rows, with_done, held, refusal, publish_refusal, commit_refusal, after, after_commit, moved, step}
 use Rattle.jm_machine.specs.Reopened.{AreDurable, AreWaiting}
 use Rattle.jm_machine.specs.Isolation.{Reached}
 use Rattle.jm_machine.specs.Isolation.Reached.{New, Reopened, Stepped}
@@ -76,14 +76,21 @@ home_left k mode s c place r i = go (settles_at_once mode)
     go true = tt
     go false = (i, tt)
 
-home_change : (k : Key) (mode : Option Mode) (s : SessionId) (c : ℕ) → OwnFits k s c → (p : Row → Bool) (xs : List PlacedRow) → RowsHome k xs → RowsHome k (change_placed p (left_of mode s c) xs)
-home_change k mode s c i p [] h = tt
-home_change k mode s c i p (x ∷ xs) h = go (p x.row) (home_change k mode s c i p xs h.1)
+-- what is left of a delivered row waits, or is out to a consumer that the key fits
+abbrev LeavesHome : Key → (Row → List Row) → Type 0
+LeavesHome k f = (place : ℕ) (r : Row) → RowsHome k (map (λ x. record { place = place; row = x }) (f r))
+
+home_change : (k : Key) (f : Row → List Row) → LeavesHome k f → (p : Row → Bool) (xs : List PlacedRow) → RowsHome k xs → RowsHome k (change_placed p f xs)
+home_change k f i p [] h = tt
+home_change k f i p (x ∷ xs) h = go (p x.row) (home_change k f i p xs h.1)
   where
-    go : (b : Bool) → RowsHome k (change_placed p (left_of mode s c) xs) →
-        RowsHome k (cond b (map (λ r. record { place = x.place; row = r }) (left_of mode s c x.row) ++ xs) (x ∷ change_placed p (left_of mode s c) xs))
-    go true r = home_append k (map (λ r. record { place = x.place; row = r }) (left_of mode s c x.row)) xs (home_left k mode s c x.place x.row i) h.1
+    go : (b : Bool) → RowsHome k (change_placed p f xs) → RowsHome k (cond b (map (λ r. record { place = x.place; row = r }) (f x.row) ++ xs) (x ∷ change_placed p f xs))
+    go true r = home_append k (map (λ r. record { place = x.place; row = r }) (f x.row)) xs (i x.place x.row) h.1
     go false r = (h.0, r)
+
+home_done : (k : Key) (s : SessionId) (c : ℕ) (ok : Bool) (xs : List PlacedRow) → RowsHome k xs → RowsHome k (done_rows s c ok xs)
+home_done k s c true xs h = home_filter k _ xs h
+home_done k s c false xs h = home_returned k (of_number s c) xs h
 
 -- ---- subscriptions
 
@@ -150,9 +157,13 @@ unfolding published
 home_published state [] h = h
 home_published state (m ∷ ms) h = home_published (with_message state m) ms (all_offered state.limit (publisher_of state.life m) m state.next_place state.stations h)
 
-home_received : (p : Content → Bool) (mode : Option Mode) (s : SessionId) (c now : ℕ) (o : Option Consumer) (state : State) → FitsOwn s c o → Homed state → Homed (receive p (left_of mode s c) now (key_at o) state)
-home_received p mode s c now None state k h = h
-home_received p mode s c now (Some x) state k h = all_at (deliver_placed now (left_of mode s c)) x.key (λ xs i. home_change x.key mode s c k _ (live_placed now xs) (home_filter x.key _ xs i)) state.stations h
+home_received : (p : Content → Bool) (f : Row → List Row) (now : ℕ) (s : SessionId) (c : ℕ) (o : Option Consumer) (state : State) → ((k : Key) → OwnFits k s c → LeavesHome k f) → FitsOwn s c o → Homed state → Homed (receive p f now (key_at o) state)
+home_received p f now s c None state i k h = h
+home_received p f now s c (Some x) state i k h = all_at (deliver_placed now f) x.key (λ xs g. home_change x.key f (i x.key k) _ (live_placed now xs) (home_filter x.key _ xs g)) state.stations h
+
+home_with_done : (s : SessionId) (c : ℕ) (ok : Bool) (o : Option Key) (state : State) → Homed state → Homed (with_done s c ok o state)
+home_with_done s c ok None state h = h
+home_with_done s c ok (Some k) state h = all_at (done_rows s c ok) k (home_done k s c ok) state.stations h
 
 home_if : (b : Bool) (x y : State) → Homed x → Homed y → Homed (cond b x y)
 home_if true x y p q = p
@@ -186,10 +197,16 @@ home_after state (Session s) (Unsubscribe name) k h = all_filter _ state.station
 home_after state (Session s) (CloseConsumer c) k h = all_filter _ state.stations h
 home_after state (Session s) (Receive c now) k h =
     home_if (is_started state.life s.connection) (receive (selected_by (consumer_of state.consumers s c)) (left_of (mode_of state.life s) s c) now (key_at (consumer_of state.consumers s c)) state) state
-    (home_received (selected_by (consumer_of state.consumers s c)) (mode_of state.life s) s c now (consumer_of state.consumers s c) state (k s c) h) h
+    (home_received (selected_by (consumer_of state.consumers s c)) (left_of (mode_of state.life s) s c) now s c (consumer_of state.consumers s c) state (λ y i place r. home_left y (mode_of state.life s) s c place r i) (k s c) h) h
 home_after state (Session s) Acknowledge k h = home_if (is_client (mode_of state.life s)) (settled (of_session s) state) state (all_each (settled_rows (of_session s)) (λ k. home_filter k _) state.stations h) h
 home_after state (Session s) Recover k h = all_each (returned_rows (of_session s)) (λ k. home_returned k (of_session s)) state.stations h
 home_after state (Session s) Rollback k h = all_each (returned_rows (of_session s)) (λ k. home_returned k (of_session s)) state.stations h
+home_after state (Session s) (Take c now) k h =
+    home_if (is_started state.life s.connection) (take (selected_by (consumer_of state.consumers s c)) s c now (key_at (consumer_of state.consumers s c)) state) state
+    (home_received (selected_by (consumer_of state.consumers s c)) (taken s c) now s c (consumer_of state.consumers s c) state (λ y i place r. (i, tt)) (k s c) h) h
+home_after state (Session s) (DoneWith c ok) k h =
+    let free : State = record state { consumers = set_busy s c false state.consumers } in
+    home_if (settles_at_once (mode_of state.life s)) (with_done s c ok (key_at (consumer_of state.consumers s c)) free) free (home_with_done s c ok (key_at (consumer_of state.consumers s c)) free h) h
 home_after state (Session s) _ k h = h
 
 home_committed : (state : State) (who : Who) (ms : List Content) → Homed state → Homed (after_commit state who ms)

@@ -11,18 +11,19 @@ use Rattle.jm_dest.specs.Names.{session_eq}
 use Rattle.jm_machine.specs.declared.call.Who.{Who}
 use Rattle.jm_machine.specs.declared.call.Who.TheVariants.{Connection, Session}
 use Rattle.jm_machine.specs.declared.call.Request.{Request}
-use Rattle.jm_machine.specs.declared.call.Request.TheVariants.{CloseConnection, CloseSession, CreateConsumer, CreateDurable, CreateShared, CreateSharedDurable, CloseConsumer, Receive, Acknowledge}
+use Rattle.jm_machine.specs.declared.call.Request.TheVariants.{CloseConnection, CloseSession, CreateConsumer, CreateDurable, CreateShared, CreateSharedDurable, CloseConsumer, Receive, Acknowledge, SetListener, Take, Done as DoneWith}
 use Rattle.jm_machine.specs.declared.call.Call.{Call}
 use Rattle.jm_machine.specs.declared.call.Call.TheVariants.{Ask, Publish, Commit}
 use Rattle.jm_machine.specs.declared.state.Consumer.{Consumer}
 use Rattle.jm_machine.specs.Life.{client_of, is_started, mode_of}
-use Rattle.jm_machine.specs.Rows.{left_of}
-use Rattle.jm_machine.specs.Machine.{State, durable_of, shared_of, asked, subscribed, selected_by, standing_as, new_consumer, has_number, consumer_of, key_at, closed_consumer, of_session, of_connection, of_number, settled, is_client, receive, held, refusal, publish_refusal, commit_refusal, after, after_commit, published, moved, step}
+use Rattle.jm_machine.specs.Rows.{left_of, settles_at_once}
+use Rattle.jm_machine.specs.Machine.{State, durable_of, shared_of, asked, subscribed, selected_by, standing_as, new_consumer, has_number, consumer_of, key_at, closed_consumer, of_session, of_connection, of_number, settled, is_client, receive, listening_if, busy_if, set_busy, take, with_done, held, refusal, publish_refusal, commit_refusal, after, after_commit, published, moved, step}
 use Rattle.jm_machine.specs.Isolation.{Reached}
 use Rattle.jm_machine.specs.Isolation.Reached.{New, Reopened, Stepped}
 use Rattle.jm_machine.proofs.Keys.{session_same, session_refl}
+use Rattle.jm_machine.proofs.Marks.{KeepsName, closed_keeps, listening_keeps, busy_keeps}
 use Rattle.jm_machine.specs.declared.state.Definition.{Definition}
-use Rattle.jm_law.proofs.Run.{subscribed_consumers, published_consumers, received_consumers, committed_consumers}
+use Rattle.jm_law.proofs.Run.{subscribed_consumers, published_consumers, received_consumers, done_consumers, committed_consumers}
 
 -- a consumer's own key is that of its number
 abbrev pub OwnFits : Key → SessionId → ℕ → Type 0
@@ -39,13 +40,13 @@ keyed_push : (y : Consumer) → OwnFits y.key y.session y.id → (xs : List Cons
 keyed_push y h [] k = (h, tt)
 keyed_push y h (x ∷ xs) k = (k.0, keyed_push y h xs k.1)
 
+keyed_map : (f : Consumer → Consumer) → KeepsName f → (xs : List Consumer) → Keyed xs → Keyed (map f xs)
+keyed_map f k [] h = tt
+keyed_map f k (x ∷ xs) h =
+    (subst (λ (y : Key). OwnFits y (f x).session (f x).id) (sym (k.key x)) (subst (λ (t : SessionId). OwnFits x.key t (f x).id) (sym (k.session x)) (subst (λ (n : ℕ). OwnFits x.key x.session n) (sym (k.id x)) h.0)), keyed_map f k xs h.1)
+
 keyed_closed : (p : SessionId → ℕ → Bool) (xs : List Consumer) → Keyed xs → Keyed (map (closed_consumer p) xs)
-keyed_closed p [] k = tt
-keyed_closed p (x ∷ xs) k = (go (p x.session x.id), keyed_closed p xs k.1)
-  where
-    go : (b : Bool) → OwnFits (cond b (record x { is_active = false }) x).key (cond b (record x { is_active = false }) x).session (cond b (record x { is_active = false }) x).id
-    go true = k.0
-    go false = k.0
+keyed_closed p xs k = keyed_map (closed_consumer p) (closed_keeps p) xs k
 
 self : (s : SessionId) (c : ℕ) → (session_eq s s && (c == c)) ≡ true
 self s c = grind (arith, nat_tests, session_refl s)
@@ -76,6 +77,15 @@ keyed_after state (Session s) (CreateSharedDurable c destination name selector) 
 keyed_after state (Session s) (Receive c now) k =
     keyed_if (is_started state.life s.connection) (receive (selected_by (consumer_of state.consumers s c)) (left_of (mode_of state.life s) s c) now (key_at (consumer_of state.consumers s c)) state) state
     (subst Keyed (sym (received_consumers (selected_by (consumer_of state.consumers s c)) (left_of (mode_of state.life s) s c) now (key_at (consumer_of state.consumers s c)) state)) k) k
+keyed_after state (Session s) (SetListener c on) k = keyed_map (listening_if s c on) (listening_keeps s c on) state.consumers k
+keyed_after state (Session s) (Take c now) k =
+    keyed_if (is_started state.life s.connection) (take (selected_by (consumer_of state.consumers s c)) s c now (key_at (consumer_of state.consumers s c)) state) state
+    (keyed_map (busy_if s c _) (busy_keeps s c _) state.consumers k) k
+keyed_after state (Session s) (DoneWith c ok) k =
+    let free : State = record state { consumers = set_busy s c false state.consumers } in
+    let marked : Keyed free.consumers = keyed_map (busy_if s c false) (busy_keeps s c false) state.consumers k in
+    keyed_if (settles_at_once (mode_of state.life s)) (with_done s c ok (key_at (consumer_of state.consumers s c)) free) free
+    (subst Keyed (sym (done_consumers s c ok (key_at (consumer_of state.consumers s c)) free)) marked) marked
 keyed_after state (Session s) _ k = k
 
 keyed_step : (state : State) (who : Who) (call : Call) → Keyed state.consumers → Keyed (step state who call).consumers

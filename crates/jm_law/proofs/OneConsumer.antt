@@ -16,7 +16,7 @@ use Rattle.jm_header.specs.declared.content.Content.{Content}
 use Rattle.jm_machine.specs.declared.call.Who.{Who}
 use Rattle.jm_machine.specs.declared.call.Who.TheVariants.{Connection, Session}
 use Rattle.jm_machine.specs.declared.call.Request.{Request}
-use Rattle.jm_machine.specs.declared.call.Request.TheVariants.{CloseConnection, CloseSession, CreateConsumer, CreateDurable, CreateShared, CreateSharedDurable, Unsubscribe, CloseConsumer, Receive, Acknowledge, Recover, Rollback}
+use Rattle.jm_machine.specs.declared.call.Request.TheVariants.{CloseConnection, CloseSession, CreateConsumer, CreateDurable, CreateShared, CreateSharedDurable, Unsubscribe, CloseConsumer, Receive, Acknowledge, Recover, Rollback, SetListener, Take, Done as DoneWith}
 use Rattle.jm_machine.specs.declared.call.Call.{Call}
 use Rattle.jm_machine.specs.declared.call.Call.TheVariants.{Ask, Publish, Commit}
 use Rattle.jm_machine.specs.declared.state.Consumer.{Consumer}
@@ -25,13 +25,14 @@ use Rattle.jm_machine.specs.declared.state.PlacedRow.{PlacedRow}
 use Rattle.jm_machine.specs.declared.state.Row.{Row}
 use Rattle.jm_machine.specs.declared.state.Station.{Station}
 use Rattle.jm_machine.specs.Life.{client_of, is_started, mode_of}
-use Rattle.jm_machine.specs.Rows.{fresh, left_of, deliver_placed}
+use Rattle.jm_machine.specs.Rows.{fresh, left_of, taken, settles_at_once, deliver_placed}
 use Rattle.jm_machine.specs.Attached.{is_at, active_at}
-use Rattle.jm_machine.specs.Machine.{State, Publisher, publisher_of, accepts, is_full, one_missed, brought, offered, with_message, published, with_rows, at_key, station_of, definition_of, consumer_of, key_at, selected_by, new_consumer, standing_as, defined, durable_of, shared_of, asked, same_definition, is_same, is_same_kind, same_mark, is_idle, is_home, is_free, may_resume, put, joined, subscribed, deleted, of_session, of_connection, of_number, settled_rows, returned_rows, settled, returned, closed_consumer, ends, closed, with_life, is_client, receive, held, Holding, holding_of, is_of_topic, may_begin, subscription_refusal, same_selector, unless, first_cause, refusal, publish_refusal, commit_refusal, after, after_commit, moved, step}
+use Rattle.jm_machine.specs.Machine.{State, Publisher, publisher_of, accepts, is_full, one_missed, brought, offered, with_message, published, with_rows, at_key, station_of, definition_of, consumer_of, key_at, selected_by, new_consumer, standing_as, defined, durable_of, shared_of, asked, same_definition, is_same, is_same_kind, same_mark, is_idle, is_home, is_free, may_resume, put, joined, subscribed, deleted, of_session, of_connection, of_number, settled_rows, returned_rows, settled, returned, closed_consumer, ends, closed, with_life, is_client, receive, listening_if, busy_if, set_busy, is_coming, take, done_rows, with_done, rows_under, held, Holding, holding_of, is_of_topic, may_begin, subscription_refusal, same_selector, unless, first_cause, refusal, publish_refusal, commit_refusal, after, after_commit, moved, step}
 use Rattle.jm_machine.specs.Isolation.{Reached, is_shared}
 use Rattle.jm_machine.specs.Isolation.Reached.{New, Reopened, Stepped}
 use Rattle.jm_law.specs.OneConsumer.{OneConsumerEach}
 use Rattle.jm_machine.proofs.Keys.{key_same}
+use Rattle.jm_machine.proofs.Marks.{KeepsName, listening_keeps, busy_keeps, listening_active, busy_active}
 use Rattle.jm_law.proofs.Lists.{push_out}
 use Rattle.jm_law.proofs.Stations.{mapped, station_of-map, station_of-at, station_of_other-at, station-put, other-put, station-without, other-without, station-ended}
 use Rattle.jm_law.proofs.Projection.{refused}
@@ -73,6 +74,12 @@ still_at k p x = go (p x.session x.id)
 active_closed : (k : Key) (p : SessionId → ℕ → Bool) (xs : List Consumer) → active_at k (map (closed_consumer p) xs) ≤ active_at k xs
 active_closed k p [] = omega arith
 active_closed k p (x ∷ xs) = more (is_at k (closed_consumer p x)) (is_at k x) (closed_consumer p x) x (filter (is_at k) (map (closed_consumer p) xs)) (filter (is_at k) xs) (still_at k p x) (active_closed k p xs)
+
+-- the marks of listeners leave as many active
+active_marked : (k : Key) (f : Consumer → Consumer) → KeepsName f → ((x : Consumer) → (f x).is_active ≡ x.is_active) → (xs : List Consumer) → active_at k (map f xs) ≤ active_at k xs
+active_marked k f n a [] = omega arith
+active_marked k f n a (x ∷ xs) =
+    more (is_at k (f x)) (is_at k x) (f x) x (filter (is_at k) (map f xs)) (filter (is_at k) xs) (λ h. sym (ap (λ (b : Bool). key_eq (f x).key k && b) (a x) ∙ ap (λ (y : Key). key_eq y k && x.is_active) (n.key x)) ∙ h) (active_marked k f n a xs)
 
 -- a consumer of another key joins, and one of any
 active_other : (k : Key) (y : Consumer) (xs : List Consumer) → is_at k y ≡ false → active_at k (xs ++ y ∷ []) ≤ active_at k xs
@@ -168,6 +175,19 @@ fine_published k state (m ∷ ms) h = fine_published k (with_message state m) ms
 fine_received : (k : Key) (p : Content → Bool) (f : Row → List Row) (now : ℕ) (o : Option Key) (state : State) → Fine k state → Fine k (receive p f now o state)
 fine_received k p f now None state h = h
 fine_received k p f now (Some l) state h = alike _ _ _ _ (defined_at k l (deliver_placed now f) state.stations) (less_same (active_at k state.consumers)) h
+
+fine_marked : (k : Key) (f : Consumer → Consumer) → KeepsName f → ((x : Consumer) → (f x).is_active ≡ x.is_active) → (state : State) → Fine k state → Fine k (record state { consumers = map f state.consumers })
+fine_marked k f n a state h = alike _ _ _ _ refl (active_marked k f n a state.consumers) h
+
+fine_taken : (k : Key) (p : Content → Bool) (s : SessionId) (c now : ℕ) (o : Option Key) (state : State) → Fine k state → Fine k (take p s c now o state)
+fine_taken k p s c now None state h = alike _ _ _ _ refl (active_marked k (busy_if s c false) (busy_keeps s c false) (busy_active s c false) state.consumers) h
+fine_taken k p s c now (Some l) state h =
+    let coming : Bool = is_coming now (rows_under p l state) in
+    alike _ _ _ _ (defined_at k l (deliver_placed now (taken s c)) state.stations) (active_marked k (busy_if s c coming) (busy_keeps s c coming) (busy_active s c coming) state.consumers) h
+
+fine_done : (k : Key) (s : SessionId) (c : ℕ) (ok : Bool) (o : Option Key) (state : State) → Fine k state → Fine k (with_done s c ok o state)
+fine_done k s c ok None state h = h
+fine_done k s c ok (Some l) state h = alike _ _ _ _ (defined_at k l (done_rows s c ok) state.stations) (less_same (active_at k state.consumers)) h
 
 fine_settled : (k : Key) (p : SessionId → ℕ → Bool) (state : State) → Fine k state → Fine k (settled p state)
 fine_settled k p state h = alike _ _ _ _ (defined_each k (settled_rows p) state.stations) (less_same (active_at k state.consumers)) h
@@ -348,6 +368,14 @@ fine_after client name state (Session s) (Receive c now) n h =
 fine_after client name state (Session s) Acknowledge n h = fine_if (Durable client name) (is_client (mode_of state.life s)) (settled (of_session s) state) state (fine_settled (Durable client name) (of_session s) state h) h
 fine_after client name state (Session s) Recover n h = fine_returned (Durable client name) (of_session s) state h
 fine_after client name state (Session s) Rollback n h = fine_returned (Durable client name) (of_session s) state h
+fine_after client name state (Session s) (SetListener c on) n h = fine_marked (Durable client name) (listening_if s c on) (listening_keeps s c on) (listening_active s c on) state h
+fine_after client name state (Session s) (Take c now) n h =
+    fine_if (Durable client name) (is_started state.life s.connection) (take (selected_by (consumer_of state.consumers s c)) s c now (key_at (consumer_of state.consumers s c)) state) state
+    (fine_taken (Durable client name) (selected_by (consumer_of state.consumers s c)) s c now (key_at (consumer_of state.consumers s c)) state h) h
+fine_after client name state (Session s) (DoneWith c ok) n h =
+    let free : State = record state { consumers = set_busy s c false state.consumers } in
+    let marked : Fine (Durable client name) free = fine_marked (Durable client name) (busy_if s c false) (busy_keeps s c false) (busy_active s c false) state h in
+    fine_if (Durable client name) (settles_at_once (mode_of state.life s)) (with_done s c ok (key_at (consumer_of state.consumers s c)) free) free (fine_done (Durable client name) s c ok (key_at (consumer_of state.consumers s c)) free marked) marked
 fine_after client name state (Session s) _ n h = h
 
 fine_moved : (k : Key) (o : Option Refusal) (x y : State) → (o ≡ None → Fine k x) → Fine k y → Fine k (moved o x y)

@@ -13,7 +13,7 @@ use Rattle.jm_dest.specs.declared.destination.Destination.TheVariants.{Queue, To
 use Rattle.jm_header.specs.declared.content.Content.{Content}
 use Rattle.jm_machine.specs.declared.call.Who.TheVariants.{Connection, Session}
 use Rattle.jm_machine.specs.declared.call.Request.{Request}
-use Rattle.jm_machine.specs.declared.call.Request.TheVariants.{CloseConnection, CreateSession, CloseSession, CreateConsumer, CreateDurable, CreateShared, CreateSharedDurable, Unsubscribe, CloseConsumer, Receive, Acknowledge, Recover, Rollback, Missed}
+use Rattle.jm_machine.specs.declared.call.Request.TheVariants.{CloseConnection, CreateSession, CloseSession, CreateConsumer, CreateDurable, CreateShared, CreateSharedDurable, Unsubscribe, CloseConsumer, Receive, Acknowledge, Recover, Rollback, Missed, SetListener, Take, Done as DoneWith}
 use Rattle.jm_machine.specs.declared.call.Call.TheVariants.{Ask}
 use Rattle.jm_machine.specs.declared.answer.Answer.{Answer}
 use Rattle.jm_machine.specs.declared.call.Who.{Who}
@@ -26,16 +26,17 @@ use Rattle.jm_machine.specs.declared.state.Definition.{Definition}
 use Rattle.jm_machine.specs.declared.state.Consumer.{Consumer}
 use Rattle.jm_machine.specs.Owns.{is_own, is_own_connection}
 use Rattle.jm_machine.specs.Life.{Life, client_of, mode_of, is_started, life_after, own_life}
-use Rattle.jm_machine.specs.Rows.{is_out, goes_out, given_back, left_of, bare, deliver, deliver_placed}
-use Rattle.jm_machine.specs.Machine.{State, station_of, definition_of, missed_of, rows_of, with_rows, put, joined, made, subscribed, deleted, durable_of, shared_of, asked, is_same, may_resume, is_home, is_idle, may_begin, subscription_refusal, first_cause, is_free, holding_of, Holding, key_made, rows_under, selected_by, consumer_of, is_active, key_at, held, unless, defined, of_session, of_connection, of_number, settled_rows, returned_rows, settled, returned, closed_consumer, ends, closed, with_life, is_client, receive, refusal, answer, after, replied, reply}
-use Rattle.jm_machine.specs.Lone.{Scope, Lone, lone_of, lone_put, lone_joined, lone_made, lone_subscribed, lone_ended, lone_settled, lone_returned, lone_closed, lone_life, lone_receive, lone_did, about, belongs, true_or_none, is_true, lone_holding, lone_refusal, lone_reply}
+use Rattle.jm_machine.specs.Rows.{is_out, goes_out, given_back, left_of, taken, settles_at_once, bare, deliver, deliver_placed}
+use Rattle.jm_machine.specs.Machine.{State, station_of, definition_of, missed_of, rows_of, with_rows, put, joined, made, subscribed, deleted, durable_of, shared_of, asked, is_same, may_resume, is_home, is_idle, may_begin, subscription_refusal, first_cause, is_free, holding_of, Holding, key_made, rows_under, selected_by, consumer_of, is_active, key_at, held, unless, defined, of_session, of_connection, of_number, settled_rows, returned_rows, settled, returned, closed_consumer, ends, closed, with_life, is_client, receive, listening_if, busy_if, set_busy, is_coming, take, done_rows, with_done, refusal, answer, after, replied, reply}
+use Rattle.jm_machine.specs.Lone.{Scope, Lone, lone_of, lone_put, lone_joined, lone_made, lone_subscribed, lone_ended, lone_settled, lone_returned, lone_closed, lone_life, lone_receive, lone_take, lone_did, about, belongs, true_or_none, is_true, lone_holding, lone_refusal, lone_reply}
 use Rattle.jm_machine.proofs.Keys.{session_same, key_same, key_refl}
+use Rattle.jm_machine.proofs.Marks.{KeepsName, listening_keeps, busy_keeps}
 use Rattle.jm_law.proofs.Owned.{own_connection}
 use Rattle.jm_law.proofs.Lists.{push_in, push_out, cond_map, cond_one}
 use Rattle.jm_machine.proofs.Bare.{bare-deliver, bare-settled, bare-returned}
 use Rattle.jm_law.proofs.Stations.{mapped, station_of-map, station_of-at, station_of_other-at, station-put, other-put, station-without, other-without, station-ended}
 use Rattle.jm_law.proofs.Life.{own_mode, own_client, own_started, own_session, own_new, own_closes, life_own, life_other}
-use Rattle.jm_law.proofs.Consumers.{Unshared, FairRequest, Placed, Sound, OutBy, OwnOut, Passes, IsOther, consumer_own, key_mine, key_not_mine, closed_in, closed_out, ends_in, ends_out}
+use Rattle.jm_law.proofs.Consumers.{Unshared, FairRequest, Placed, Sound, OutBy, OwnOut, Passes, IsOther, consumer_own, key_mine, key_not_mine, closed_in, closed_out, kept_in, kept_out, listening_out, busy_out, ends_in, ends_out}
 
 -- what is held of a key, from its station
 abbrev pub lone_at : ℕ → Life → List Consumer → Option Station → Lone
@@ -158,6 +159,15 @@ unfolding lone_of
 receive_other S p f now None state h = refl
 receive_other S p f now (Some k) state h = three refl refl (station_of_other-at S.key k (with_rows (deliver_placed now f)) (λ y. refl) h state.stations)
 
+-- consumers change that keep their keys and numbers, and others alone
+marked_own : (S : Scope) (f : Consumer → Consumer) → KeepsName f → (state : State) → lone_of S (record state { consumers = map f state.consumers }) ≡ record (lone_of S state) { consumers = map f (lone_of S state).consumers }
+unfolding lone_of
+marked_own S f k state = three refl (kept_in S f k state.consumers) refl
+
+marked_other : (S : Scope) (f : Consumer → Consumer) → KeepsName f → ((x : Consumer) → belongs S x.session x.id ≡ true → f x ≡ x) → (state : State) → Placed S state.consumers → lone_of S (record state { consumers = map f state.consumers }) ≡ lone_of S state
+unfolding lone_of
+marked_other S f k h state q = three refl (kept_out S f k h state.consumers q) refl
+
 -- the key's subscription is made, and another's
 put_own : (S : Scope) (s : SessionId) (c : ℕ) (d : Definition) (state : State) → Own s c ≡ S.key → lone_of S (joined s c (Own s c) None (put (Own s c) d state)) ≡ lone_joined s c S.key (lone_put d (lone_of S state))
 unfolding lone_of
@@ -222,6 +232,48 @@ holding_own : (S : Scope) (p : Content → Bool) (k : Key) (state : State) → U
 unfolding lone_of
 holding_own S p k state u h = ap (λ (rs : List Row). record (lone_holding (lone_of S state)) { rows = rs }) (sym (rows_all S p state u)) ∙ ap (λ (l : Key). holding_of p l state) (sym (key_same k S.key h))
 
+-- the listener of a consumer of the key takes a message, and that of one of another key
+take_own : (S : Scope) (p : Content → Bool) (s : SessionId) (c now : ℕ) (k : Option Key) (state : State) → Unshared S.key → k ≡ Some S.key → lone_of S (take p s c now k state) ≡ lone_take s c now (lone_of S state)
+unfolding lone_of
+take_own S p s c now k state u e =
+    let own : List Consumer = filter (λ y. key_eq y.key S.key) state.consumers in
+    let coming : Bool = is_coming now (rows_under p S.key state) in
+    ap (λ (k : Option Key). lone_of S (take p s c now k state)) e
+    ∙ three refl (kept_in S (busy_if s c coming) (busy_keeps s c coming) state.consumers ∙ ap (λ (rs : List Row). set_busy s c (is_coming now rs) own) (rows_all S p state u)) (station_of-at S.key (with_rows (deliver_placed now (taken s c))) (λ y. refl) state.stations)
+    ∙ rows_case (deliver_placed now (taken s c)) (deliver now (taken s c)) (bare-deliver now (taken s c)) refl state.limit (own_life S.sessions state.life)
+    (set_busy s c (is_coming now (rows_of (station_of S.key state.stations))) own) (station_of S.key state.stations)
+
+take_other : (S : Scope) (p : Content → Bool) (s : SessionId) (c now : ℕ) (k : Option Key) (state : State) → belongs S s c ≡ false → Placed S state.consumers → IsOther S k → lone_of S (take p s c now k state) ≡ lone_of S state
+unfolding lone_of
+take_other S p s c now None state n q h = three refl (kept_out S (busy_if s c false) (busy_keeps s c false) (busy_out S s c false n) state.consumers q) refl
+take_other S p s c now (Some k) state n q h =
+    let coming : Bool = is_coming now (rows_under p k state) in
+    three refl (kept_out S (busy_if s c coming) (busy_keeps s c coming) (busy_out S s c coming n) state.consumers q) (station_of_other-at S.key k (with_rows (deliver_placed now (taken s c))) (λ y. refl) h state.stations)
+
+-- it is done with one, and that of one of another key
+rows_done_own : (S : Scope) (s : SessionId) (c : ℕ) (ok : Bool) (state : State) → lone_of S (with_done s c ok (Some S.key) state) ≡ cond ok (lone_settled (of_number s c) (lone_of S state)) (lone_returned (of_number s c) (lone_of S state))
+unfolding lone_of
+rows_done_own S s c true state =
+    three refl refl (station_of-at S.key (with_rows (settled_rows (of_number s c))) (λ y. refl) state.stations)
+    ∙ rows_case (settled_rows (of_number s c)) (filter (λ r. not (is_out (of_number s c) r))) (bare-settled (of_number s c)) refl state.limit (own_life S.sessions state.life) (filter (λ y. key_eq y.key S.key) state.consumers) (station_of S.key state.stations)
+rows_done_own S s c false state =
+    three refl refl (station_of-at S.key (with_rows (returned_rows (of_number s c))) (λ y. refl) state.stations)
+    ∙ rows_case (returned_rows (of_number s c)) (map (given_back (of_number s c))) (bare-returned (of_number s c)) refl state.limit (own_life S.sessions state.life) (filter (λ y. key_eq y.key S.key) state.consumers) (station_of S.key state.stations)
+
+done_own : (S : Scope) (s : SessionId) (c : ℕ) (ok : Bool) (k : Option Key) (state : State) → k ≡ Some S.key →
+    lone_of S (with_done s c ok k (record state { consumers = set_busy s c false state.consumers }))
+    ≡ cond ok (lone_settled (of_number s c) (record (lone_of S state) { consumers = set_busy s c false (lone_of S state).consumers })) (lone_returned (of_number s c) (record (lone_of S state) { consumers = set_busy s c false (lone_of S state).consumers }))
+done_own S s c ok k state e =
+    let free : State = record state { consumers = set_busy s c false state.consumers } in
+    ap (λ (k : Option Key). lone_of S (with_done s c ok k free)) e
+    ∙ rows_done_own S s c ok free
+    ∙ ap (λ (l : Lone). cond ok (lone_settled (of_number s c) l) (lone_returned (of_number s c) l)) (marked_own S (busy_if s c false) (busy_keeps s c false) state)
+
+rows_done_other : (S : Scope) (s : SessionId) (c : ℕ) (ok : Bool) (k : Option Key) (state : State) → IsOther S k → lone_of S (with_done s c ok k state) ≡ lone_of S state
+unfolding lone_of
+rows_done_other S s c ok None state h = refl
+rows_done_other S s c ok (Some k) state h = three refl refl (station_of_other-at S.key k (with_rows (done_rows s c ok)) (λ y. refl) h state.stations)
+
 and_one : (x y : Bool) → (x && y) ≡ true → x ≡ true
 and_one true y h = refl
 and_one false y h = cc
@@ -265,6 +317,9 @@ own_refusal S state s Acknowledge u o f p n = rw (own_mode S.sessions state.life
 own_refusal S state s Recover u o f p n = rw (own_mode S.sessions state.life s o)
 own_refusal S state s Rollback u o f p n = rw (own_mode S.sessions state.life s o)
 own_refusal S state s (Missed c) u o f p n = rw (own_mode S.sessions state.life s o, consumer_own S s c n state.consumers p)
+own_refusal S state s (SetListener c on) u o f p n = rw (own_mode S.sessions state.life s o, consumer_own S s c n state.consumers p)
+own_refusal S state s (Take c now) u o f p n = rw (own_mode S.sessions state.life s o, consumer_own S s c n state.consumers p)
+own_refusal S state s (DoneWith c ok) u o f p n = rw (own_mode S.sessions state.life s o, consumer_own S s c n state.consumers p)
 own_refusal S state s _ u o f p n = refl
 
 -- a request that names a key, and is not refused, is an open session's
@@ -289,14 +344,22 @@ opened state s (CreateSharedDurable c destination name selector) i h = and_one _
 opened state s (Unsubscribe name) i h = first_passed _ _ h
 opened state s _ i h = cc
 
--- a receive that is not refused is a standing consumer's
+-- a receive that is not refused is a standing consumer's, and so is what its listener asks
 passed : (b : Bool) → unless b IllegalState ≡ None → b ≡ true
 passed true h = refl
 passed false h = cc
 
 receives : (state : State) (s : SessionId) (c now : ℕ) → refused state s (Receive c now) ≡ None → is_active (consumer_of state.consumers s c) ≡ true
 unfolding refusal
-receives state s c now h = and_two (is_some (mode_of state.life s)) _ (passed _ h)
+receives state s c now h = and_two (is_some (mode_of state.life s)) _ (and_one _ _ (passed _ h))
+
+takes : (state : State) (s : SessionId) (c now : ℕ) → refused state s (Take c now) ≡ None → is_active (consumer_of state.consumers s c) ≡ true
+unfolding refusal
+takes state s c now h = and_two (is_some (mode_of state.life s)) _ (and_one _ _ (passed _ h))
+
+is_done : (state : State) (s : SessionId) (c : ℕ) (ok : Bool) → refused state s (DoneWith c ok) ≡ None → is_active (consumer_of state.consumers s c) ≡ true
+unfolding refusal
+is_done state s c ok h = and_two (is_some (mode_of state.life s)) _ (and_one _ _ (passed _ h))
 
 counts : (state : State) (s : SessionId) (c : ℕ) → refused state s (Missed c) ≡ None → is_active (consumer_of state.consumers s c) ≡ true
 unfolding refusal
@@ -308,6 +371,7 @@ own_answer : (S : Scope) (state : State) (s : SessionId) (request : Request) →
 unfolding lone_of answer
 own_answer S state s (Receive c now) f o p n m = rw (own_started S.sessions state.life s o, key_mine S s c state.consumers p n (receives state s c now m), rows_all S (selected_by (consumer_of state.consumers s c)) state f)
 own_answer S state s (Missed c) f o p n m = rw (key_mine S s c state.consumers p n (counts state s c m))
+own_answer S state s (Take c now) f o p n m = rw (own_started S.sessions state.life s o, key_mine S s c state.consumers p n (takes state s c now m), rows_all S (selected_by (consumer_of state.consumers s c)) state f)
 own_answer S state s _ f o p n m = refl
 
 true_named : (a : Option Bool) → is_true a ≡ true → true_or_none a ≡ true
@@ -347,6 +411,16 @@ own_after S state s Acknowledge u f o p n m =
     rw (own_mode S.sessions state.life s o) (cond_map (lone_of S) (is_client (mode_of state.life s)) (settled (of_session s) state) state _ _ (λ _. project_settled S (of_session s) state) refl)
 own_after S state s Recover u f o p n m = project_returned S (of_session s) state
 own_after S state s Rollback u f o p n m = project_returned S (of_session s) state
+own_after S state s (SetListener c on) u f o p n m = marked_own S (listening_if s c on) (listening_keeps s c on) state
+own_after S state s (Take c now) u f o p n m =
+    rw (own_started S.sessions state.life s o)
+    (cond_map (lone_of S) (is_started state.life s.connection) (take (selected_by (consumer_of state.consumers s c)) s c now (key_at (consumer_of state.consumers s c)) state) state _ _
+    (λ _. take_own S (selected_by (consumer_of state.consumers s c)) s c now (key_at (consumer_of state.consumers s c)) state u (key_mine S s c state.consumers p n (takes state s c now m))) refl)
+own_after S state s (DoneWith c ok) u f o p n m =
+    let free : State = record state { consumers = set_busy s c false state.consumers } in
+    rw (own_mode S.sessions state.life s o)
+    (cond_map (lone_of S) (settles_at_once (mode_of state.life s)) (with_done s c ok (key_at (consumer_of state.consumers s c)) free) free _ _
+    (λ _. done_own S s c ok (key_at (consumer_of state.consumers s c)) state (key_mine S s c state.consumers p n (is_done state s c ok m))) (marked_own S (busy_if s c false) (busy_keeps s c false) state))
 own_after S state s _ u f o p n m = refl
 
 -- what a request does that names nothing of the key's
@@ -375,6 +449,15 @@ other_after S state s Acknowledge u f d n m =
     cond_one (lone_of S) (is_client (mode_of state.life s)) (settled (of_session s) state) state (lone_of S state) (λ _. settled_other S (of_session s) state (other_session S.sessions s n) d) refl
 other_after S state s Recover u f d n m = returned_other S (of_session s) state (other_session S.sessions s n) d
 other_after S state s Rollback u f d n m = returned_other S (of_session s) state (other_session S.sessions s n) d
+other_after S state s (SetListener c on) u f d n m = marked_other S (listening_if s c on) (listening_keeps s c on) (listening_out S s c on n) state d.placed
+other_after S state s (Take c now) u f d n m =
+    cond_one (lone_of S) (is_started state.life s.connection) _ state (lone_of S state)
+    (λ _. take_other S (selected_by (consumer_of state.consumers s c)) s c now (key_at (consumer_of state.consumers s c)) state n d.placed (key_not_mine S s c state.consumers d.placed n)) refl
+other_after S state s (DoneWith c ok) u f d n m =
+    let free : State = record state { consumers = set_busy s c false state.consumers } in
+    let same = marked_other S (busy_if s c false) (busy_keeps s c false) (busy_out S s c false n) state d.placed in
+    cond_one (lone_of S) (settles_at_once (mode_of state.life s)) (with_done s c ok (key_at (consumer_of state.consumers s c)) free) free (lone_of S state)
+    (λ _. rows_done_other S s c ok (key_at (consumer_of state.consumers s c)) free (key_not_mine S s c state.consumers d.placed n) ∙ same) same
 other_after S state s _ u f d n m = refl
 
 -- what a connection's request does

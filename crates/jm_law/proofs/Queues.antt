@@ -14,7 +14,7 @@ use Rattle.jm_header.specs.declared.content.Content.{Content}
 use Rattle.jm_machine.specs.declared.call.Who.{Who}
 use Rattle.jm_machine.specs.declared.call.Who.TheVariants.{Connection, Session}
 use Rattle.jm_machine.specs.declared.call.Request.{Request}
-use Rattle.jm_machine.specs.declared.call.Request.TheVariants.{CloseConnection, CloseSession, CreateConsumer, CreateDurable, CreateShared, CreateSharedDurable, Receive, Acknowledge, Recover, Rollback}
+use Rattle.jm_machine.specs.declared.call.Request.TheVariants.{CloseConnection, CloseSession, CreateConsumer, CreateDurable, CreateShared, CreateSharedDurable, Receive, Acknowledge, Recover, Rollback, Take, Done as DoneWith}
 use Rattle.jm_machine.specs.declared.call.Call.{Call}
 use Rattle.jm_machine.specs.declared.call.Call.TheVariants.{Ask, Publish, Commit}
 use Rattle.jm_machine.specs.declared.call.Step.{Step}
@@ -23,8 +23,8 @@ use Rattle.jm_machine.specs.declared.state.PlacedRow.{PlacedRow}
 use Rattle.jm_machine.specs.declared.state.Row.{Row}
 use Rattle.jm_machine.specs.declared.state.RowState.TheVariants.{Waiting}
 use Rattle.jm_machine.specs.Life.{client_of, is_started, mode_of}
-use Rattle.jm_machine.specs.Rows.{bare, fresh, has_lapsed, is_next_chosen, is_out, left_of, live, live_placed, sent_out, settles_at_once, change_placed, deliver_chosen}
-use Rattle.jm_machine.specs.Machine.{State, with_message, published, queued, consumer_of, key_at, selected_by, of_session, of_connection, returned_rows, settled_rows, settled, is_client, receive, subscribed, is_same, put, joined, definition_of, station_of, durable_of, shared_of, asked, held, refusal, publish_refusal, commit_refusal, after, after_commit, moved, step}
+use Rattle.jm_machine.specs.Rows.{bare, fresh, has_lapsed, is_next_chosen, is_out, left_of, taken, live, live_placed, sent_out, settles_at_once, change_placed, deliver_chosen}
+use Rattle.jm_machine.specs.Machine.{State, with_message, published, queued, consumer_of, key_at, selected_by, of_session, of_connection, of_number, returned_rows, settled_rows, settled, is_client, receive, set_busy, take, done_rows, with_done, subscribed, is_same, put, joined, definition_of, station_of, durable_of, shared_of, asked, held, refusal, publish_refusal, commit_refusal, after, after_commit, moved, step}
 use Rattle.jm_machine.specs.Places.{rows_at, rows_holding}
 use Rattle.jm_machine.specs.Queues.{first_row, is_queue, delivered_row, settles, drops_lapsed, rows_unless, settled_at, dropped_at, row_to, rows_to, came_at, state_after, all_settled, all_dropped, all_came, QueueKeeps}
 use Rattle.jm_machine.proofs.Order.{queues_in_order}
@@ -109,6 +109,52 @@ received_balance is_it place name state s c now p k true =
     go true = delivered_off is_it place now p (mode_of state.life s) s c (state.queues name)
     go false = same is_it place (state.queues name)
 
+-- what is taken stays
+taken_off : (is_it : Content → Bool) (place now : ℕ) (p : Content → Bool) (s : SessionId) (c : ℕ) (rows : List PlacedRow) → Balance is_it place (deliver_chosen p now (taken s c) rows) [] (filter (λ x. has_lapsed now x.row) rows) rows []
+taken_off is_it place now p s c rows =
+    let h = at_stays is_it place (is_next_chosen p now (live now (bare rows))) s c (live_placed now rows) in
+    let g = at_filter is_it place (λ x. has_lapsed now x.row) rows in
+    omega (arith, h, g)
+
+taken_balance : (is_it : Content → Bool) (place : ℕ) (name : List ℕ) (state : State) (s : SessionId) (c now : ℕ) (p : Content → Bool) (k : Option Key) (started : Bool) →
+    Balance is_it place ((cond started (take p s c now k state) state).queues name) [] (cond (started && is_queue name k) (filter (λ x. has_lapsed now x.row) (state.queues name)) []) (state.queues name) []
+taken_balance is_it place name state s c now p k false = same is_it place (state.queues name)
+taken_balance is_it place name state s c now p k true =
+    subst (λ (rows : List PlacedRow). Balance is_it place rows [] (cond (is_queue name k) (filter (λ x. has_lapsed now x.row) (state.queues name)) []) (state.queues name) [])
+    (sym (receive_at p (taken s c) now k state name)) (go (is_queue name k))
+  where
+    go : (b : Bool) → Balance is_it place (cond b (deliver_chosen p now (taken s c) (state.queues name)) (state.queues name)) [] (cond b (filter (λ x. has_lapsed now x.row) (state.queues name)) []) (state.queues name) []
+    go true = taken_off is_it place now p s c (state.queues name)
+    go false = same is_it place (state.queues name)
+
+-- what a listener is done with goes, or waits again
+done_at : (s : SessionId) (c : ℕ) (ok : Bool) (k : Option Key) (state : State) (name : List ℕ) → (with_done s c ok k state).queues name ≡ cond (is_queue name k) (done_rows s c ok (state.queues name)) (state.queues name)
+done_at s c ok None state name = refl
+done_at s c ok (Some (OfQueue other)) state name = refl
+done_at s c ok (Some (Own t d)) state name = refl
+done_at s c ok (Some (SharedOwn client other)) state name = refl
+done_at s c ok (Some (Durable client other)) state name = refl
+
+done_off : (is_it : Content → Bool) (place : ℕ) (s : SessionId) (c : ℕ) (ok at : Bool) (rows : List PlacedRow) →
+    Balance is_it place (cond at (done_rows s c ok rows) rows) (cond (ok && (at && true)) (filter (λ x. is_out (of_number s c) x.row) rows) []) [] rows []
+done_off is_it place s c true true rows = settled_off is_it place (of_number s c) rows
+done_off is_it place s c false true rows = returned_back is_it place (of_number s c) rows
+done_off is_it place s c true false rows = same is_it place rows
+done_off is_it place s c false false rows = same is_it place rows
+
+-- in a session that settles no message at once all stays
+done_not : (is_it : Content → Bool) (place : ℕ) (ok at : Bool) (gone rows : List PlacedRow) → Balance is_it place rows (cond (ok && (at && false)) gone []) [] rows []
+done_not is_it place true true gone rows = same is_it place rows
+done_not is_it place true false gone rows = same is_it place rows
+done_not is_it place false at gone rows = same is_it place rows
+
+done_balance : (is_it : Content → Bool) (place : ℕ) (name : List ℕ) (state : State) (s : SessionId) (c : ℕ) (ok : Bool) (k : Option Key) (at_once : Bool) →
+    Balance is_it place ((cond at_once (with_done s c ok k state) state).queues name) (cond (ok && (is_queue name k && at_once)) (filter (λ x. is_out (of_number s c) x.row) (state.queues name)) []) [] (state.queues name) []
+done_balance is_it place name state s c ok k true =
+    subst (λ (rows : List PlacedRow). Balance is_it place rows (cond (ok && (is_queue name k && true)) (filter (λ x. is_out (of_number s c) x.row) (state.queues name)) []) [] (state.queues name) [])
+    (sym (done_at s c ok k state name)) (done_off is_it place s c ok (is_queue name k) (state.queues name))
+done_balance is_it place name state s c ok k false = done_not is_it place ok (is_queue name k) (filter (λ x. is_out (of_number s c) x.row) (state.queues name)) (state.queues name)
+
 subscribed_queues : (s : SessionId) (c : ℕ) (k : Key) (d : Definition) (state : State) → (subscribed s c k d state).queues ≡ state.queues
 subscribed_queues s c k d state = elim (is_same (definition_of (station_of k state.stations)) d) as (λ b. (joined s c k None (cond b state (put k d state))).queues ≡ state.queues) [ true ↦ refl | false ↦ refl ]
 
@@ -135,6 +181,10 @@ after_balance is_it place name state (Session s) (Receive c now) =
 after_balance is_it place name state (Session s) Acknowledge = acknowledged_balance is_it place name s state (is_client (mode_of state.life s))
 after_balance is_it place name state (Session s) Recover = returned_back is_it place (of_session s) (state.queues name)
 after_balance is_it place name state (Session s) Rollback = returned_back is_it place (of_session s) (state.queues name)
+after_balance is_it place name state (Session s) (Take c now) =
+    taken_balance is_it place name state s c now (selected_by (consumer_of state.consumers s c)) (key_at (consumer_of state.consumers s c)) (is_started state.life s.connection)
+after_balance is_it place name state (Session s) (DoneWith c ok) =
+    done_balance is_it place name (record state { consumers = set_busy s c false state.consumers }) s c ok (key_at (consumer_of state.consumers s c)) (settles_at_once (mode_of state.life s))
 after_balance is_it place name state (Session s) _ = same is_it place (state.queues name)
 
 asked_balance : (is_it : Content → Bool) (place : ℕ) (name : List ℕ) (o : Option Refusal) (x state : State) (gone lapsed : List PlacedRow) → Balance is_it place (x.queues name) gone lapsed (state.queues name) [] →
@@ -262,6 +312,10 @@ next_received : (p : Content → Bool) (f : Row → List Row) (now : ℕ) (k : O
 next_received p f now None state = refl
 next_received p f now (Some k) state = refl
 
+next_done : (s : SessionId) (c : ℕ) (ok : Bool) (k : Option Key) (state : State) → (with_done s c ok k state).next_place ≡ state.next_place
+next_done s c ok None state = refl
+next_done s c ok (Some k) state = refl
+
 next_subscribed : (s : SessionId) (c : ℕ) (k : Key) (d : Definition) (state : State) → (subscribed s c k d state).next_place ≡ state.next_place
 next_subscribed s c k d state = elim (is_same (definition_of (station_of k state.stations)) d) as (λ b. (joined s c k None (cond b state (put k d state))).next_place ≡ state.next_place) [ true ↦ refl | false ↦ refl ]
 
@@ -278,6 +332,12 @@ next_after state (Session s) (Receive c now) =
     next_if (is_started state.life s.connection) (receive (selected_by (consumer_of state.consumers s c)) (left_of (mode_of state.life s) s c) now (key_at (consumer_of state.consumers s c)) state) state state.next_place
     (next_received (selected_by (consumer_of state.consumers s c)) (left_of (mode_of state.life s) s c) now (key_at (consumer_of state.consumers s c)) state) refl
 next_after state (Session s) Acknowledge = next_if (is_client (mode_of state.life s)) (settled (of_session s) state) state state.next_place refl refl
+next_after state (Session s) (Take c now) =
+    next_if (is_started state.life s.connection) (take (selected_by (consumer_of state.consumers s c)) s c now (key_at (consumer_of state.consumers s c)) state) state state.next_place
+    (next_received (selected_by (consumer_of state.consumers s c)) (taken s c) now (key_at (consumer_of state.consumers s c)) state) refl
+next_after state (Session s) (DoneWith c ok) =
+    let free : State = record state { consumers = set_busy s c false state.consumers } in
+    next_if (settles_at_once (mode_of state.life s)) (with_done s c ok (key_at (consumer_of state.consumers s c)) free) free state.next_place (next_done s c ok (key_at (consumer_of state.consumers s c)) free) refl
 next_after state (Session s) _ = refl
 
 -- what a step brings to the queue stands at places from the next one on, each once, and below the next one after it

@@ -12,7 +12,7 @@ use Rattle.jm_header.specs.declared.content.Content.{Content}
 use Rattle.jm_machine.specs.declared.call.Who.{Who}
 use Rattle.jm_machine.specs.declared.call.Who.TheVariants.{Connection, Session}
 use Rattle.jm_machine.specs.declared.call.Request.{Request}
-use Rattle.jm_machine.specs.declared.call.Request.TheVariants.{CloseConnection, CreateSession, CloseSession, CreateConsumer, CreateDurable, CreateShared, CreateSharedDurable, Unsubscribe, CloseConsumer, Receive, Acknowledge, Recover, Rollback}
+use Rattle.jm_machine.specs.declared.call.Request.TheVariants.{CloseConnection, CreateSession, CloseSession, CreateConsumer, CreateDurable, CreateShared, CreateSharedDurable, Unsubscribe, CloseConsumer, Receive, Acknowledge, Recover, Rollback, SetListener, Take, Done as DoneWith}
 use Rattle.jm_machine.specs.declared.call.Call.TheVariants.{Publish}
 use Rattle.jm_machine.specs.declared.entry.Entry.{Entry}
 use Rattle.jm_machine.specs.declared.entry.Entry.TheVariants.{Asked, Sent, Committed}
@@ -24,13 +24,14 @@ use Rattle.jm_machine.specs.Owns.{is_own}
 use Rattle.jm_base.specs.declared.mode.Mode.{Mode}
 use Rattle.jm_machine.specs.Life.{Life, client_of, connection_of, session_of, is_closed_connection, mode_of, is_started, is_new_session, close_sessions, life_after}
 use Rattle.jm_machine.specs.declared.state.SessionState.{SessionState}
-use Rattle.jm_machine.specs.Rows.{fresh, given_back, is_next, is_out, live, change_first, deliver, left_of, sent_out, settles_at_once}
-use Rattle.jm_machine.specs.Machine.{State, Holding, consumer_of, key_at, with_message, published, receive, held, selected_by, standing_as, new_consumer, durable_of, shared_of, asked, is_same, subscribed, put, joined, definition_of, station_of, unless, is_full, one_missed, closed_consumer, ends, of_session, of_connection, of_number, settled, is_client, is_transacted, refusal, publish_refusal, commit_refusal, after, after_commit, answer, replied, reply, moved, step}
+use Rattle.jm_machine.specs.Rows.{fresh, given_back, is_next, is_out, live, change_first, deliver, left_of, taken, sent_out, settles_at_once}
+use Rattle.jm_machine.specs.Machine.{State, Holding, consumer_of, key_at, with_message, published, receive, listening_if, busy_if, set_busy, take, with_done, held, selected_by, standing_as, new_consumer, durable_of, shared_of, asked, is_same, subscribed, put, joined, definition_of, station_of, unless, is_full, one_missed, closed_consumer, ends, of_session, of_connection, of_number, settled, is_client, is_transacted, refusal, publish_refusal, commit_refusal, after, after_commit, answer, replied, reply, moved, step}
 use Rattle.jm_machine.specs.Entries.{pending, life_after_entry}
-use Rattle.jm_machine.specs.Lone.{Scope, Lone, Item, belongs, lone_of, lone_put, lone_ended, lone_settled, lone_returned, lone_closed, lone_life, lone_receive, lone_did, lone_after, lone_end, lone_refusal, lone_replies, about, true_or_none, fed, feed, replies_in}
+use Rattle.jm_machine.specs.Lone.{Scope, Lone, Item, belongs, lone_of, lone_put, lone_ended, lone_settled, lone_returned, lone_closed, lone_life, lone_receive, lone_take, lone_did, lone_after, lone_end, lone_refusal, lone_replies, about, true_or_none, fed, feed, replies_in}
 use Rattle.jm_machine.specs.Lone.Item.{Called, Settled, Came}
-use Rattle.jm_law.proofs.Consumers.{Unshared, FairRequest, FairEntry, FairAll, Placed, Sound, OutBy, OwnOut, placed_push, placed_closed}
+use Rattle.jm_law.proofs.Consumers.{Unshared, FairRequest, FairEntry, FairAll, Placed, Sound, OutBy, OwnOut, placed_push, placed_map, placed_closed}
 use Rattle.jm_dest.specs.Keys.{key_eq}
+use Rattle.jm_machine.proofs.Marks.{listening_keeps, busy_keeps}
 use Rattle.jm_machine.specs.declared.state.Definition.{Definition}
 use Rattle.jm_law.proofs.Projection.{refused, opened}
 use Rattle.jm_law.proofs.EntrySteps.{state_after_entry, Replied, EntriesFit}
@@ -48,7 +49,6 @@ unfolding after_commit
 committed_consumers state (Connection c) ms = refl
 committed_consumers state (Session s) ms = published_consumers (settled (of_session s) state) ms
 
--- nor does a receive
 -- a consumer that subscribes joins the others, and changes nothing else of this
 pub subscribed_consumers : (s : SessionId) (c : ℕ) (k : Key) (d : Definition) (state : State) → (subscribed s c k d state).consumers ≡ state.consumers ++ new_consumer s c k None ∷ []
 subscribed_consumers s c k d state = elim (is_same (definition_of (station_of k state.stations)) d) as (λ b. (joined s c k None (cond b state (put k d state))).consumers ≡ state.consumers ++ new_consumer s c k None ∷ []) [ true ↦ refl | false ↦ refl ]
@@ -56,9 +56,14 @@ subscribed_consumers s c k d state = elim (is_same (definition_of (station_of k 
 pub subscribed_life : (s : SessionId) (c : ℕ) (k : Key) (d : Definition) (state : State) → (subscribed s c k d state).life ≡ state.life
 subscribed_life s c k d state = elim (is_same (definition_of (station_of k state.stations)) d) as (λ b. (joined s c k None (cond b state (put k d state))).life ≡ state.life) [ true ↦ refl | false ↦ refl ]
 
+-- a receive makes no consumer, nor does a listener that is done with its message
 pub received_consumers : (p : Content → Bool) (f : Row → List Row) (now : ℕ) (k : Option Key) (state : State) → (receive p f now k state).consumers ≡ state.consumers
 received_consumers p f now None state = refl
 received_consumers p f now (Some k) state = refl
+
+pub done_consumers : (s : SessionId) (c : ℕ) (ok : Bool) (k : Option Key) (state : State) → (with_done s c ok k state).consumers ≡ state.consumers
+done_consumers s c ok None state = refl
+done_consumers s c ok (Some k) state = refl
 
 placed_if : (S : Scope) (b : Bool) (x y : State) → Placed S x.consumers → Placed S y.consumers → Placed S (cond b x y).consumers
 placed_if S true x y p q = p
@@ -89,6 +94,15 @@ placed_after S state s Acknowledge f m p = placed_if S (is_client (mode_of state
 placed_after S state s (Receive c now) f m p =
     placed_if S (is_started state.life s.connection) (receive (selected_by (consumer_of state.consumers s c)) (left_of (mode_of state.life s) s c) now (key_at (consumer_of state.consumers s c)) state) state
     (subst (Placed S) (sym (received_consumers (selected_by (consumer_of state.consumers s c)) (left_of (mode_of state.life s) s c) now (key_at (consumer_of state.consumers s c)) state)) p) p
+placed_after S state s (SetListener c on) f m p = placed_map S (listening_if s c on) (listening_keeps s c on) state.consumers p
+placed_after S state s (Take c now) f m p =
+    placed_if S (is_started state.life s.connection) (take (selected_by (consumer_of state.consumers s c)) s c now (key_at (consumer_of state.consumers s c)) state) state
+    (placed_map S (busy_if s c _) (busy_keeps s c _) state.consumers p) p
+placed_after S state s (DoneWith c ok) f m p =
+    let free : State = record state { consumers = set_busy s c false state.consumers } in
+    let marked : Placed S free.consumers = placed_map S (busy_if s c false) (busy_keeps s c false) state.consumers p in
+    placed_if S (settles_at_once (mode_of state.life s)) (with_done s c ok (key_at (consumer_of state.consumers s c)) free) free
+    (subst (Placed S) (sym (done_consumers s c ok (key_at (consumer_of state.consumers s c)) free)) marked) marked
 placed_after S state s _ f m p = p
 
 placed_connection : (S : Scope) (state : State) (c : ℕ) (request : Request) → Placed S state.consumers → Placed S (after state (Connection c) request).consumers
@@ -179,6 +193,13 @@ out_did S l s (Receive c now) n a =
 out_did S l s Acknowledge n a = out_if S.sessions (is_client (mode_of l.life s)) (lone_settled (of_session s) l) l (out_filter S.sessions _ l.rows a) a
 out_did S l s Recover n a = out_returned S.sessions (of_session s) l.rows a
 out_did S l s Rollback n a = out_returned S.sessions (of_session s) l.rows a
+out_did S l s (Take c now) n a =
+    out_if S.sessions (is_started l.life s.connection) (lone_take s c now l) l
+    (out_deliver S.sessions now (taken s c) (λ r. (own_one (is_own S.sessions s) (S.numbers s c) n, tt)) l.rows a) a
+out_did S l s (DoneWith c ok) n a =
+    let free : Lone = record l { consumers = set_busy s c false l.consumers } in
+    out_if S.sessions (settles_at_once (mode_of l.life s)) (cond ok (lone_settled (of_number s c) free) (lone_returned (of_number s c) free)) free
+    (out_if S.sessions ok (lone_settled (of_number s c) free) (lone_returned (of_number s c) free) (out_filter S.sessions _ l.rows a) (out_returned S.sessions (of_number s c) l.rows a)) a
 out_did S l s _ n a = a
 
 out_connection : (S : Scope) (l : Lone) (c : ℕ) (request : Request) → OwnOut S.sessions l.rows → OwnOut S.sessions (lone_did S.key l (Connection c) request).rows
@@ -217,6 +238,10 @@ received_life : (p : Content → Bool) (f : Row → List Row) (now : ℕ) (k : O
 received_life p f now None state = refl
 received_life p f now (Some k) state = refl
 
+done_life : (s : SessionId) (c : ℕ) (ok : Bool) (k : Option Key) (state : State) → (with_done s c ok k state).life ≡ state.life
+done_life s c ok None state = refl
+done_life s c ok (Some k) state = refl
+
 life_if : (b : Bool) (x y : State) (l : Life) → x.life ≡ l → y.life ≡ l → (cond b x y).life ≡ l
 life_if true x y l p q = p
 life_if false x y l p q = q
@@ -233,6 +258,12 @@ after_life state s Acknowledge = life_if (is_client (mode_of state.life s)) (set
 after_life state s (Receive c now) =
     life_if (is_started state.life s.connection) (receive (selected_by (consumer_of state.consumers s c)) (left_of (mode_of state.life s) s c) now (key_at (consumer_of state.consumers s c)) state) state state.life
     (received_life (selected_by (consumer_of state.consumers s c)) (left_of (mode_of state.life s) s c) now (key_at (consumer_of state.consumers s c)) state) refl
+after_life state s (Take c now) =
+    life_if (is_started state.life s.connection) (take (selected_by (consumer_of state.consumers s c)) s c now (key_at (consumer_of state.consumers s c)) state) state state.life
+    (received_life (selected_by (consumer_of state.consumers s c)) (taken s c) now (key_at (consumer_of state.consumers s c)) state) refl
+after_life state s (DoneWith c ok) =
+    let free : State = record state { consumers = set_busy s c false state.consumers } in
+    life_if (settles_at_once (mode_of state.life s)) (with_done s c ok (key_at (consumer_of state.consumers s c)) free) free state.life (done_life s c ok (key_at (consumer_of state.consumers s c)) free) refl
 after_life state s _ = refl
 
 -- nothing closes where no session has the number

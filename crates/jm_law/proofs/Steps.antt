@@ -8,7 +8,7 @@ use Rattle.jm_dest.specs.Keys.{key_eq}
 use Rattle.jm_header.specs.declared.content.Content.{Content}
 use Rattle.jm_machine.specs.declared.call.Who.TheVariants.{Connection, Session}
 use Rattle.jm_machine.specs.declared.call.Request.{Request}
-use Rattle.jm_machine.specs.declared.call.Request.TheVariants.{CreateConsumer, CreateDurable, CreateShared, CreateSharedDurable, Unsubscribe, CloseConsumer, Receive, Missed}
+use Rattle.jm_machine.specs.declared.call.Request.TheVariants.{CreateConsumer, CreateDurable, CreateShared, CreateSharedDurable, Unsubscribe, CloseConsumer, Receive, Missed, SetListener, Take, Done as DoneWith}
 use Rattle.jm_machine.specs.declared.call.Call.TheVariants.{Ask, Publish}
 use Rattle.jm_machine.specs.declared.answer.Answer.{Answer}
 use Rattle.jm_machine.specs.declared.answer.Answer.TheVariants.{Done}
@@ -151,6 +151,9 @@ elsewhere_other S s (Unsubscribe name) n = not_belongs S s _ n
 elsewhere_other S s (CloseConsumer c) n = not_belongs S s (S.numbers s c) n
 elsewhere_other S s (Receive c now) n = not_belongs S s (S.numbers s c) n
 elsewhere_other S s (Missed c) n = not_belongs S s (S.numbers s c) n
+elsewhere_other S s (SetListener c on) n = not_belongs S s (S.numbers s c) n
+elsewhere_other S s (Take c now) n = not_belongs S s (S.numbers s c) n
+elsewhere_other S s (DoneWith c ok) n = not_belongs S s (S.numbers s c) n
 elsewhere_other S s _ n = n
 
 step_case : (S : Scope) (state : State) (s : SessionId) (request : Request) → is_own S.sessions s ≡ true → Unshared S.key → FairRequest S state.life s request → Sound S state → (v : Bool) → true_or_none (about S s request) ≡ v →

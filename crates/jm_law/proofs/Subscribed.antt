@@ -16,7 +16,7 @@ use Rattle.jm_selector.specs.Selectors.{selector_refusal}
 use Rattle.jm_machine.specs.declared.call.Who.{Who}
 use Rattle.jm_machine.specs.declared.call.Who.TheVariants.{Connection, Session}
 use Rattle.jm_machine.specs.declared.call.Request.{Request}
-use Rattle.jm_machine.specs.declared.call.Request.TheVariants.{CloseConnection, CloseSession, CreateConsumer, CreateDurable, CreateShared, CreateSharedDurable, Unsubscribe, CloseConsumer, Receive, Acknowledge, Recover, Rollback}
+use Rattle.jm_machine.specs.declared.call.Request.TheVariants.{CloseConnection, CloseSession, CreateConsumer, CreateDurable, CreateShared, CreateSharedDurable, Unsubscribe, CloseConsumer, Receive, Acknowledge, Recover, Rollback, Take, Done as DoneWith}
 use Rattle.jm_machine.specs.declared.call.Call.{Call}
 use Rattle.jm_machine.specs.declared.call.Call.TheVariants.{Ask, Publish, Commit}
 use Rattle.jm_machine.specs.declared.call.Step.{Step}
@@ -24,8 +24,8 @@ use Rattle.jm_machine.specs.declared.state.Definition.{Definition}
 use Rattle.jm_machine.specs.declared.state.PlacedRow.{PlacedRow}
 use Rattle.jm_machine.specs.declared.state.Station.{Station}
 use Rattle.jm_machine.specs.Life.{client_of, is_started, mode_of}
-use Rattle.jm_machine.specs.Rows.{InOrder, bare, fresh, has_lapsed, is_next, is_out, left_of, live, live_placed, settles_at_once, deliver_placed}
-use Rattle.jm_machine.specs.Machine.{State, AllInOrder, Publisher, publisher_of, accepts, is_full, one_missed, offered, with_message, published, with_rows, at_key, station_of, definition_of, consumer_of, key_at, selected_by, defined, durable_of, shared_of, asked, is_same, may_share, put, joined, subscribed, deleted, of_session, of_connection, of_number, settled_rows, returned_rows, settled, returned, ends, closed, with_life, is_client, receive, held, may_begin, subscription_refusal, first_cause, unless, refusal, publish_refusal, commit_refusal, after, after_commit, moved, step}
+use Rattle.jm_machine.specs.Rows.{InOrder, bare, fresh, has_lapsed, is_next, is_out, left_of, taken, live, live_placed, settles_at_once, deliver_placed}
+use Rattle.jm_machine.specs.Machine.{State, AllInOrder, Publisher, publisher_of, accepts, is_full, one_missed, offered, with_message, published, with_rows, at_key, station_of, definition_of, consumer_of, key_at, selected_by, defined, durable_of, shared_of, asked, is_same, may_share, put, joined, subscribed, deleted, of_session, of_connection, of_number, settled_rows, returned_rows, settled, returned, ends, closed, with_life, is_client, receive, set_busy, take, done_rows, with_done, held, may_begin, subscription_refusal, first_cause, unless, refusal, publish_refusal, commit_refusal, after, after_commit, moved, step}
 use Rattle.jm_machine.specs.Places.{rows_at, rows_holding}
 use Rattle.jm_machine.specs.Queues.{rows_unless, state_after}
 use Rattle.jm_machine.specs.Isolation.{Reached}
@@ -34,7 +34,7 @@ use Rattle.jm_law.specs.Subscriptions.{placed_of, held_under, is_key, next_row, 
 use Rattle.jm_machine.proofs.Keys.{key_same}
 use Rattle.jm_law.proofs.Stations.{mapped, station_of-map, station_of-at, station_of_other-at, station-put, other-put, station-without, other-without, station-ended}
 use Rattle.jm_law.proofs.Projection.{refused}
-use Rattle.jm_law.proofs.Queues.{at_append, at_filter, at_returned, at_left, published_next, next_after, Brings, brings_none, brings_asked, below}
+use Rattle.jm_law.proofs.Queues.{at_append, at_filter, at_returned, at_stays, at_left, published_next, next_after, Brings, brings_none, brings_asked, below}
 use Rattle.jm_law.proofs.OneConsumer.{offered_parts, later, may_subscribe}
 use Rattle.jm_law.proofs.Founded.{reached_founded}
 use Rattle.jm_machine.proofs.Order.{reached_in_order}
@@ -137,6 +137,64 @@ received_balance is_it place k state s c now p (Some l) true = go (key_eq l k) r
         omega (arith, i, j, h)
     go false e = as_before is_it place _ _ (ap placed_of (station_of_other-at k l (with_rows f) (λ x. refl) e state.stations))
 
+-- a consumer's listener takes a message, which stays
+taken_at : (is_it : Content → Bool) (place now : ℕ) (s : SessionId) (c : ℕ) (o : Option Station) → Balance is_it place (placed_of (mapped (with_rows (deliver_placed now (taken s c))) o)) [] (filter (λ x. has_lapsed now x.row) (placed_of o)) [] (placed_of o) []
+taken_at is_it place now s c None = same is_it place []
+taken_at is_it place now s c (Some x) =
+    let h = at_stays is_it place (is_next now (live now (bare x.rows))) s c (live_placed now x.rows) in
+    let g = at_filter is_it place (λ y. has_lapsed now y.row) x.rows in
+    omega (arith, h, g)
+
+taken_balance : (is_it : Content → Bool) (place : ℕ) (k : Key) (state : State) (s : SessionId) (c now : ℕ) (p : Content → Bool) (o : Option Key) (started : Bool) →
+    Balance is_it place (held_under k (cond started (take p s c now o state) state)) [] (cond (started && is_key k o) (filter (λ x. has_lapsed now x.row) (held_under k state)) []) [] (held_under k state) []
+taken_balance is_it place k state s c now p o false = same is_it place (held_under k state)
+taken_balance is_it place k state s c now p None true = same is_it place (held_under k state)
+taken_balance is_it place k state s c now p (Some l) true = go (key_eq l k) refl
+  where
+    f : List PlacedRow → List PlacedRow
+    f = deliver_placed now (taken s c)
+
+    go : (b : Bool) → key_eq l k ≡ b → Balance is_it place (placed_of (station_of k (at_key l (with_rows f) state.stations))) [] (cond b (filter (λ x. has_lapsed now x.row) (held_under k state)) []) [] (held_under k state) []
+    go true e =
+        let i = ap (λ (y : Key). rows_holding is_it place (placed_of (station_of k (at_key y (with_rows f) state.stations)))) (key_same l k e) in
+        let j = ap (λ o. rows_holding is_it place (placed_of o)) (station_of-at k (with_rows f) (λ x. refl) state.stations) in
+        let h = taken_at is_it place now s c (station_of k state.stations) in
+        omega (arith, i, j, h)
+    go false e = as_before is_it place _ _ (ap placed_of (station_of_other-at k l (with_rows f) (λ x. refl) e state.stations))
+
+-- it is done with one, which goes or waits again
+done_at : (is_it : Content → Bool) (place : ℕ) (s : SessionId) (c : ℕ) (ok : Bool) (o : Option Station) →
+    Balance is_it place (placed_of (mapped (with_rows (done_rows s c ok)) o)) (cond (ok && true) (filter (λ x. is_out (of_number s c) x.row) (placed_of o)) []) [] [] (placed_of o) []
+done_at is_it place s c true o = let h = settled_at is_it place (of_number s c) o in omega (arith, h)
+done_at is_it place s c false o = let h = returned_at is_it place (of_number s c) o in omega (arith, h)
+
+-- in a session that settles no message at once, and of another key, all stays
+done_not : (is_it : Content → Bool) (place : ℕ) (ok at : Bool) (gone rows : List PlacedRow) → Balance is_it place rows (cond (ok && (at && false)) gone []) [] [] rows []
+done_not is_it place true true gone rows = same is_it place rows
+done_not is_it place true false gone rows = same is_it place rows
+done_not is_it place false at gone rows = same is_it place rows
+
+none_gone : (is_it : Content → Bool) (place : ℕ) (ok : Bool) (gone new old : List PlacedRow) → new ≡ old → Balance is_it place new (cond (ok && false) gone []) [] [] old []
+none_gone is_it place true gone new old e = as_before is_it place new old e
+none_gone is_it place false gone new old e = as_before is_it place new old e
+
+done_balance : (is_it : Content → Bool) (place : ℕ) (k : Key) (state : State) (s : SessionId) (c : ℕ) (ok : Bool) (o : Option Key) (at_once : Bool) →
+    Balance is_it place (held_under k (cond at_once (with_done s c ok o state) state)) (cond (ok && (is_key k o && at_once)) (filter (λ x. is_out (of_number s c) x.row) (held_under k state)) []) [] [] (held_under k state) []
+done_balance is_it place k state s c ok o false = done_not is_it place ok (is_key k o) (filter (λ x. is_out (of_number s c) x.row) (held_under k state)) (held_under k state)
+done_balance is_it place k state s c ok None true = none_gone is_it place ok (filter (λ x. is_out (of_number s c) x.row) (held_under k state)) (held_under k state) (held_under k state) refl
+done_balance is_it place k state s c ok (Some l) true = go (key_eq l k) refl
+  where
+    f : List PlacedRow → List PlacedRow
+    f = done_rows s c ok
+
+    go : (b : Bool) → key_eq l k ≡ b → Balance is_it place (placed_of (station_of k (at_key l (with_rows f) state.stations))) (cond (ok && (b && true)) (filter (λ x. is_out (of_number s c) x.row) (held_under k state)) []) [] [] (held_under k state) []
+    go true e =
+        let i = ap (λ (y : Key). rows_holding is_it place (placed_of (station_of k (at_key y (with_rows f) state.stations)))) (key_same l k e) in
+        let j = ap (λ o. rows_holding is_it place (placed_of o)) (station_of-at k (with_rows f) (λ x. refl) state.stations) in
+        let h = done_at is_it place s c ok (station_of k state.stations) in
+        omega (arith, i, j, h)
+    go false e = none_gone is_it place ok (filter (λ x. is_out (of_number s c) x.row) (held_under k state)) _ _ (ap placed_of (station_of_other-at k l (with_rows f) (λ x. refl) e state.stations))
+
 -- a subscription is had, and takes the place of another that asks for another thing
 subscribed_stations : (s : SessionId) (c : ℕ) (l : Key) (d : Definition) (state : State) → (subscribed s c l d state).stations ≡ cond (is_same (definition_of (station_of l state.stations)) d) state.stations (put l d state).stations
 subscribed_stations s c l d state = elim (is_same (definition_of (station_of l state.stations)) d) as (λ b. (joined s c l None (cond b state (put l d state))).stations ≡ cond b state.stations (put l d state).stations) [ true ↦ refl | false ↦ refl ]
@@ -236,6 +294,10 @@ after_balance is_it place k state (Session s) (Receive c now) r n =
 after_balance is_it place k state (Session s) Acknowledge r n = acknowledged_balance is_it place k s state (is_client (mode_of state.life s))
 after_balance is_it place k state (Session s) Recover r n = returned_balance is_it place k (of_session s) state
 after_balance is_it place k state (Session s) Rollback r n = returned_balance is_it place k (of_session s) state
+after_balance is_it place k state (Session s) (Take c now) r n =
+    taken_balance is_it place k state s c now (selected_by (consumer_of state.consumers s c)) (key_at (consumer_of state.consumers s c)) (is_started state.life s.connection)
+after_balance is_it place k state (Session s) (DoneWith c ok) r n =
+    done_balance is_it place k (record state { consumers = set_busy s c false state.consumers }) s c ok (key_at (consumer_of state.consumers s c)) (settles_at_once (mode_of state.life s))
 after_balance is_it place k state (Session s) _ r n = same is_it place (held_under k state)
 
 asked_balance : (is_it : Content → Bool) (place : ℕ) (k : Key) (o : Option Refusal) (x state : State) (settled lapsed gone : List PlacedRow) → (o ≡ None → Balance is_it place (held_under k x) settled lapsed gone (held_under k state) []) →

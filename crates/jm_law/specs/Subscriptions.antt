@@ -7,7 +7,7 @@ use Rattle.jm_header.specs.declared.content.Content.{Content}
 use Rattle.jm_machine.specs.declared.call.Who.{Who}
 use Rattle.jm_machine.specs.declared.call.Who.TheVariants.{Connection, Session}
 use Rattle.jm_machine.specs.declared.call.Request.{Request}
-use Rattle.jm_machine.specs.declared.call.Request.TheVariants.{CloseConnection, CloseSession, CreateDurable, CreateSharedDurable, Unsubscribe, CloseConsumer, Receive, Acknowledge}
+use Rattle.jm_machine.specs.declared.call.Request.TheVariants.{CloseConnection, CloseSession, CreateDurable, CreateSharedDurable, Unsubscribe, CloseConsumer, Receive, Acknowledge, Take, Done as DoneWith}
 use Rattle.jm_machine.specs.declared.call.Call.{Call}
 use Rattle.jm_machine.specs.declared.call.Call.TheVariants.{Ask, Publish, Commit}
 use Rattle.jm_machine.specs.declared.call.Step.{Step}
@@ -39,19 +39,26 @@ is_key key (Some other) = key_eq other key
 abbrev pub next_row : ℕ → List PlacedRow → List PlacedRow
 next_row now rows = first_row (is_next now (live now (bare rows))) (live_placed now rows)
 
--- what a request that is not refused settles of the key: a client's acknowledgement all that is out to its session, and a
--- receive of a session that settles at once the row that it delivers
+-- what a request that is not refused settles of the key: a client's acknowledgement all that is out to its session, a
+-- receive of a session that settles at once the row that it delivers, and in such a session a listener that is done what is
+-- out through its consumer, unless that is given back
 abbrev pub settles_under : Key → State → Who → Request → List PlacedRow
 settles_under key state (Session s) Acknowledge = if is_client (mode_of state.life s) then filter (λ x. is_out (of_session s) x.row) (held_under key state) else []
 settles_under key state (Session s) (Receive c now) =
     if is_started state.life s.connection && (is_key key (key_at (consumer_of state.consumers s c)) && settles_at_once (mode_of state.life s))
     then next_row now (held_under key state)
     else []
+settles_under key state (Session s) (DoneWith c ok) =
+    if ok && (is_key key (key_at (consumer_of state.consumers s c)) && settles_at_once (mode_of state.life s))
+    then filter (λ x. is_out (of_number s c) x.row) (held_under key state)
+    else []
 settles_under key state _ _ = []
 
--- what it drops: a receive from the subscription the rows that have lapsed
+-- what it drops: a receive from the subscription, or a take, the rows that have lapsed
 abbrev pub drops_under : Key → State → Who → Request → List PlacedRow
 drops_under key state (Session s) (Receive c now) =
+    if is_started state.life s.connection && is_key key (key_at (consumer_of state.consumers s c)) then filter (λ x. has_lapsed now x.row) (held_under key state) else []
+drops_under key state (Session s) (Take c now) =
     if is_started state.life s.connection && is_key key (key_at (consumer_of state.consumers s c)) then filter (λ x. has_lapsed now x.row) (held_under key state) else []
 drops_under key state _ _ = []
 

@@ -87,8 +87,8 @@ pub fn law_one_place()
 ///
 /// Over each list of steps from a state that the provider reaches, each message that a queue held or that came to it is
 /// in exactly one place: it is held there, waiting or out to one session, or it was settled once, by an acknowledgement,
-/// a commit or a receipt that settles at once, or it was dropped once as expired. None is lost, none comes twice, and
-/// none stands in another's stead.
+/// a commit, a receipt that settles at once or a listener that is done with it, or it was dropped once as expired. None is
+/// lost, none comes twice, and none stands in another's stead.
 pub fn law_queue()
     ensures { QueueKeeps }
 {}

@@ -6,3 +6,4 @@ pub mod Order
 pub mod Keys
 pub mod Counts
 pub mod Bare
+pub mod Marks

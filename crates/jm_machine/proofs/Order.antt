@@ -14,7 +14,7 @@ use Rattle.jm_header.specs.declared.content.Content.{Content}
 use Rattle.jm_machine.specs.declared.call.Who.{Who}
 use Rattle.jm_machine.specs.declared.call.Who.TheVariants.{Connection, Session}
 use Rattle.jm_machine.specs.declared.call.Request.{Request}
-use Rattle.jm_machine.specs.declared.call.Request.TheVariants.{CloseConnection, CreateSession, CloseSession, CreateConsumer, CreateDurable, CreateShared, CreateSharedDurable, Unsubscribe, CloseConsumer, Receive, Acknowledge, Recover, Rollback}
+use Rattle.jm_machine.specs.declared.call.Request.TheVariants.{CloseConnection, CreateSession, CloseSession, CreateConsumer, CreateDurable, CreateShared, CreateSharedDurable, Unsubscribe, CloseConsumer, Receive, Acknowledge, Recover, Rollback, Take, Done as DoneWith}
 use Rattle.jm_machine.specs.declared.call.Call.{Call}
 use Rattle.jm_machine.specs.declared.call.Call.TheVariants.{Ask, Publish, Commit}
 use Rattle.jm_machine.specs.declared.state.Definition.{Definition}
@@ -22,8 +22,8 @@ use Rattle.jm_machine.specs.declared.state.PlacedRow.{PlacedRow}
 use Rattle.jm_machine.specs.declared.state.Row.{Row}
 use Rattle.jm_machine.specs.declared.state.Station.{Station}
 use Rattle.jm_machine.specs.Life.{client_of, mode_of, is_started}
-use Rattle.jm_machine.specs.Rows.{AllAbove, InOrder, fresh, settles_at_once, sent_out, left_of, live_placed, change_placed, deliver_placed, deliver_chosen}
-use Rattle.jm_machine.specs.Machine.{State, durable_of, shared_of, asked, is_same, subscribed, put, joined, definition_of, station_of, Publisher, publisher_of, accepts, is_full, one_missed, brought, offered, with_message, with_rows, at_key, at_queue, at_queue_of, queued, without, published, AllInOrder, receive, consumer_of, key_at, made, selected_by, defined, of_session, of_connection, of_number, settled_rows, returned_rows, settled, returned, closed, with_life, is_client, held, refusal, publish_refusal, commit_refusal, after, after_commit, moved, step}
+use Rattle.jm_machine.specs.Rows.{AllAbove, InOrder, fresh, settles_at_once, sent_out, left_of, taken, live_placed, change_placed, deliver_placed, deliver_chosen}
+use Rattle.jm_machine.specs.Machine.{State, durable_of, shared_of, asked, is_same, subscribed, put, joined, definition_of, station_of, Publisher, publisher_of, accepts, is_full, one_missed, brought, offered, with_message, with_rows, at_key, at_queue, at_queue_of, queued, without, published, AllInOrder, receive, take, done_rows, with_done, set_busy, consumer_of, key_at, made, selected_by, defined, of_session, of_connection, of_number, settled_rows, returned_rows, settled, returned, closed, with_life, is_client, held, refusal, publish_refusal, commit_refusal, after, after_commit, moved, step}
 use Rattle.jm_machine.specs.Isolation.{Reached}
 use Rattle.jm_machine.specs.Isolation.Reached.{New, Reopened, Stepped}
 
@@ -49,6 +49,9 @@ order_filter n p (x ∷ rows) h = go (p x) (order_filter n p rows h.2)
 -- a row that passes goes, or stays at its place
 abbrev LeavesOne : (Row → List Row) → Type 0
 LeavesOne f = (r : Row) → (f r ≡ []) ⊎ ((x : Row) × (f r ≡ x ∷ []))
+
+taken_one : (s : SessionId) (c : ℕ) → LeavesOne (taken s c)
+taken_one s c r = inr (sent_out s c r, refl)
 
 left_one : (mode : Option Mode) (s : SessionId) (c : ℕ) → LeavesOne (left_of mode s c)
 unfolding left_of
@@ -166,9 +169,18 @@ unfolding published
 order_published state [] h = h
 order_published state (m ∷ ms) h = order_published (with_message state m) ms (all_offered state.limit (publisher_of state.life m) m state.next_place state.stations h)
 
-order_received : (p : Content → Bool) (mode : Option Mode) (s : SessionId) (c now : ℕ) (k : Option Key) (state : State) → HasOrder state → HasOrder (receive p (left_of mode s c) now k state)
-order_received p mode s c now None state h = h
-order_received p mode s c now (Some k) state h = all_at state.next_place (deliver_placed now (left_of mode s c)) (delivered state.next_place now (left_of mode s c) (left_one mode s c)) k state.stations h
+order_received : (p : Content → Bool) (f : Row → List Row) → LeavesOne f → (now : ℕ) (k : Option Key) (state : State) → HasOrder state → HasOrder (receive p f now k state)
+order_received p f o now None state h = h
+order_received p f o now (Some k) state h = all_at state.next_place (deliver_placed now f) (delivered state.next_place now f o) k state.stations h
+
+-- what a listener is done with goes, or stands where it stood
+order_done_rows : (n : ℕ) (s : SessionId) (c : ℕ) (ok : Bool) → KeepsOrder n (done_rows s c ok)
+order_done_rows n s c true rows h = order_filter n _ rows h
+order_done_rows n s c false rows h = order_returned n (of_number s c) rows h
+
+order_with_done : (s : SessionId) (c : ℕ) (ok : Bool) (k : Option Key) (state : State) → HasOrder state → HasOrder (with_done s c ok k state)
+order_with_done s c ok None state h = h
+order_with_done s c ok (Some k) state h = all_at state.next_place (done_rows s c ok) (order_done_rows state.next_place s c ok) k state.stations h
 
 order_settled : (p : SessionId → ℕ → Bool) (state : State) → HasOrder state → HasOrder (settled p state)
 order_settled p state h = all_each state.next_place (settled_rows p) (order_filter state.next_place _) state.stations h
@@ -212,11 +224,18 @@ order_after state (Session s) (CreateSharedDurable c destination name selector) 
 order_after state (Session s) (Unsubscribe name) h = all_filter state.next_place _ state.stations h
 order_after state (Session s) (Receive c now) h =
     order_if (is_started state.life s.connection) (receive (selected_by (consumer_of state.consumers s c)) (left_of (mode_of state.life s) s c) now (key_at (consumer_of state.consumers s c)) state) state
-    (order_received (selected_by (consumer_of state.consumers s c)) (mode_of state.life s) s c now (key_at (consumer_of state.consumers s c)) state h) h
+    (order_received (selected_by (consumer_of state.consumers s c)) (left_of (mode_of state.life s) s c) (left_one (mode_of state.life s) s c) now (key_at (consumer_of state.consumers s c)) state h) h
 order_after state (Session s) (CloseConsumer c) h = order_closed (of_number s c) state h
 order_after state (Session s) Acknowledge h = order_if (is_client (mode_of state.life s)) (settled (of_session s) state) state (order_settled (of_session s) state h) h
 order_after state (Session s) Recover h = order_given (of_session s) state h
 order_after state (Session s) Rollback h = order_given (of_session s) state h
+order_after state (Session s) (Take c now) h =
+    order_if (is_started state.life s.connection) (take (selected_by (consumer_of state.consumers s c)) s c now (key_at (consumer_of state.consumers s c)) state) state
+    (order_received (selected_by (consumer_of state.consumers s c)) (taken s c) (taken_one s c) now (key_at (consumer_of state.consumers s c)) state h) h
+order_after state (Session s) (DoneWith c ok) h =
+    let free : State = record state { consumers = set_busy s c false state.consumers } in
+    order_if (settles_at_once (mode_of state.life s)) (with_done s c ok (key_at (consumer_of state.consumers s c)) free) free
+    (order_with_done s c ok (key_at (consumer_of state.consumers s c)) free h) h
 order_after state (Session s) _ h = h
 
 order_committed : (state : State) (who : Who) (ms : List Content) → HasOrder state → HasOrder (after_commit state who ms)
@@ -270,9 +289,13 @@ unfolding published
 queues_published state [] h = h
 queues_published state (m ∷ ms) h = queues_published (with_message state m) ms (queues_queued state.next_place m.destination m state.queues h)
 
-queues_received : (p : Content → Bool) (mode : Option Mode) (s : SessionId) (c now : ℕ) (k : Option Key) (state : State) → QueuesInOrder state → QueuesInOrder (receive p (left_of mode s c) now k state)
-queues_received p mode s c now None state h = h
-queues_received p mode s c now (Some k) state h = queues_of state.next_place (deliver_chosen p now (left_of mode s c)) (chosen_order state.next_place now p (left_of mode s c) (left_one mode s c)) k state.queues h
+queues_received : (p : Content → Bool) (f : Row → List Row) → LeavesOne f → (now : ℕ) (k : Option Key) (state : State) → QueuesInOrder state → QueuesInOrder (receive p f now k state)
+queues_received p f o now None state h = h
+queues_received p f o now (Some k) state h = queues_of state.next_place (deliver_chosen p now f) (chosen_order state.next_place now p f o) k state.queues h
+
+queues_with_done : (s : SessionId) (c : ℕ) (ok : Bool) (k : Option Key) (state : State) → QueuesInOrder state → QueuesInOrder (with_done s c ok k state)
+queues_with_done s c ok None state h = h
+queues_with_done s c ok (Some k) state h = queues_of state.next_place (done_rows s c ok) (order_done_rows state.next_place s c ok) k state.queues h
 
 queues_settled : (p : SessionId → ℕ → Bool) (state : State) → QueuesInOrder state → QueuesInOrder (settled p state)
 queues_settled p state h name = order_filter state.next_place _ (state.queues name) (h name)
@@ -311,10 +334,17 @@ queues_after state (Session s) (CreateShared c destination name selector) h = qu
 queues_after state (Session s) (CreateSharedDurable c destination name selector) h = queues_subscribed s c (durable_of (client_of state.life) s name) (asked destination selector false true) state h
 queues_after state (Session s) (Receive c now) h =
     queues_if (is_started state.life s.connection) (receive (selected_by (consumer_of state.consumers s c)) (left_of (mode_of state.life s) s c) now (key_at (consumer_of state.consumers s c)) state) state
-    (queues_received (selected_by (consumer_of state.consumers s c)) (mode_of state.life s) s c now (key_at (consumer_of state.consumers s c)) state h) h
+    (queues_received (selected_by (consumer_of state.consumers s c)) (left_of (mode_of state.life s) s c) (left_one (mode_of state.life s) s c) now (key_at (consumer_of state.consumers s c)) state h) h
 queues_after state (Session s) Acknowledge h = queues_if (is_client (mode_of state.life s)) (settled (of_session s) state) state (queues_settled (of_session s) state h) h
 queues_after state (Session s) Recover h = queues_given (of_session s) state h
 queues_after state (Session s) Rollback h = queues_given (of_session s) state h
+queues_after state (Session s) (Take c now) h =
+    queues_if (is_started state.life s.connection) (take (selected_by (consumer_of state.consumers s c)) s c now (key_at (consumer_of state.consumers s c)) state) state
+    (queues_received (selected_by (consumer_of state.consumers s c)) (taken s c) (taken_one s c) now (key_at (consumer_of state.consumers s c)) state h) h
+queues_after state (Session s) (DoneWith c ok) h =
+    let free : State = record state { consumers = set_busy s c false state.consumers } in
+    queues_if (settles_at_once (mode_of state.life s)) (with_done s c ok (key_at (consumer_of state.consumers s c)) free) free
+    (queues_with_done s c ok (key_at (consumer_of state.consumers s c)) free h) h
 queues_after state (Session s) _ h = h
 
 queues_committed : (state : State) (who : Who) (ms : List Content) → QueuesInOrder state → QueuesInOrder (after_commit state who ms)

@@ -13,7 +13,7 @@ use Rattle.jm_tree.specs.declared.tree.Tree.{Tree}
 use Rattle.jm_machine.specs.declared.call.Who.{Who}
 use Rattle.jm_machine.specs.declared.call.Who.TheVariants.{Connection, Session}
 use Rattle.jm_machine.specs.declared.call.Request.{Request}
-use Rattle.jm_machine.specs.declared.call.Request.TheVariants.{Open, Start, Stop, CloseConnection, CreateSession, CloseSession, CreateConsumer, CreateDurable, CreateShared, CreateSharedDurable, Unsubscribe, CloseConsumer, Receive, Acknowledge, Recover, Rollback, Missed}
+use Rattle.jm_machine.specs.declared.call.Request.TheVariants.{Open, Start, Stop, CloseConnection, CreateSession, CloseSession, CreateConsumer, CreateDurable, CreateShared, CreateSharedDurable, Unsubscribe, CloseConsumer, Receive, Acknowledge, Recover, Rollback, Missed, SetListener, Take, Done as DoneWith}
 use Rattle.jm_machine.specs.declared.call.Call.TheVariants.{Commit, Ask as AskStep}
 use Rattle.jm_machine.specs.declared.call.ClientCall.{ClientCall}
 use Rattle.jm_machine.specs.declared.call.ClientCall.TheVariants.{Ask, Send, CommitSession}
@@ -82,6 +82,9 @@ not_from_outside life consumers h (Session s) Acknowledge = unless_not _
 not_from_outside life consumers h (Session s) Recover = unless_not _
 not_from_outside life consumers h (Session s) Rollback = unless_not _
 not_from_outside life consumers h (Session s) (Missed c) = unless_not _
+not_from_outside life consumers h (Session s) (SetListener c on) = unless_not _
+not_from_outside life consumers h (Session s) (Take c now) = unless_not _
+not_from_outside life consumers h (Session s) (DoneWith c ok) = unless_not _
 not_from_outside life consumers h _ _ = refl
 
 refused_by : (o : Option Refusal) (a : Answer) (r : Refusal) → Err r ≡ replied o a → o ≡ Some r

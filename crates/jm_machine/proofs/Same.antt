@@ -15,7 +15,7 @@ use Rattle.jm_machine.specs.declared.call.Call.TheVariants.{Ask, Publish, Commit
 use Rattle.jm_machine.specs.declared.call.ClientCall.{ClientCall}
 use Rattle.jm_machine.specs.declared.call.ClientCall.TheVariants.{Ask as Asks, Send, CommitSession}
 use Rattle.jm_machine.specs.declared.call.Request.{Request}
-use Rattle.jm_machine.specs.declared.call.Request.TheVariants.{Open, Start, Stop, CloseConnection, CreateSession, CloseSession, CreateConsumer, CreateDurable, CreateShared, CreateSharedDurable, Unsubscribe, CloseConsumer, Receive, Acknowledge, Recover, Rollback, Missed as AskMissed}
+use Rattle.jm_machine.specs.declared.call.Request.TheVariants.{Open, Start, Stop, CloseConnection, CreateSession, CloseSession, CreateConsumer, CreateDurable, CreateShared, CreateSharedDurable, Unsubscribe, CloseConsumer, Receive, Acknowledge, Recover, Rollback, Missed as AskMissed, SetListener, Take, Done as DoneWith}
 use Rattle.jm_machine.specs.declared.call.Step.{Step}
 use Rattle.jm_machine.specs.declared.call.Who.{Who}
 use Rattle.jm_machine.specs.contracts.answer.AnswerPartialEq.TheImpl as answer_eq
@@ -89,6 +89,9 @@ request_same Acknowledge b = (λ e. search rules, λ e. search rules)
 request_same Recover b = (λ e. search rules, λ e. search rules)
 request_same Rollback b = (λ e. search rules, λ e. search rules)
 request_same (AskMissed c) b = (λ e. search rules, λ e. search rules)
+request_same (SetListener c on) b = (λ e. search rules, λ e. search rules)
+request_same (Take c now) b = (λ e. search rules, λ e. search rules)
+request_same (DoneWith c ok) b = (λ e. search rules, λ e. search rules)
 
 pub call_same : (a b : Call) → Decides ((call_eq.ghosts).eq a b) (a ≡ b)
 call_same (Ask a) (Ask b) = Decides-like _ (λ e. ap Ask e) (λ e. cc) (request_same a b)

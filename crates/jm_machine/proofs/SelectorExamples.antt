@@ -179,7 +179,7 @@ holding definition rows n = record {
       connections = record { id = 1; client = None; is_started = true; is_open = true } ∷ record { id = 2; client = None; is_started = false; is_open = true } ∷ [];
       sessions = record { id = receiver; mode = Auto; is_open = true } ∷ record { id = publisher; mode = Auto; is_open = true } ∷ [];
     };
-    consumers = record { session = receiver; id = 1; key = Own receiver 1; selector = None; is_active = true } ∷ [];
+    consumers = record { session = receiver; id = 1; key = Own receiver 1; selector = None; is_active = true; is_listening = false; is_busy = false } ∷ [];
     stations = record { key = Own receiver 1; definition = definition; missed = 0; rows = rows } ∷ [];
     queues = λ name. [];
     next_place = n + 1;

@@ -13,5 +13,6 @@ pub mod Isolation
 pub mod Examples
 pub mod DelayExamples
 pub mod SubscriptionExamples
+pub mod ListenerExamples
 pub mod Places
 pub mod Queues

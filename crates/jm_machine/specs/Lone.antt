@@ -12,7 +12,7 @@ use Rattle.jm_header.specs.declared.content.Content.{Content}
 use Rattle.jm_machine.specs.declared.call.Who.{Who}
 use Rattle.jm_machine.specs.declared.call.Who.TheVariants.{Connection, Session}
 use Rattle.jm_machine.specs.declared.call.Request.{Request}
-use Rattle.jm_machine.specs.declared.call.Request.TheVariants.{Open, CloseConnection, CreateSession, CloseSession, CreateConsumer, CreateDurable, CreateShared, CreateSharedDurable, Unsubscribe, CloseConsumer, Receive, Acknowledge, Recover, Rollback, Missed}
+use Rattle.jm_machine.specs.declared.call.Request.TheVariants.{Open, CloseConnection, CreateSession, CloseSession, CreateConsumer, CreateDurable, CreateShared, CreateSharedDurable, Unsubscribe, CloseConsumer, Receive, Acknowledge, Recover, Rollback, Missed, SetListener, Take, Done as DoneWith}
 use Rattle.jm_machine.specs.declared.answer.Answer.{Answer}
 use Rattle.jm_machine.specs.declared.entry.Entry.{Entry}
 use Rattle.jm_machine.specs.declared.entry.Entry.TheVariants.{Asked, Sent, Committed}
@@ -24,8 +24,8 @@ use Rattle.jm_machine.specs.declared.state.Consumer.{Consumer}
 use Rattle.jm_machine.specs.declared.state.Definition.{Definition}
 use Rattle.jm_machine.specs.Owns.{is_own, is_own_connection}
 use Rattle.jm_machine.specs.Life.{Life, connection_of, mode_of, is_started, life_after, own_life}
-use Rattle.jm_machine.specs.Rows.{fresh, left_of, is_out, given_back, deliver}
-use Rattle.jm_machine.specs.Machine.{State, station_of, definition_of, missed_of, rows_of, Publisher, publisher_of, accepts, is_full, one_missed, consumer_of, durable_of, key_created, is_same, asked, new_consumer, defined, of_session, of_connection, of_number, closed_consumer, ends, is_client, is_transacted, Holding, refusal, reply_by}
+use Rattle.jm_machine.specs.Rows.{fresh, left_of, taken, settles_at_once, is_out, given_back, deliver}
+use Rattle.jm_machine.specs.Machine.{State, station_of, definition_of, missed_of, rows_of, Publisher, publisher_of, accepts, is_full, one_missed, consumer_of, durable_of, key_created, is_same, asked, new_consumer, defined, of_session, of_connection, of_number, closed_consumer, ends, set_listening, set_busy, is_coming, is_client, is_transacted, Holding, refusal, reply_by}
 use Rattle.jm_machine.specs.Entries.{life_after_entry, committed}
 
 -- what belongs to an unshared topic subscription: its key, its own sessions, the clients of their connections, and its
@@ -235,6 +235,17 @@ lone_subscribed s c key d lone = lone_joined s c key (if is_same lone.definition
 abbrev pub lone_receive : (Row → List Row) → ℕ → Lone → Lone
 lone_receive f now lone = record lone { rows = deliver now f lone.rows }
 
+-- a consumer's listener takes a message: it is out in every mode, and the consumer is busy where one comes
+abbrev pub lone_take : SessionId → ℕ → ℕ → Lone → Lone
+lone_take s c now lone = record (lone_receive (taken s c) now lone) { consumers = set_busy s c (is_coming now lone.rows) lone.consumers }
+
+-- a consumer's listener is done with its message: the consumer is not busy any more, and where the mode settles a message as
+-- it is delivered, what is still out through this consumer is settled now, or waits again
+abbrev pub lone_done : SessionId → ℕ → Bool → Lone → Lone
+lone_done s c ok lone =
+    let free = record lone { consumers = set_busy s c false lone.consumers } in
+    if settles_at_once (mode_of lone.life s) then (if ok then lone_settled (of_number s c) free else lone_returned (of_number s c) free) else free
+
 -- what it holds after a request that is not refused
 unfoldable pub lone_did : Key → Lone → Who → Request → Lone
 lone_did key lone (Connection c) CloseConnection = lone_closed key (of_connection c) (lone_returned (of_connection c) (lone_life (Connection c) CloseConnection lone))
@@ -249,6 +260,9 @@ lone_did key lone (Session s) (CloseConsumer c) = lone_closed key (of_number s c
 lone_did key lone (Session s) Acknowledge = if is_client (mode_of lone.life s) then lone_settled (of_session s) lone else lone
 lone_did key lone (Session s) Recover = lone_returned (of_session s) lone
 lone_did key lone (Session s) Rollback = lone_returned (of_session s) lone
+lone_did key lone (Session s) (SetListener c on) = record lone { consumers = set_listening s c on lone.consumers }
+lone_did key lone (Session s) (Take c now) = if is_started lone.life s.connection then lone_take s c now lone else lone
+lone_did key lone (Session s) (DoneWith c ok) = lone_done s c ok lone
 lone_did key lone (Session s) _ = lone
 
 -- a consumer's number belongs to the key
@@ -266,6 +280,9 @@ about scope s (Unsubscribe name) = Some (is_own scope.sessions s && deletes_key 
 about scope s (CloseConsumer c) = Some (belongs scope s c)
 about scope s (Receive c now) = Some (belongs scope s c)
 about scope s (Missed c) = Some (belongs scope s c)
+about scope s (SetListener c on) = Some (belongs scope s c)
+about scope s (Take c now) = Some (belongs scope s c)
+about scope s (DoneWith c ok) = Some (belongs scope s c)
 about scope s _ = None
 
 -- a truth value that may be absent is true or absent

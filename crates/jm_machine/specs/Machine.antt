@@ -17,7 +17,7 @@ use Rattle.jm_header.specs.declared.content.Content.{Content}
 use Rattle.jm_machine.specs.declared.call.Who.{Who}
 use Rattle.jm_machine.specs.declared.call.Who.TheVariants.{Connection, Session}
 use Rattle.jm_machine.specs.declared.call.Request.{Request}
-use Rattle.jm_machine.specs.declared.call.Request.TheVariants.{Open, Start, Stop, CloseConnection, CreateSession, CloseSession, CreateConsumer, CreateDurable, CreateShared, CreateSharedDurable, Unsubscribe, CloseConsumer, Receive, Acknowledge, Recover, Rollback, Missed}
+use Rattle.jm_machine.specs.declared.call.Request.TheVariants.{Open, Start, Stop, CloseConnection, CreateSession, CloseSession, CreateConsumer, CreateDurable, CreateShared, CreateSharedDurable, Unsubscribe, CloseConsumer, Receive, Acknowledge, Recover, Rollback, Missed, SetListener, Take, Done as DoneWith}
 use Rattle.jm_machine.specs.declared.call.Call.{Call}
 use Rattle.jm_machine.specs.declared.call.Call.TheVariants.{Ask, Publish, Commit}
 use Rattle.jm_machine.specs.declared.consumers.Consumers.{Consumers}
@@ -31,7 +31,7 @@ use Rattle.jm_machine.specs.declared.state.Definition.{Definition}
 use Rattle.jm_machine.specs.declared.state.Consumer.{Consumer}
 use Rattle.jm_machine.specs.Life.{Life, connection_of, session_of, client_of, is_open_connection, is_closed_connection, is_client_taken, mode_of, is_started, is_new_session, life_after}
 use Rattle.jm_selector.specs.Selectors.{selector_read, selector_refusal, standing, read_selects}
-use Rattle.jm_machine.specs.Rows.{protected, fresh, is_out, given_back, live, next, raised, left_of, bare, chosen, deliver_placed, deliver_chosen, InOrder}
+use Rattle.jm_machine.specs.Rows.{protected, fresh, is_out, given_back, live, next, raised, left_of, taken, settles_at_once, bare, chosen, deliver_placed, deliver_chosen, InOrder}
 
 -- all that the provider holds
 pub record State : Type 0 where
@@ -198,6 +198,32 @@ abbrev pub is_active : Option Consumer → Bool
 is_active None = false
 is_active (Some x) = x.is_active
 
+-- a consumer listens: it is active, and its listener was set
+abbrev pub is_listening : Option Consumer → Bool
+is_listening None = false
+is_listening (Some x) = x.is_active && x.is_listening
+
+-- a consumer is busy from a take that came with a message until that is done, or the consumer closed
+abbrev pub is_busy : Option Consumer → Bool
+is_busy None = false
+is_busy (Some x) = x.is_active && x.is_busy
+
+-- a consumer, with that mark of its listener where it is that one
+abbrev pub listening_if : SessionId → ℕ → Bool → Consumer → Consumer
+listening_if s c on x = if has_number s c x then record x { is_listening = on } else x
+
+-- the consumers, of which that one has that mark
+abbrev pub set_listening : SessionId → ℕ → Bool → List Consumer → List Consumer
+set_listening s c on consumers = map (listening_if s c on) consumers
+
+-- a consumer, busy or not where it is that one
+abbrev pub busy_if : SessionId → ℕ → Bool → Consumer → Consumer
+busy_if s c on x = if has_number s c x then record x { is_busy = on } else x
+
+-- the consumers, of which that one is busy or not
+abbrev pub set_busy : SessionId → ℕ → Bool → List Consumer → List Consumer
+set_busy s c on consumers = map (busy_if s c on) consumers
+
 -- the key that a consumer receives from, where it was made
 abbrev pub key_at : Option Consumer → Option Key
 key_at None = None
@@ -214,9 +240,10 @@ abbrev pub selected_by : Option Consumer → Content → Bool
 selected_by None m = false
 selected_by (Some x) m = read_selects (selector_read x.selector) m
 
--- a new consumer, with its selector where it receives from a queue; that of a topic's stands with the subscription
+-- a new consumer, with its selector where it receives from a queue; that of a topic's stands with the subscription. It does
+-- not listen
 abbrev pub new_consumer : SessionId → ℕ → Key → Option (List ℕ) → Consumer
-new_consumer s c key selector = record { session = s; id = c; key = key; selector = selector; is_active = true }
+new_consumer s c key selector = record { session = s; id = c; key = key; selector = selector; is_active = true; is_listening = false; is_busy = false }
 
 -- a selector as it stands: none where its text holds no token
 abbrev pub standing_as : Option (List ℕ) → Option (List ℕ)
@@ -408,11 +435,13 @@ key_named life consumers (Session s) (CreateSharedDurable c destination name sel
 key_named life consumers (Session s) (Unsubscribe name) = Some (durable_of (client_of life) s name)
 key_named life consumers (Session s) (Receive c now) = key_at (consumer_of consumers s c)
 key_named life consumers (Session s) (Missed c) = key_at (consumer_of consumers s c)
+key_named life consumers (Session s) (Take c now) = key_at (consumer_of consumers s c)
 key_named life consumers _ _ = None
 
 -- the consumer that a request names by its number; none where it names none
 abbrev pub consumer_named : List Consumer → Who → Request → Option Consumer
 consumer_named consumers (Session s) (Receive c now) = consumer_of consumers s c
+consumer_named consumers (Session s) (Take c now) = consumer_of consumers s c
 consumer_named consumers _ _ = None
 
 -- what is held of the key that a request names
@@ -479,15 +508,31 @@ may_share held idle home d = not (is_some held) || is_same held d
 abbrev pub may_close_session : Life → SessionId → Bool
 may_close_session life s = is_some (session_of life.sessions s) || is_closed_connection (connection_of life.connections s.connection)
 
--- a consumer may be closed: it was made in the session, which is open, or the session is closed; closing it again
--- does nothing
+-- a consumer may be closed: it was made in the session, which is open, and it is not busy (ours), or the session is closed;
+-- closing it again does nothing
 abbrev pub may_close_consumer : Life → List Consumer → SessionId → ℕ → Bool
 may_close_consumer life consumers s c =
-    if is_some (mode_of life s) then is_some (consumer_of consumers s c) else is_some (session_of life.sessions s)
+    if is_some (mode_of life s) then is_some (consumer_of consumers s c) && not (is_busy (consumer_of consumers s c)) else is_some (session_of life.sessions s)
 
 -- a session's consumer may be used: both are open
 abbrev pub may_use : Life → List Consumer → SessionId → ℕ → Bool
 may_use life consumers s c = is_some (mode_of life s) && is_active (consumer_of consumers s c)
+
+-- a session's consumer may receive: it does not listen
+abbrev pub may_receive : Life → List Consumer → SessionId → ℕ → Bool
+may_receive life consumers s c = may_use life consumers s c && not (is_listening (consumer_of consumers s c))
+
+-- its listener may be set, or taken away: it is not busy (ours)
+abbrev pub may_set_listener : Life → List Consumer → SessionId → ℕ → Bool
+may_set_listener life consumers s c = may_use life consumers s c && not (is_busy (consumer_of consumers s c))
+
+-- its listener may take a message: it listens, and is not busy
+abbrev pub may_take : Life → List Consumer → SessionId → ℕ → Bool
+may_take life consumers s c = may_use life consumers s c && (is_listening (consumer_of consumers s c) && not (is_busy (consumer_of consumers s c)))
+
+-- its listener may be done with a message: it is busy
+abbrev pub may_be_done : Life → List Consumer → SessionId → ℕ → Bool
+may_be_done life consumers s c = may_use life consumers s c && is_busy (consumer_of consumers s c)
 
 -- a session that is open is transacted
 abbrev pub is_transacted : Option Mode → Bool
@@ -523,11 +568,14 @@ refusal life consumers holding (Session s) (CreateSharedDurable c destination na
 refusal life consumers holding (Session s) (Unsubscribe name) =
     first_cause (unless (is_some (mode_of life s)) IllegalState) (first_cause (unless (is_some holding.definition) InvalidDestination) (unless (is_free holding) SubscriptionInUse))
 refusal life consumers holding (Session s) (CloseConsumer c) = unless (may_close_consumer life consumers s c) IllegalState
-refusal life consumers holding (Session s) (Receive c now) = unless (may_use life consumers s c) IllegalState
+refusal life consumers holding (Session s) (Receive c now) = unless (may_receive life consumers s c) IllegalState
 refusal life consumers holding (Session s) Acknowledge = unless (is_some (mode_of life s)) IllegalState
 refusal life consumers holding (Session s) Recover = unless (is_untransacted (mode_of life s)) IllegalState
 refusal life consumers holding (Session s) Rollback = unless (is_transacted (mode_of life s)) IllegalState
 refusal life consumers holding (Session s) (Missed c) = unless (may_use life consumers s c) IllegalState
+refusal life consumers holding (Session s) (SetListener c on) = unless (may_set_listener life consumers s c) IllegalState
+refusal life consumers holding (Session s) (Take c now) = unless (may_take life consumers s c) IllegalState
+refusal life consumers holding (Session s) (DoneWith c ok) = unless (may_be_done life consumers s c) IllegalState
 refusal life consumers holding _ _ = Some IllegalState
 
 -- each message was stamped by this session in this opening
@@ -569,6 +617,35 @@ receive p f now (Some key) state = record state {
   queues = at_queue_of key (deliver_chosen p now f) state.queues;
 }
 
+-- a delivery comes at that moment
+abbrev pub is_coming : ℕ → List Row → Bool
+is_coming now rows = is_some (next now (live now rows))
+
+-- the listener of a key's consumer takes a message: as the consumer would receive, but what is delivered is out in every
+-- mode, and where one comes the consumer is busy
+abbrev pub take : (Content → Bool) → SessionId → ℕ → ℕ → Option Key → State → State
+take p s c now key state = record (receive p (taken s c) now key state) { consumers = set_busy s c (is_coming now (holding_at p key state).rows) state.consumers }
+
+-- a message is settled or given back: what is out through that consumer goes, or waits again
+abbrev pub done_rows : SessionId → ℕ → Bool → List PlacedRow → List PlacedRow
+done_rows s c ok rows = if ok then settled_rows (of_number s c) rows else returned_rows (of_number s c) rows
+
+-- so it is with what is held under the consumer's key
+abbrev pub with_done : SessionId → ℕ → Bool → Option Key → State → State
+with_done s c ok None state = state
+with_done s c ok (Some key) state = record state {
+  stations = at_key key (with_rows (done_rows s c ok)) state.stations;
+  queues = at_queue_of key (done_rows s c ok) state.queues;
+}
+
+-- the listener of a key's consumer is done with its message, in that mode: the consumer is not busy any more, and where
+-- the mode settles a message as it is delivered, it is settled now, or given back. What a recovery gave back is not out
+-- through the consumer, whoever has it
+abbrev pub done : SessionId → ℕ → Bool → Option Mode → Option Key → State → State
+done s c ok mode key state =
+    let free = record state { consumers = set_busy s c false state.consumers } in
+    if settles_at_once mode then with_done s c ok key free else free
+
 -- the connections and sessions after a request
 abbrev pub with_life : Who → Request → State → State
 with_life who request state = record state { life = life_after state.life who request }
@@ -600,6 +677,12 @@ after state (Session s) (CloseConsumer c) = closed (of_number s c) state
 after state (Session s) Acknowledge = if is_client (mode_of state.life s) then settled (of_session s) state else state
 after state (Session s) Recover = returned (of_session s) state
 after state (Session s) Rollback = returned (of_session s) state
+after state (Session s) (SetListener c on) = record state { consumers = set_listening s c on state.consumers }
+after state (Session s) (Take c now) =
+    if is_started state.life s.connection
+    then take (selected_by (consumer_of state.consumers s c)) s c now (key_at (consumer_of state.consumers s c)) state
+    else state
+after state (Session s) (DoneWith c ok) = done s c ok (mode_of state.life s) (key_at (consumer_of state.consumers s c)) state
 after state (Session s) _ = state
 
 -- the state after a commit that is not refused: all that is out to the session is settled, and then the messages are
@@ -613,7 +696,7 @@ abbrev pub delivery : Option Row → Answer
 delivery None = Nothing
 delivery (Some r) = Delivered (record { message = protected r.message; count = raised r.count })
 
--- the answer to a receive: on a stopped connection there is nothing
+-- the answer to a receive, or to a take: on a stopped connection there is nothing
 abbrev pub delivered : Bool → ℕ → List Row → Answer
 delivered started now rows = if started then delivery (next now (live now rows)) else Nothing
 
@@ -621,6 +704,7 @@ delivered started now rows = if started then delivery (next now (live now rows))
 unfoldable pub answer : Life → List Consumer → Holding → Who → Request → Answer
 answer life consumers holding (Session s) (Receive c now) = delivered (is_started life s.connection) now holding.rows
 answer life consumers holding (Session s) (Missed c) = MissedSoFar holding.missed
+answer life consumers holding (Session s) (Take c now) = delivered (is_started life s.connection) now holding.rows
 answer life consumers holding _ _ = Done
 
 -- an answer, or a refusal

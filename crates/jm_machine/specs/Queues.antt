@@ -10,7 +10,7 @@ use Rattle.jm_header.specs.declared.content.Content.{Content}
 use Rattle.jm_machine.specs.declared.call.Who.{Who}
 use Rattle.jm_machine.specs.declared.call.Who.TheVariants.{Connection, Session}
 use Rattle.jm_machine.specs.declared.call.Request.{Request}
-use Rattle.jm_machine.specs.declared.call.Request.TheVariants.{Receive, Acknowledge}
+use Rattle.jm_machine.specs.declared.call.Request.TheVariants.{Receive, Acknowledge, Take, Done as DoneWith}
 use Rattle.jm_machine.specs.declared.call.Call.{Call}
 use Rattle.jm_machine.specs.declared.call.Call.TheVariants.{Ask, Publish, Commit}
 use Rattle.jm_machine.specs.declared.call.Step.{Step}
@@ -18,7 +18,7 @@ use Rattle.jm_machine.specs.declared.state.PlacedRow.{PlacedRow}
 use Rattle.jm_machine.specs.declared.state.Row.{Row}
 use Rattle.jm_machine.specs.Life.{is_started, mode_of}
 use Rattle.jm_machine.specs.Rows.{bare, fresh, has_lapsed, is_next_chosen, is_out, live, live_placed, settles_at_once}
-use Rattle.jm_machine.specs.Machine.{State, consumer_of, key_at, selected_by, of_session, is_client, held, refusal, publish_refusal, commit_refusal, step}
+use Rattle.jm_machine.specs.Machine.{State, consumer_of, key_at, selected_by, of_session, of_number, is_client, held, refusal, publish_refusal, commit_refusal, step}
 use Rattle.jm_machine.specs.Isolation.{Reached}
 use Rattle.jm_machine.specs.Places.{rows_at, rows_holding}
 
@@ -39,19 +39,26 @@ is_queue name (Some (Durable client other)) = false
 abbrev pub delivered_row : (Content → Bool) → ℕ → List PlacedRow → List PlacedRow
 delivered_row p now rows = first_row (is_next_chosen p now (live now (bare rows))) (live_placed now rows)
 
--- what a request that is not refused settles at the queue: a client's acknowledgement all that is out to its session,
--- and a receive of a session that settles at once the row that it delivers
+-- what a request that is not refused settles at the queue: a client's acknowledgement all that is out to its session, a
+-- receive of a session that settles at once the row that it delivers, and in such a session a listener that is done what is
+-- out through its consumer, unless that is given back
 abbrev pub settles : List ℕ → State → Who → Request → List PlacedRow
 settles name state (Session s) Acknowledge = if is_client (mode_of state.life s) then filter (λ x. is_out (of_session s) x.row) (state.queues name) else []
 settles name state (Session s) (Receive c now) =
     if is_started state.life s.connection && (is_queue name (key_at (consumer_of state.consumers s c)) && settles_at_once (mode_of state.life s))
     then delivered_row (selected_by (consumer_of state.consumers s c)) now (state.queues name)
     else []
+settles name state (Session s) (DoneWith c ok) =
+    if ok && (is_queue name (key_at (consumer_of state.consumers s c)) && settles_at_once (mode_of state.life s))
+    then filter (λ x. is_out (of_number s c) x.row) (state.queues name)
+    else []
 settles name state _ _ = []
 
--- what it drops: a receive from the queue the rows that have lapsed
+-- what it drops: a receive from the queue, or a take, the rows that have lapsed
 abbrev pub drops_lapsed : List ℕ → State → Who → Request → List PlacedRow
 drops_lapsed name state (Session s) (Receive c now) =
+    if is_started state.life s.connection && is_queue name (key_at (consumer_of state.consumers s c)) then filter (λ x. has_lapsed now x.row) (state.queues name) else []
+drops_lapsed name state (Session s) (Take c now) =
     if is_started state.life s.connection && is_queue name (key_at (consumer_of state.consumers s c)) then filter (λ x. has_lapsed now x.row) (state.queues name) else []
 drops_lapsed name state _ _ = []
 

@@ -96,6 +96,10 @@ sent_out s c r = record { message = r.message; count = raised r.count; state = O
 unfoldable pub left_of : Option Mode → SessionId → ℕ → Row → List Row
 left_of mode s c r = if settles_at_once mode then [] else sent_out s c r ∷ []
 
+-- what a delivery to a consumer's listener leaves of a row: in every mode it is out
+abbrev pub taken : SessionId → ℕ → Row → List Row
+taken s c r = sent_out s c r ∷ []
+
 -- a row that is out through a consumer that passes waits again, with its count
 abbrev pub given_back : (SessionId → ℕ → Bool) → Row → Row
 given_back p r = if is_out p r then record r { state = Waiting } else r

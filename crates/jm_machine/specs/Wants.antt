@@ -1,6 +1,7 @@
 -- Where memory may be wanted: only a call that takes memory may be told so, whatever else is told to it.
 use Rattle.std.specs.Prelude.{ℕ, Bool, true, false, not, ◌&&◌, ◌||◌, ◌==◌, List, [], Option, Some, None, find, count_by, sum_by, is_some, is_none, Result, Err}
 use Rattle.jm_base.specs.declared.mode.Mode.{Mode}
+use Rattle.jm_base.specs.declared.mode.Mode.TheVariants.{Client}
 use Rattle.jm_base.specs.declared.refusal.Refusal.{Refusal}
 use Rattle.jm_base.specs.declared.refusal.Refusal.TheVariants.{Memory}
 use Rattle.jm_dest.specs.declared.key.Key.{Key}
@@ -9,7 +10,7 @@ use Rattle.jm_header.specs.declared.content.Content.{Content}
 use Rattle.jm_machine.specs.declared.call.Who.{Who}
 use Rattle.jm_machine.specs.declared.call.Who.TheVariants.{Connection, Session}
 use Rattle.jm_machine.specs.declared.call.Request.{Request}
-use Rattle.jm_machine.specs.declared.call.Request.TheVariants.{Open, CreateSession, CreateConsumer, CreateDurable, CreateShared, CreateSharedDurable, Unsubscribe, Receive}
+use Rattle.jm_machine.specs.declared.call.Request.TheVariants.{Open, CreateSession, CreateConsumer, CreateDurable, CreateShared, CreateSharedDurable, Unsubscribe, Receive, Take}
 use Rattle.jm_machine.specs.declared.call.Call.{Call}
 use Rattle.jm_machine.specs.declared.call.Call.TheVariants.{Ask, Publish, Commit}
 use Rattle.jm_machine.specs.declared.answer.Answer.{Answer}
@@ -17,7 +18,7 @@ use Rattle.jm_machine.specs.declared.state.PlacedRow.{PlacedRow}
 use Rattle.jm_machine.specs.declared.state.Station.{Station}
 use Rattle.jm_machine.specs.Life.{client_of, connection_of, is_client_taken, is_new_session, is_started, mode_of}
 use Rattle.jm_machine.specs.Rows.{bare, is_next, is_next_chosen, live, live_placed, settles_at_once}
-use Rattle.jm_machine.specs.Machine.{State, is_of_topic, consumer_of, key_at, may_begin, may_use, publish_refusal, commit_refusal, selected_by, station_of}
+use Rattle.jm_machine.specs.Machine.{State, is_of_topic, consumer_of, key_at, may_begin, may_receive, may_take, publish_refusal, commit_refusal, selected_by, station_of}
 
 -- a reply that says that memory was wanted
 abbrev pub is_want : Result Answer Refusal → Bool
@@ -62,8 +63,9 @@ is_next_held_after mode now p (Some (Durable client name)) state = is_held_after
 -- a request takes memory where it opens a connection or a session, or makes a consumer, and none of the causes stands that
 -- are seen before: a consumer's selector is parsed, so a want of memory may come in place of its refusal, and of each
 -- later one. To delete a subscription takes memory in an open session, to look for its name. A receive takes memory where
--- the consumer may receive, a row is next, and its message is held after it: a copy is handed out. To start and to stop,
--- to close, to acknowledge, to recover and to roll back takes none
+-- the consumer may receive, a row is next, and its message is held after it: a copy is handed out. So does a take, after
+-- which each message is held, as in a session whose client acknowledges. To start and to stop, to close, to acknowledge,
+-- to recover and to roll back takes none, and so does to set a listener, and to be done with a message
 abbrev pub takes_memory : State → Who → Request → Bool
 takes_memory state (Connection c) (Open client) = not (is_some (connection_of state.life.connections c)) && not (is_client_taken state.life client)
 takes_memory state (Session s) (CreateSession mode) = is_new_session state.life s
@@ -73,7 +75,9 @@ takes_memory state (Session s) (CreateShared c destination name selector) = may_
 takes_memory state (Session s) (CreateSharedDurable c destination name selector) = may_begin state.life state.consumers s c && is_of_topic destination
 takes_memory state (Session s) (Unsubscribe name) = is_some (mode_of state.life s)
 takes_memory state (Session s) (Receive c now) =
-    may_use state.life state.consumers s c && (is_started state.life s.connection && is_next_held_after (mode_of state.life s) now (selected_by (consumer_of state.consumers s c)) (key_at (consumer_of state.consumers s c)) state)
+    may_receive state.life state.consumers s c && (is_started state.life s.connection && is_next_held_after (mode_of state.life s) now (selected_by (consumer_of state.consumers s c)) (key_at (consumer_of state.consumers s c)) state)
+takes_memory state (Session s) (Take c now) =
+    may_take state.life state.consumers s c && (is_started state.life s.connection && is_next_held_after (Some Client) now (selected_by (consumer_of state.consumers s c)) (key_at (consumer_of state.consumers s c)) state)
 takes_memory state _ _ = false
 
 -- memory may be wanted by a call: a request that takes it, or a publication or a commit that is not refused

@@ -80,12 +80,12 @@ pub enum Request {
     Unsubscribe {
         name: SubscriptionName,
     },
-    /// Closes the consumer. A subscription of its own ends, and a shared non-durable one with its last consumer, each with
-    /// all that is held for it; what another's consumer received stays with the session.
+    /// Closes the consumer, unless it is busy. A subscription of its own ends, and a shared non-durable one with its last
+    /// consumer, each with all that is held for it; what another's consumer received stays with the session.
     CloseConsumer {
         consumer: ConsumerId,
     },
-    /// Asks for the consumer's next message at that moment.
+    /// Asks for the consumer's next message at that moment; the consumer does not listen.
     Receive {
         consumer: ConsumerId,
         now: Moment,
@@ -102,6 +102,24 @@ pub enum Request {
     /// Asks how many publications the consumer's subscription missed, since it was at its limit (ours).
     Missed {
         consumer: ConsumerId,
+    },
+    /// Lets the consumer listen, where `on` is set, or else no more; it is not busy. One that listens gives its messages to
+    /// its listener alone.
+    SetListener {
+        consumer: ConsumerId,
+        on: bool,
+    },
+    /// Asks for the next message at that moment, for the listener of the consumer, which listens and is not busy. What is
+    /// delivered is out to the session in every mode, and the consumer is busy until `Done`.
+    Take {
+        consumer: ConsumerId,
+        now: Moment,
+    },
+    /// Ends the delivery for which the consumer is busy. In modes `Auto` and `Dups`, where the message is still out through
+    /// this consumer, it is settled where `ok` is set, and else waits again; in any other it stays out.
+    Done {
+        consumer: ConsumerId,
+        ok: bool,
     },
 }
 
@@ -223,6 +241,18 @@ impl Request {
             Request::Receive { consumer, now } => Ok(Request::Receive {
                 consumer: *consumer,
                 now: *now,
+            }),
+            Request::SetListener { consumer, on } => Ok(Request::SetListener {
+                consumer: *consumer,
+                on: *on,
+            }),
+            Request::Take { consumer, now } => Ok(Request::Take {
+                consumer: *consumer,
+                now: *now,
+            }),
+            Request::Done { consumer, ok } => Ok(Request::Done {
+                consumer: *consumer,
+                ok: *ok,
             }),
         }
     }

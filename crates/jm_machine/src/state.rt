@@ -38,6 +38,11 @@ pub struct Consumer {
     pub selector: Selector,
     /// A consumer that was closed stays known, and is not made again.
     pub is_active: bool,
+    /// Whether its listener was set, and not taken away since.
+    pub is_listening: bool,
+    /// Whether its listener was given a message, and is not done with it. A consumer that was closed keeps both marks, and
+    /// neither listens nor is busy.
+    pub is_busy: bool,
 }
 
 /// What a subscription asks for.
@@ -130,6 +135,8 @@ impl Consumer {
             key: self.key.copy()?,
             selector: self.selector.copy()?,
             is_active: self.is_active,
+            is_listening: self.is_listening,
+            is_busy: self.is_busy,
         })
     }
 }
