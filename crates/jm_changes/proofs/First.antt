@@ -6,7 +6,7 @@ use Rattle.jm_machine.specs.declared.state.PlacedRow.{PlacedRow}
 use Rattle.jm_machine.specs.declared.state.Row.{Row}
 use Rattle.jm_machine.specs.Rows.{InOrder}
 use Rattle.jm_keep.specs.Persisted.{is_persistent, row_at}
-use Rattle.jm_changes.proofs.Placed.{none_at}
+use Rattle.jm_keep_law.proofs.Placed.{none_at}
 use Rattle.jm_changes.specs.declared.planned.Standing.{Standing}
 use Rattle.jm_changes.specs.Standing.{first_where, standing}
 use Rattle.jm_keep.specs.Steps.{passes}

@@ -1,6 +1,6 @@
 -- The rows that go, and the messages that go with them.
 use Rattle.std.proofs.Common.{◌≡◌, ◌⊎◌, inl, inr, ℕ, ◌<◌, ◌+◌, Bool, true, false, cond, List, [], ◌∷◌, ◌++◌, length, refl, sym, subst, ◌∙◌, ap, Option, Some, None, arith}
-use Rattle.std.specs.Prelude.{◌==◌, ◌&&◌, ◌||◌, not, IsSome, nat_lt}
+use Rattle.std.specs.Prelude.{◌==◌, ◌&&◌, ◌||◌, not, IfSome, IsSome, nat_lt}
 use Rattle.std.proofs.lemmas.Bool.Decides.{nat_tests}
 use Rattle.std.proofs.lemmas.List.Folds.{list_any-append}
 use Rattle.jm_dest.specs.declared.key.Key.{Key}
@@ -8,15 +8,16 @@ use Rattle.jm_dest.specs.declared.key.Key.TheVariants.{Queue, Own, SharedOwn, Du
 use Rattle.jm_dest.specs.declared.session.SessionId.{SessionId}
 use Rattle.jm_dest.specs.Keys.{key_eq}
 use Rattle.jm_header.specs.declared.content.Content.{Content}
+use Rattle.jm_header.specs.Headers.{is_delayed}
 use Rattle.jm_machine.specs.declared.state.PlacedRow.{PlacedRow}
 use Rattle.jm_machine.specs.declared.state.Row.{Row}
 use Rattle.jm_machine.specs.Rows.{has_lapsed, is_out}
 use Rattle.jm_machine.specs.Machine.{State}
 use Rattle.jm_machine.proofs.Keys.{key_same, key_refl}
 use Rattle.jm_keep.specs.Stored.{is_at}
-use Rattle.jm_keep.specs.Leads.{AreLast, is_one_of}
-use Rattle.jm_keep.specs.Persisted.{if_stored, is_lasting, is_persistent, row_at, rows_under, shown, stored_row}
-use Rattle.jm_keep.specs.Steps.{AreGone, StandsInOrder, all_under, is_place_of, lapsed_under, next_under, out_through, passes, taken_under}
+use Rattle.jm_keep.specs.Leads.{AreDelays, AreLast, is_among, is_one_of}
+use Rattle.jm_keep.specs.Persisted.{StoredRow, if_stored, is_lasting, is_persistent, row_at, rows_under, shown, stored_row}
+use Rattle.jm_keep.specs.Steps.{AreGone, StandsInOrder, all_under, is_place_of, lapsed_under, next_under, out_through, out_under, passes, taken_under}
 use Rattle.jm_changes.specs.Standing.{AreMet, AreOf, Covers, key_in, stays}
 use Rattle.jm_changes.proofs.Placed.{next_at}
 
@@ -66,10 +67,26 @@ if_not : (b : Bool) → (b ≡ true → false ≡ true) → b ≡ false
 if_not true h = sym (h refl)
 if_not false h = refl
 
+-- of the messages that go those have a delay of which a stored row shows it
+delays_met : (f : Key → Row → Bool) (goes : Key → ℕ → Row → Bool) (state : State) (rows : List (Key × ℕ)) (delays gone : List ℕ) → ((key : Key) (place : ℕ) → is_one_of rows key place ≡ (is_lasting key && passes (goes key place) (row_at place (rows_under state key)))) → AreMet f state rows delays gone → AreDelays state delays gone
+delays_met f goes state rows delays gone a m = record {
+  among = m.among;
+  delayed = λ place e. let w = m.met place e in let x = shows (is_lasting w.0) (goes w.0 place) (row_at place (rows_under state w.0)) (is_among delays place) (sym (a w.0 place) ∙ w.1) w.2 in (w.0, x.0, x.1, x.2);
+}
+  where
+    shows : (b : Bool) (q : Row → Bool) (o : Option Row) (d : Bool) → (b && passes q o) ≡ true → IfSome o (λ r. d ≡ is_delayed r.message) → (x : StoredRow) × (cond b (if_stored o) None ≡ Some x) × (d ≡ is_delayed x.message)
+    shows false q o d h s = cc
+    shows true q None d h s = cc
+    shows true q (Some r) d h s = go (is_persistent r.message.mode) refl h
+      where
+        go : (p : Bool) → is_persistent r.message.mode ≡ p → (p && q r) ≡ true → (x : StoredRow) × (if_stored (Some r) ≡ Some x) × (d ≡ is_delayed x.message)
+        go true e h = (shown r, ap (λ b. cond b (Some (shown r)) None) e, s)
+        go false e h = cc
+
 -- ---- rows of one key
 
-one_last : (k : Key) (q : ℕ → Row → Bool) (state : State) (rows : List (Key × ℕ)) (gone : List ℕ) → AreOf k q state rows → AreMet (λ key r. key_eq k key) state rows gone → AreLast state rows gone
-one_last k q state rows gone a m = record {
+one_last : (k : Key) (q : ℕ → Row → Bool) (state : State) (rows : List (Key × ℕ)) (delays gone : List ℕ) → AreOf k q state rows → AreMet (λ key r. key_eq k key) state rows delays gone → AreLast state rows gone
+one_last k q state rows delays gone a m = record {
   last = λ key place e h.
       let s = stored_is (is_lasting key) (row_at place (rows_under state key)) h in
       let own : key_eq k key ≡ true = must_go (λ r. key_eq k key) (is_lasting key) (row_at place (rows_under state key)) s.0 s.1 s.2 s.3 (m.last place e key) in
@@ -84,11 +101,12 @@ one_last k q state rows gone a m = record {
     only : (key : Key) (place : ℕ) → is_one_of rows key place ≡ true → key_eq k key ≡ true
     only key place e = and_is (key_eq k key) (passes (q place) (row_at place (rows_under state k))) (sym (a key place) ∙ e)
 
-one_gone : (k : Key) (q : ℕ → Row → Bool) (goes : Key → ℕ → Row → Bool) (state : State) (rows : List (Key × ℕ)) (gone : List ℕ) → is_lasting k ≡ true → ((key : Key) (place : ℕ) (r : Row) → goes key place r ≡ (key_eq k key && q place r)) →
-    AreOf k q state rows → AreMet (λ key r. key_eq k key) state rows gone → AreGone goes state rows gone
-one_gone k q goes state rows gone l g a m = record {
-  rows_are = λ key place. a key place ∙ go key place (key_eq k key) refl ∙ sym (ap (λ b. is_lasting key && b) (passes_same (goes key place) (λ r. key_eq k key && q place r) (g key place) (row_at place (rows_under state key))));
-  places_are = one_last k q state rows gone a m;
+one_gone : (k : Key) (q : ℕ → Row → Bool) (goes : Key → ℕ → Row → Bool) (state : State) (rows : List (Key × ℕ)) (delays gone : List ℕ) → is_lasting k ≡ true → ((key : Key) (place : ℕ) (r : Row) → goes key place r ≡ (key_eq k key && q place r)) →
+    AreOf k q state rows → AreMet (λ key r. key_eq k key) state rows delays gone → AreGone goes state rows delays gone
+one_gone k q goes state rows delays gone l g a m = record {
+  rows_are = rows_are;
+  places_are = one_last k q state rows delays gone a m;
+  delays_are = delays_met (λ key r. key_eq k key) goes state rows delays gone rows_are m;
 }
   where
     own : (place : ℕ) (b : Bool) → b ≡ true → (o : Option Row) → passes (q place) o ≡ passes (λ r. b && q place r) o
@@ -114,6 +132,9 @@ one_gone k q goes state rows gone l g a m = record {
         (own place (key_eq k k) (key_refl k) (row_at place (rows_under state k)) ∙ sym (ap (λ b. b && passes (λ r. key_eq k k && q place r) (row_at place (rows_under state k))) l))
     go key place false e = and_none (is_lasting key) (passes (λ r. key_eq k key && q place r) (row_at place (rows_under state key))) (none (key_eq k key) e place (row_at place (rows_under state key)))
 
+    rows_are : (key : Key) (place : ℕ) → is_one_of rows key place ≡ (is_lasting key && passes (goes key place) (row_at place (rows_under state key)))
+    rows_are key place = a key place ∙ go key place (key_eq k key) refl ∙ sym (ap (λ b. is_lasting key && b) (passes_same (goes key place) (λ r. key_eq k key && q place r) (g key place) (row_at place (rows_under state key))))
+
 -- nothing goes where no row stands under the key
 pub none_of : (k : Key) (q : ℕ → Row → Bool) (state : State) → rows_under state k ≡ [] → AreOf k q state []
 none_of k q state e key place = sym (ap (λ rows. key_eq k key && passes (q place) (row_at place rows)) e ∙ go (key_eq k key))
@@ -122,23 +143,26 @@ none_of k q state e key place = sym (ap (λ rows. key_eq k key && passes (q plac
     go true = refl
     go false = refl
 
-pub met_none : (g : Key → Row → Bool) (state : State) → AreMet g state [] []
-met_none g state = record { met = λ p e. cc; last = λ p e. cc; left = λ key p e i. cc }
+pub met_none : (g : Key → Row → Bool) (state : State) → AreMet g state [] [] []
+met_none g state = record { met = λ p e. cc; among = λ p e. cc; last = λ p e. cc; left = λ key p e i. cc }
 
 -- ---- of a delivery, and of a subscription that is deleted
 
-pub lapsed_gone : (k : Key) (now : ℕ) (state : State) (rows : List (Key × ℕ)) (gone : List ℕ) → is_lasting k ≡ true → AreOf k (λ place. has_lapsed now) state rows → AreMet (λ key r. key_eq k key) state rows gone → AreGone (lapsed_under k now) state rows gone
-lapsed_gone k now state rows gone l a m = one_gone k (λ place. has_lapsed now) (lapsed_under k now) state rows gone l (λ key place r. refl) a m
+pub lapsed_gone : (k : Key) (now : ℕ) (state : State) (rows : List (Key × ℕ)) (delays gone : List ℕ) → is_lasting k ≡ true → AreOf k (λ place. has_lapsed now) state rows → AreMet (λ key r. key_eq k key) state rows delays gone → AreGone (lapsed_under k now) state rows delays gone
+lapsed_gone k now state rows delays gone l a m = one_gone k (λ place. has_lapsed now) (lapsed_under k now) state rows delays gone l (λ key place r. refl) a m
 
-pub all_gone : (k : Key) (state : State) (rows : List (Key × ℕ)) (gone : List ℕ) → is_lasting k ≡ true → AreOf k (λ place r. true) state rows → AreMet (λ key r. key_eq k key) state rows gone → AreGone (all_under k) state rows gone
-all_gone k state rows gone l a m = one_gone k (λ place r. true) (all_under k) state rows gone l (λ key place r. and_true (key_eq k key)) a m
+pub all_gone : (k : Key) (state : State) (rows : List (Key × ℕ)) (delays gone : List ℕ) → is_lasting k ≡ true → AreOf k (λ place r. true) state rows → AreMet (λ key r. key_eq k key) state rows delays gone → AreGone (all_under k) state rows delays gone
+all_gone k state rows delays gone l a m = one_gone k (λ place r. true) (all_under k) state rows delays gone l (λ key place r. and_true (key_eq k key)) a m
   where
     and_true : (b : Bool) → b ≡ (b && true)
     and_true true = refl
     and_true false = refl
 
-pub taken_gone : (k : Key) (now : ℕ) (next : Option PlacedRow) (state : State) (rows : List (Key × ℕ)) (gone : List ℕ) → is_lasting k ≡ true → AreOf k (λ place r. has_lapsed now r || is_place_of next place) state rows → AreMet (λ key r. key_eq k key) state rows gone → AreGone (taken_under k now next) state rows gone
-taken_gone k now next state rows gone l a m = one_gone k (λ place r. has_lapsed now r || is_place_of next place) (taken_under k now next) state rows gone l (λ key place r. refl) a m
+pub held_gone : (k : Key) (p : SessionId → ℕ → Bool) (state : State) (rows : List (Key × ℕ)) (delays gone : List ℕ) → is_lasting k ≡ true → AreOf k (λ place. is_out p) state rows → AreMet (λ key r. key_eq k key) state rows delays gone → AreGone (out_under k p) state rows delays gone
+held_gone k p state rows delays gone l a m = one_gone k (λ place. is_out p) (out_under k p) state rows delays gone l (λ key place r. refl) a m
+
+pub taken_gone : (k : Key) (now : ℕ) (next : Option PlacedRow) (state : State) (rows : List (Key × ℕ)) (delays gone : List ℕ) → is_lasting k ≡ true → AreOf k (λ place r. has_lapsed now r || is_place_of next place) state rows → AreMet (λ key r. key_eq k key) state rows delays gone → AreGone (taken_under k now next) state rows delays gone
+taken_gone k now next state rows delays gone l a m = one_gone k (λ place r. has_lapsed now r || is_place_of next place) (taken_under k now next) state rows delays gone l (λ key place r. refl) a m
 
 -- the one that is taken goes with those that lapsed, where it is stored
 or_false : (b : Bool) → (b || false) ≡ b
@@ -257,8 +281,8 @@ out_same p state keys rows n l a = record { out = a.out; all = λ i place m h. a
         (λ h. absurd (let both : false ≡ true = sym (ap (λ b. b && passes (is_out p) (row_at place (rows_under state (key_in keys n)))) l) ∙ h in cc)) h
 
 -- so all that are out were met
-pub out_gone : (p : SessionId → ℕ → Bool) (state : State) (keys : List Key) (rows : List (Key × ℕ)) (gone : List ℕ) → Covers keys state → AreOut p state keys rows (length keys) → AreMet (λ key r. is_out p r) state rows gone → AreGone (out_through p) state rows gone
-out_gone p state keys rows gone c a m = record {
+pub out_gone : (p : SessionId → ℕ → Bool) (state : State) (keys : List Key) (rows : List (Key × ℕ)) (delays gone : List ℕ) → Covers keys state → AreOut p state keys rows (length keys) → AreMet (λ key r. is_out p r) state rows delays gone → AreGone (out_through p) state rows delays gone
+out_gone p state keys rows delays gone c a m = record {
   rows_are = rows_are;
   places_are = record {
     last = λ key place e h.
@@ -270,6 +294,7 @@ out_gone p state keys rows gone c a m = record {
         let s = stays_stored (λ key r. is_out p r) state l.0 place l.1 in
         (l.0, s.3, rows_are l.0 place ∙ ap (λ o. is_lasting l.0 && passes (is_out p) o) s.1 ∙ ap (λ b. is_lasting l.0 && (is_persistent s.0.message.mode && b)) s.2 ∙ nothing (is_lasting l.0) (is_persistent s.0.message.mode));
   };
+  delays_are = delays_met (λ key r. is_out p r) (out_through p) state rows delays gone rows_are m;
 }
   where
     nothing : (a b : Bool) → (a && (b && false)) ≡ false

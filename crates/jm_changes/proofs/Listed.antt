@@ -1,36 +1,39 @@
 -- The changes that are listed, by what was met.
 use Rattle.std.proofs.Common.{◌≡◌, ℕ, Bool, true, false, cond, List, [], ◌∷◌, ◌++◌, refl, sym, subst, ◌∙◌, ap, Option, Some, None, Result, Ok, Err, append-nil}
-use Rattle.std.specs.Prelude.{IfOk, MatchBool, option_map, is_some, ◌&&◌, ◌||◌}
+use Rattle.std.specs.Prelude.{IfOk, IfSome, MatchBool, option_map, is_some, ◌&&◌, ◌||◌}
 use Rattle.jm_base.specs.declared.mode.Mode.{Mode}
 use Rattle.jm_dest.specs.declared.key.Key.{Key}
+use Rattle.jm_dest.specs.declared.session.SessionId.{SessionId}
 use Rattle.jm_dest.specs.Keys.{key_eq}
 use Rattle.jm_header.specs.declared.content.Content.{Content}
+use Rattle.jm_header.specs.Headers.{is_delayed}
 use Rattle.jm_machine.specs.declared.state.Definition.{Definition}
 use Rattle.jm_machine.specs.declared.state.PlacedRow.{PlacedRow}
 use Rattle.jm_machine.specs.declared.state.Row.{Row}
-use Rattle.jm_machine.specs.Rows.{has_lapsed, raised, settles_at_once}
+use Rattle.jm_machine.specs.Rows.{has_lapsed, is_out, raised, settles_at_once}
 use Rattle.jm_machine.specs.Machine.{State, definition_of, same_definition, station_of}
 use Rattle.jm_keep.specs.declared.change.RowChange.{RowChange}
 use Rattle.jm_keep.specs.declared.change.RowChange.TheVariants.{DropStation, PutStation, SetCount}
-use Rattle.jm_keep.specs.Calls.{AreDelivered, AreSubscribed, DropsThen}
+use Rattle.jm_keep.specs.Calls.{AreDelivered, AreDone, AreSubscribed, DropsThen}
 use Rattle.jm_keep.specs.Leads.{drops, is_one_of}
 use Rattle.jm_keep.specs.Persisted.{is_lasting, row_at, rows_under}
-use Rattle.jm_keep.specs.Steps.{AreGone, StandsInOrder, all_under, counted, is_place_of, lapsed_under, next_under, passes, taken_under}
+use Rattle.jm_keep.specs.Steps.{AreGone, StandsInOrder, all_under, counted, is_place_of, lapsed_under, next_under, out_under, passes, taken_under}
 use Rattle.jm_changes.specs.declared.planned.Standing.{Standing}
 use Rattle.jm_changes.specs.Planned.{IsDecided}
-use Rattle.jm_changes.specs.Standing.{AreMet, AreOf, standing}
+use Rattle.jm_changes.specs.Standing.{AreMet, AreOf, IsRead, standing}
 use Rattle.jm_changes.specs.Subscriptions.{ArePut}
-use Rattle.jm_changes.proofs.Gone.{all_gone, lapsed_gone, met_none, next_none, none_of, taken_gone, takes_nothing, takes_stored, takes_unstored}
+use Rattle.jm_changes.proofs.Gone.{all_gone, held_gone, lapsed_gone, met_none, next_none, none_of, taken_gone, takes_nothing, takes_stored, takes_unstored}
+use Rattle.jm_changes.proofs.Placed.{next_at}
 
-pub drops_then : (goes : Key → ℕ → Row → Bool) (state : State) (rows : List (Key × ℕ)) (gone : List ℕ) (others changes : List RowChange) → AreGone goes state rows gone → changes ≡ drops rows gone ++ others → DropsThen goes state others changes
-drops_then goes state rows gone others changes a e = record { rows = rows; places = gone; are_gone = a; changes_are = e }
+pub drops_then : (goes : Key → ℕ → Row → Bool) (state : State) (rows : List (Key × ℕ)) (delays gone : List ℕ) (others changes : List RowChange) → AreGone goes state rows delays gone → changes ≡ drops rows delays gone ++ others → DropsThen goes state others changes
+drops_then goes state rows delays gone others changes a e = record { rows = rows; delays = delays; places = gone; are_gone = a; changes_are = e }
 
-pub drops_only : (goes : Key → ℕ → Row → Bool) (state : State) (rows : List (Key × ℕ)) (gone : List ℕ) (changes : List RowChange) → AreGone goes state rows gone → changes ≡ drops rows gone → DropsThen goes state [] changes
-drops_only goes state rows gone changes a e = drops_then goes state rows gone [] changes a (e ∙ sym (append-nil (drops rows gone)))
+pub drops_only : (goes : Key → ℕ → Row → Bool) (state : State) (rows : List (Key × ℕ)) (delays gone : List ℕ) (changes : List RowChange) → AreGone goes state rows delays gone → changes ≡ drops rows delays gone → DropsThen goes state [] changes
+drops_only goes state rows delays gone changes a e = drops_then goes state rows delays gone [] changes a (e ∙ sym (append-nil (drops rows delays gone)))
 
 -- the same with further changes
 pub drops_more : (goes : Key → ℕ → Row → Bool) (state : State) (others more changes : List RowChange) → DropsThen goes state others changes → DropsThen goes state (others ++ more) (changes ++ more)
-drops_more goes state others more changes d = record { rows = d.rows; places = d.places; are_gone = d.are_gone; changes_are = ap (λ cs. cs ++ more) d.changes_are ∙ assoc (drops d.rows d.places) others more }
+drops_more goes state others more changes d = record { rows = d.rows; delays = d.delays; places = d.places; are_gone = d.are_gone; changes_are = ap (λ cs. cs ++ more) d.changes_are ∙ assoc (drops d.rows d.delays d.places) others more }
   where
     assoc : (a b c : List RowChange) → (a ++ b) ++ c ≡ a ++ (b ++ c)
     assoc [] b c = refl
@@ -49,6 +52,12 @@ none_found : (o : Option PlacedRow) → option_map standing o ≡ None → o ≡
 none_found None e = refl
 none_found (Some x) e = cc
 
+-- what was read of it tells whether its message has a delay
+pub next_read : (p : Content → Bool) (now : ℕ) (k : Key) (state : State) (r : Standing) → StandsInOrder state → option_map standing (next_under p now k (rows_under state k)) ≡ Some r → IsRead state k r
+next_read p now k state r o e =
+    let x = found (next_under p now k (rows_under state k)) r e in
+    subst (λ s. IsRead state k s) x.2 (subst (λ row. IfSome row (λ y. is_delayed x.0.row.message ≡ is_delayed y.message)) (sym (next_at p now k state x.0 o x.1)) refl)
+
 pub counted_none : (k : Key) (o : Option PlacedRow) → option_map standing o ≡ None → counted k o ≡ []
 counted_none k o e = ap (counted k) (none_found o e)
 
@@ -66,21 +75,21 @@ counted_unstored k o r e p =
     ∙ ap (λ b. cond b (SetCount k f.0.place (raised f.0.row.count) ∷ []) []) (ap (λ s. s.is_persistent) f.2 ∙ p)
 
 -- what such a delivery loses: nothing is next
-pub takes_none : (p : Content → Bool) (now : ℕ) (k : Key) (state : State) (rows : List (Key × ℕ)) (gone : List ℕ) → is_lasting k ≡ true → option_map standing (next_under p now k (rows_under state k)) ≡ None → AreOf k (λ place. has_lapsed now) state rows → AreMet (λ key r. key_eq k key) state rows gone → AreGone (taken_under k now (next_under p now k (rows_under state k))) state rows gone
-takes_none p now k state rows gone l e a m = taken_gone k now (next_under p now k (rows_under state k)) state rows gone l (takes_nothing now k (next_under p now k (rows_under state k)) state rows (none_found _ e) a) m
+pub takes_none : (p : Content → Bool) (now : ℕ) (k : Key) (state : State) (rows : List (Key × ℕ)) (delays gone : List ℕ) → is_lasting k ≡ true → option_map standing (next_under p now k (rows_under state k)) ≡ None → AreOf k (λ place. has_lapsed now) state rows → AreMet (λ key r. key_eq k key) state rows delays gone → AreGone (taken_under k now (next_under p now k (rows_under state k))) state rows delays gone
+takes_none p now k state rows delays gone l e a m = taken_gone k now (next_under p now k (rows_under state k)) state rows delays gone l (takes_nothing now k (next_under p now k (rows_under state k)) state rows (none_found _ e) a) m
 
 -- or one that is not stored
-pub takes_other : (p : Content → Bool) (now : ℕ) (k : Key) (state : State) (r : Standing) (rows : List (Key × ℕ)) (gone : List ℕ) → StandsInOrder state → is_lasting k ≡ true → option_map standing (next_under p now k (rows_under state k)) ≡ Some r → r.is_persistent ≡ false → AreOf k (λ place. has_lapsed now) state rows → AreMet (λ key r. key_eq k key) state rows gone → AreGone (taken_under k now (next_under p now k (rows_under state k))) state rows gone
-takes_other p now k state r rows gone o l e f a m =
+pub takes_other : (p : Content → Bool) (now : ℕ) (k : Key) (state : State) (r : Standing) (rows : List (Key × ℕ)) (delays gone : List ℕ) → StandsInOrder state → is_lasting k ≡ true → option_map standing (next_under p now k (rows_under state k)) ≡ Some r → r.is_persistent ≡ false → AreOf k (λ place. has_lapsed now) state rows → AreMet (λ key r. key_eq k key) state rows delays gone → AreGone (taken_under k now (next_under p now k (rows_under state k))) state rows delays gone
+takes_other p now k state r rows delays gone o l e f a m =
     let x = found (next_under p now k (rows_under state k)) r e in
-    taken_gone k now (next_under p now k (rows_under state k)) state rows gone l (takes_unstored p now k state x.0 rows o x.1 (ap (λ s. s.is_persistent) x.2 ∙ f) a) m
+    taken_gone k now (next_under p now k (rows_under state k)) state rows delays gone l (takes_unstored p now k state x.0 rows o x.1 (ap (λ s. s.is_persistent) x.2 ∙ f) a) m
 
 -- or one that is, and goes too
-pub takes_one : (p : Content → Bool) (now : ℕ) (k : Key) (state : State) (r : Standing) (rows new : List (Key × ℕ)) (gone : List ℕ) → StandsInOrder state → is_lasting k ≡ true → option_map standing (next_under p now k (rows_under state k)) ≡ Some r → r.is_persistent ≡ true → AreOf k (λ place. has_lapsed now) state rows → new ≡ rows ++ (k, r.place) ∷ [] → AreMet (λ key r. key_eq k key) state new gone → AreGone (taken_under k now (next_under p now k (rows_under state k))) state new gone
-takes_one p now k state r rows new gone o l e f a n m =
+pub takes_one : (p : Content → Bool) (now : ℕ) (k : Key) (state : State) (r : Standing) (rows new : List (Key × ℕ)) (delays gone : List ℕ) → StandsInOrder state → is_lasting k ≡ true → option_map standing (next_under p now k (rows_under state k)) ≡ Some r → r.is_persistent ≡ true → AreOf k (λ place. has_lapsed now) state rows → new ≡ rows ++ (k, r.place) ∷ [] → AreMet (λ key r. key_eq k key) state new delays gone → AreGone (taken_under k now (next_under p now k (rows_under state k))) state new delays gone
+takes_one p now k state r rows new delays gone o l e f a n m =
     let x = found (next_under p now k (rows_under state k)) r e in
     let is : new ≡ rows ++ (k, x.0.place) ∷ [] = n ∙ ap (λ s. rows ++ (k, s.place) ∷ []) (sym x.2) in
-    taken_gone k now (next_under p now k (rows_under state k)) state new gone l
+    taken_gone k now (next_under p now k (rows_under state k)) state new delays gone l
     (subst (λ rows. AreOf k (λ place r. has_lapsed now r || is_place_of (next_under p now k (rows_under state k)) place) state rows) (sym is) (takes_stored p now k state x.0 rows o x.1 (ap (λ s. s.is_persistent) x.2 ∙ f) a)) m
 
 -- ---- a delivery
@@ -110,23 +119,40 @@ delivers_nothing mode p now k state changes l e z = go (settles_at_once mode) re
 
     go : (b : Bool) → settles_at_once mode ≡ b → AreDelivered mode p now k state changes
     go true s = delivers_at_once mode p now k state changes l s
-        (drops_only (taken_under k now (next_under p now k (rows_under state k))) state [] [] changes
-        (taken_gone k now (next_under p now k (rows_under state k)) state [] [] l (none_of k (λ place r. has_lapsed now r || is_place_of (next_under p now k (rows_under state k)) place) state e) (met_none (λ key r. key_eq k key) state)) z)
+        (drops_only (taken_under k now (next_under p now k (rows_under state k))) state [] [] [] changes
+        (taken_gone k now (next_under p now k (rows_under state k)) state [] [] [] l (none_of k (λ place r. has_lapsed now r || is_place_of (next_under p now k (rows_under state k)) place) state e) (met_none (λ key r. key_eq k key) state)) z)
     go false s = delivers_later mode p now k state changes l s
-        (drops_then (lapsed_under k now) state [] [] (counted k (next_under p now k (rows_under state k))) changes
-        (lapsed_gone k now state [] [] l (none_of k (λ place. has_lapsed now) state e) (met_none (λ key r. key_eq k key) state)) (z ∙ sym (ap (counted k) none)))
+        (drops_then (lapsed_under k now) state [] [] [] (counted k (next_under p now k (rows_under state k))) changes
+        (lapsed_gone k now state [] [] [] l (none_of k (λ place. has_lapsed now) state e) (met_none (λ key r. key_eq k key) state)) (z ∙ sym (ap (counted k) none)))
+
+-- ---- a listener that is done
+
+pub done_apart : (p : SessionId → ℕ → Bool) (k : Key) (state : State) (changes : List RowChange) → is_lasting k ≡ false → changes ≡ [] → AreDone p (Some k) state changes
+done_apart p k state changes l e = subst (λ b. MatchBool b (DropsThen (out_under k p) state [] changes) (changes ≡ [])) (sym l) e
+
+pub done_there : (p : SessionId → ℕ → Bool) (k : Key) (state : State) (rows : List (Key × ℕ)) (delays gone : List ℕ) (changes : List RowChange) → is_lasting k ≡ true → AreOf k (λ place. is_out p) state rows → AreMet (λ key r. key_eq k key) state rows delays gone → changes ≡ drops rows delays gone → AreDone p (Some k) state changes
+done_there p k state rows delays gone changes l a m e =
+    subst (λ b. MatchBool b (DropsThen (out_under k p) state [] changes) (changes ≡ [])) (sym l)
+    (drops_only (out_under k p) state rows delays gone changes (held_gone k p state rows delays gone l a m) e)
+
+pub done_nothing : (p : SessionId → ℕ → Bool) (k : Key) (state : State) (changes : List RowChange) → is_lasting k ≡ true → rows_under state k ≡ [] → changes ≡ [] → AreDone p (Some k) state changes
+done_nothing p k state changes l e z = done_there p k state [] [] [] changes l (none_of k (λ place. is_out p) state e) (met_none (λ key r. key_eq k key) state) z
 
 -- ---- a subscription
 
-pub nothing_under : (k : Key) (state : State) (rows : List (Key × ℕ)) (gone : List ℕ) → is_lasting k ≡ true → rows_under state k ≡ [] → rows ≡ [] → gone ≡ [] → AreGone (all_under k) state rows gone
-nothing_under k state rows gone l e r g = subst (λ rows. AreGone (all_under k) state rows gone) (sym r) (subst (λ gone. AreGone (all_under k) state [] gone) (sym g) (all_gone k state [] [] l (none_of k (λ place r. true) state e) (met_none (λ key r. key_eq k key) state)))
+pub nothing_under : (k : Key) (state : State) (rows : List (Key × ℕ)) (delays gone : List ℕ) → is_lasting k ≡ true → rows_under state k ≡ [] → rows ≡ [] → delays ≡ [] → gone ≡ [] → AreGone (all_under k) state rows delays gone
+nothing_under k state rows delays gone l e r d g =
+    subst (λ rows. AreGone (all_under k) state rows delays gone) (sym r)
+    (subst (λ delays. AreGone (all_under k) state [] delays gone) (sym d)
+    (subst (λ gone. AreGone (all_under k) state [] [] gone) (sym g)
+    (all_gone k state [] [] [] l (none_of k (λ place r. true) state e) (met_none (λ key r. key_eq k key) state))))
 
 -- under a key that was found all go
-pub all_met : (k key : Key) (state : State) (old rows : List (Key × ℕ)) (gone : List ℕ) → k ≡ key → is_lasting key ≡ true → old ≡ [] →
-    ((other : Key) (p : ℕ) → is_one_of rows other p ≡ (is_one_of old other p || (key_eq k other && passes (λ r. true) (row_at p (rows_under state k))))) → AreMet (λ other r. key_eq k other) state rows gone → AreGone (all_under key) state rows gone
-all_met k key state old rows gone e l o a m =
-    subst (λ t. AreGone (all_under t) state rows gone) e
-    (all_gone k state rows gone (subst (λ t. is_lasting t ≡ true) (sym e) l) (λ other p. a other p ∙ ap (λ xs. is_one_of xs other p || (key_eq k other && passes (λ r. true) (row_at p (rows_under state k)))) o) m)
+pub all_met : (k key : Key) (state : State) (old rows : List (Key × ℕ)) (delays gone : List ℕ) → k ≡ key → is_lasting key ≡ true → old ≡ [] →
+    ((other : Key) (p : ℕ) → is_one_of rows other p ≡ (is_one_of old other p || (key_eq k other && passes (λ r. true) (row_at p (rows_under state k))))) → AreMet (λ other r. key_eq k other) state rows delays gone → AreGone (all_under key) state rows delays gone
+all_met k key state old rows delays gone e l o a m =
+    subst (λ t. AreGone (all_under t) state rows delays gone) e
+    (all_gone k state rows delays gone (subst (λ t. is_lasting t ≡ true) (sym e) l) (λ other p. a other p ∙ ap (λ xs. is_one_of xs other p || (key_eq k other && passes (λ r. true) (row_at p (rows_under state k)))) o) m)
 
 abbrev pair : Key → Definition → Key × Definition
 pair k d = (k, d)

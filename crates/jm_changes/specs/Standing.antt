@@ -1,8 +1,9 @@
 -- Rows as they stand under keys, and which of them go.
-use Rattle.std.specs.Prelude.{◌≡◌, ◌<◌, ◌⊎◌, ℕ, Bool, true, false, not, ◌&&◌, nat_le, List, [], length, find, slice_index_or, Option, Some, None}
+use Rattle.std.specs.Prelude.{◌≡◌, ◌<◌, ◌⊎◌, ℕ, Bool, true, false, not, ◌&&◌, nat_le, List, [], ◌∷◌, length, find, slice_index_or, Option, Some, None, IfSome}
 use Rattle.jm_dest.specs.declared.key.Key.{Key}
 use Rattle.jm_dest.specs.declared.key.Key.TheVariants.{Queue}
 use Rattle.jm_dest.specs.Keys.{key_eq}
+use Rattle.jm_header.specs.Headers.{is_delayed}
 use Rattle.jm_machine.specs.declared.state.PlacedRow.{PlacedRow}
 use Rattle.jm_machine.specs.declared.state.Row.{Row}
 use Rattle.jm_machine.specs.Rows.{has_lapsed, is_out}
@@ -28,7 +29,7 @@ first_where q place rows = find (λ x. nat_le place x.place && q x.row) rows
 
 -- what is read of a row
 abbrev pub standing : PlacedRow → Standing
-standing x = record { place = x.place; count = x.row.count; is_persistent = is_persistent x.row.message.mode }
+standing x = record { place = x.place; count = x.row.count; is_persistent = is_persistent x.row.message.mode; is_delayed = is_delayed x.row.message }
 
 -- the key at an index
 abbrev pub key_in : List Key → ℕ → Key
@@ -47,9 +48,24 @@ goes keys (going.Out which) key r = is_out (are_meant which) r
 abbrev pub stays : (Key → Row → Bool) → State → Key → ℕ → Bool
 stays g state key place = is_lasting key && passes (λ r. not (g key r)) (row_at place (rows_under state key))
 
--- of the rows that go, the places of those messages go of which no stored row stays
-pub record AreMet (g : Key → Row → Bool) (state : State) (rows : List (Key × ℕ)) (places : List ℕ) : Type 0 where
-  pub met : (place : ℕ) → is_among places place ≡ true → (key : Key) × (is_one_of rows key place ≡ true)
+-- the row under the key at its place has a delay exactly where that was read
+abbrev pub IsRead : State → Key → Standing → Type 0
+IsRead state key s = IfSome (row_at s.place (rows_under state key)) (λ r. s.is_delayed ≡ is_delayed r.message)
+
+-- the place of a message that goes, where it has a delay
+abbrev pub delay_at : Bool → ℕ → List ℕ
+delay_at true place = place ∷ []
+delay_at false place = []
+
+-- one of the rows stands at the place, and its message has a delay exactly where the place is among the delays
+abbrev pub Tells : State → List (Key × ℕ) → List ℕ → ℕ → Type 0
+Tells state rows delays place = (key : Key) × (is_one_of rows key place ≡ true) × IfSome (row_at place (rows_under state key)) (λ r. is_among delays place ≡ is_delayed r.message)
+
+-- of the rows that go, the places of those messages go of which no stored row stays; the delays are those of these places
+-- where the message has a delay
+pub record AreMet (g : Key → Row → Bool) (state : State) (rows : List (Key × ℕ)) (delays places : List ℕ) : Type 0 where
+  pub met : (place : ℕ) → is_among places place ≡ true → Tells state rows delays place
+  pub among : (place : ℕ) → is_among delays place ≡ true → is_among places place ≡ true
   pub last : (place : ℕ) → is_among places place ≡ true → (key : Key) → stays g state key place ≡ false
   pub left : (key : Key) (place : ℕ) → is_among places place ≡ false → is_one_of rows key place ≡ true → (other : Key) × (stays g state other place ≡ true)
 

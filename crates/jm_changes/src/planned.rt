@@ -26,6 +26,8 @@ pub struct Standing {
     pub place: u64,
     pub count: u32,
     pub is_persistent: bool,
+    /// Whether the message has a delivery delay: its delivery time is after its timestamp.
+    pub is_delayed: bool,
 }
 
 /// Which rows under a key are meant.

@@ -6,8 +6,9 @@ ghost use Rattle.jm_machine.specs.Machine.{places_end};
 ghost use Rattle.jm_keep.specs.declared.change.RowChange.TheVariants.{PutHeld, PutMessage};
 ghost use Rattle.jm_format.specs.Format as format;
 ghost use Rattle.jm_keep.specs.Calls.{ArePublished, come, queue_station};
+ghost use Rattle.jm_keep.specs.Leads.{put_delay};
 ghost use Rattle.jm_changes.specs.Sending.{IsBrought};
-ghost use Rattle.jm_keep.specs.Persisted.{is_persistent as persists};
+ghost use Rattle.jm_keep.specs.Persisted.{due_time, is_persistent as persists};
 
 use crate::planned::Planned;
 use jm_base::List as Bytes;
@@ -55,6 +56,17 @@ fn push_message(
     Ok(())
 }
 
+/// Adds the delivery time of the message, where it has a delay.
+fn push_delay(changes: &mut Vec<RowChange>, place: u64, message: &Message) -> Result<(), AllocError>
+    ensures { OnOk result (changes.new.items ≡ changes.old.items ++ put_delay place (due_time message.now)) }
+{
+    if message.is_delayed() {
+        let due = message.delivery_time();
+        changes.push(RowChange::PutDelay { place, due })?;
+    }
+    Ok(())
+}
+
 /// Adds a row of each of the keys.
 fn push_held(changes: &mut Vec<RowChange>, keys: Vec<Key>, place: u64) -> Result<(), AllocError>
     ensures { OnOk result (changes.new.items ≡ changes.old.items ++ map (λ (k : logic.Key). PutHeld k place) keys.items) }
@@ -65,7 +77,8 @@ fn push_held(changes: &mut Vec<RowChange>, keys: Vec<Key>, place: u64) -> Result
     Ok(())
 }
 
-/// Adds that the message comes at the place to those keys: its queue's station, the message, and a row of each.
+/// Adds that the message comes at the place to those keys: its queue's station, the message, its delivery time where it has a
+/// delay, and a row of each.
 fn push_come(
     alloc: Global,
     changes: &mut Vec<RowChange>,
@@ -80,6 +93,7 @@ fn push_come(
     }
     push_station(changes, message)?;
     push_message(alloc, changes, place, message)?;
+    push_delay(changes, place, message)?;
     push_held(changes, keys, place)
 }
 

@@ -2,18 +2,18 @@
 
 ghost use Rattle.std.specs.Prelude.{◌≡◌, ◌<◌, ◌++◌, [], Some, true, length, IfOk, OnOk};
 ghost use Rattle.jm_machine.specs.Machine.{are_meant, selected_by};
-ghost use Rattle.jm_machine.specs.Rows.{has_lapsed, raised};
-ghost use Rattle.jm_keep.specs.Calls.{AreDelivered, DropsThen};
+ghost use Rattle.jm_machine.specs.Rows.{raised};
+ghost use Rattle.jm_keep.specs.Calls.{AreDelivered, AreDone, DropsThen};
 ghost use Rattle.jm_keep.specs.Persisted.{is_lasting as lasts, rows_under};
-ghost use Rattle.jm_keep.specs.Steps.{AreGone, StandsInOrder, counted, lapsed_under, next_under, out_through, taken_under};
+ghost use Rattle.jm_keep.specs.Steps.{AreGone, StandsInOrder, counted, lapsed_under, next_under, out_through, out_under, taken_under};
 ghost use Rattle.jm_changes.specs.declared.going.Going.TheVariants as one;
-ghost use Rattle.jm_changes.specs.Standing.{AreMet, AreOf, goes, key_in};
+ghost use Rattle.jm_changes.specs.Standing.{AreMet, AreOf, goes, key_in, meant};
 
 use crate::going::{Going, is_lasting};
 use crate::lost::Lost;
 use crate::planned::{Planned, Which};
 use jm_base::Mode;
-use jm_dest::Moment;
+use jm_dest::{Key, Moment};
 use jm_keep::RowChange;
 use jm_machine::{Consumer, Consumers};
 use std::alloc::{AllocError, Global};
@@ -40,7 +40,7 @@ pub(crate) fn lost_out<P: Planned>(
     which: &Consumers,
 ) -> Result<Lost, AllocError>
     requires { StandsInOrder (P.state planned.now) }
-    ensures { IfOk result (λ lost. AreGone (out_through (are_meant which.now)) (P.state planned.now) lost.rows.items lost.gone.items) }
+    ensures { IfOk result (λ lost. AreGone (out_through (are_meant which.now)) (P.state planned.now) lost.rows.items lost.delays.items lost.gone.items) }
 {
     let mut lost = Lost::new(alloc);
     for index in 0..planned.len() {
@@ -51,20 +51,20 @@ pub(crate) fn lost_out<P: Planned>(
     Ok(lost)
 }
 
-/// The stored rows under the key with that index that have lapsed.
-fn lost_lapsed<P: Planned>(
+/// The stored rows under the key with that index that are meant.
+fn lost_where<P: Planned>(
     alloc: Global,
     planned: &P,
     index: usize,
-    now: Moment,
+    which: &Which,
 ) -> Result<Lost, AllocError>
     requires within { index < length (P.keys planned.now) }
     requires order { StandsInOrder (P.state planned.now) }
-    ensures rows { IfOk result (λ lost. AreOf (key_in (P.keys planned.now) index) (λ place. has_lapsed now) (P.state planned.now) lost.rows.items) }
-    ensures met { IfOk result (λ lost. AreMet (goes (P.keys planned.now) (one.Under index)) (P.state planned.now) lost.rows.items lost.gone.items) }
+    ensures rows { IfOk result (λ lost. AreOf (key_in (P.keys planned.now) index) (λ place. meant which.now) (P.state planned.now) lost.rows.items) }
+    ensures met { IfOk result (λ lost. AreMet (goes (P.keys planned.now) (one.Under index)) (P.state planned.now) lost.rows.items lost.delays.items lost.gone.items) }
 {
     let mut lost = Lost::new(alloc);
-    lost.add_where(planned, index, &Which::Lapsed(now), &Going::Under(index))?;
+    lost.add_where(planned, index, which, &Going::Under(index))?;
     Ok(lost)
 }
 
@@ -82,12 +82,12 @@ fn lost_taken<P: Planned>(
     ensures { IfOk result (λ lost. AreGone
         (taken_under (key_in (P.keys planned.now) index) now (next_under (selected_by (Some consumer.now)) now (key_in (P.keys planned.now) index)
         (rows_under (P.state planned.now) (key_in (P.keys planned.now) index))))
-        (P.state planned.now) lost.rows.items lost.gone.items) }
+        (P.state planned.now) lost.rows.items lost.delays.items lost.gone.items) }
 {
-    let mut lost = lost_lapsed(alloc, planned, index, now)?;
+    let mut lost = lost_where(alloc, planned, index, &Which::Lapsed(now))?;
     if let Some(next) = planned.next(index, now, consumer) {
         if next.is_persistent {
-            lost.add(planned, index, next.place, &Going::Under(index))?;
+            lost.add(planned, index, next, &Going::Under(index))?;
         }
     }
     Ok(lost)
@@ -154,7 +154,7 @@ fn sent<P: Planned>(
         (next_under (selected_by (Some consumer.now)) now (key_in (P.keys planned.now) index) (rows_under (P.state planned.now) (key_in (P.keys planned.now) index))))
         changes.items) }
 {
-    let lost = lost_lapsed(alloc, planned, index, now)?;
+    let lost = lost_where(alloc, planned, index, &Which::Lapsed(now))?;
     let mut changes = lost.into_changes()?;
     push_count(&mut changes, planned, index, consumer, now)?;
     Ok(changes)
@@ -181,4 +181,23 @@ pub(crate) fn delivered<P: Planned>(
         Some(Mode::Auto | Mode::Dups) => received(alloc, planned, index, consumer, now),
         Some(Mode::Client | Mode::Transacted) | None => sent(alloc, planned, index, consumer, now),
     }
+}
+
+/// What it changes that of the rows under the key those are settled that are out through those consumers.
+pub(crate) fn done<P: Planned>(
+    alloc: Global,
+    planned: &P,
+    key: &Key,
+    which: &Consumers,
+) -> Result<Vec<RowChange>, AllocError>
+    requires { StandsInOrder (P.state planned.now) }
+    ensures { IfOk result (λ changes. AreDone (are_meant which.now) (Some key.now) (P.state planned.now) changes.items) }
+{
+    if !is_lasting(key) {
+        return Ok(Vec::new(alloc));
+    }
+    let Some(index) = planned.index_of(key) else {
+        return Ok(Vec::new(alloc));
+    };
+    lost_where(alloc, planned, index, &Which::Out(*which))?.into_changes()
 }

@@ -19,7 +19,7 @@ use std::alloc::{AllocError, Global};
 /// The stored rows under the key, and the messages that go with them.
 fn lost_under<P: Planned>(alloc: Global, planned: &P, key: &Key) -> Result<Lost, AllocError>
     requires { StandsInOrder (P.state planned.now) }
-    ensures { lasts key.now ≡ true → IfOk result (λ lost. AreGone (all_under key.now) (P.state planned.now) lost.rows.items lost.gone.items) }
+    ensures { lasts key.now ≡ true → IfOk result (λ lost. AreGone (all_under key.now) (P.state planned.now) lost.rows.items lost.delays.items lost.gone.items) }
 {
     let mut lost = Lost::new(alloc);
     if let Some(index) = planned.index_of(key) {

@@ -1,7 +1,8 @@
 -- Which changes each kind of call asks for, and that they lead from what is stored before it to what is stored after it.
-use Rattle.std.specs.Prelude.{◌≡◌, ℕ, ◌+◌, Bool, true, false, List, [], ◌∷◌, ◌++◌, Option, Some, None, IsOk, IsErr, MatchBool, if◌then◌else◌}
+use Rattle.std.specs.Prelude.{◌≡◌, ℕ, ◌+◌, Bool, true, false, List, [], ◌∷◌, ◌++◌, ◌&&◌, Option, Some, None, IsOk, IsErr, MatchBool, if◌then◌else◌}
 use Rattle.std.specs.List.{list_any}
 use Rattle.jm_base.specs.declared.mode.Mode.{Mode}
+use Rattle.jm_base.specs.declared.mode.Mode.TheVariants.{Client}
 use Rattle.jm_dest.specs.declared.destination.Destination.{Destination}
 use Rattle.jm_dest.specs.declared.destination.Destination.TheVariants.{Queue, Topic}
 use Rattle.jm_dest.specs.declared.key.Key.{Key}
@@ -12,19 +13,19 @@ use Rattle.jm_header.specs.declared.content.Content.{Content}
 use Rattle.jm_machine.specs.declared.call.Who.{Who}
 use Rattle.jm_machine.specs.declared.call.Who.TheVariants.{Connection, Session}
 use Rattle.jm_machine.specs.declared.call.Request.{Request}
-use Rattle.jm_machine.specs.declared.call.Request.TheVariants.{CreateDurable, CreateSharedDurable, Unsubscribe, Receive, Acknowledge}
+use Rattle.jm_machine.specs.declared.call.Request.TheVariants.{CreateDurable, CreateSharedDurable, Unsubscribe, Receive, Acknowledge, Take, Done}
 use Rattle.jm_machine.specs.declared.call.Call.{Call}
 use Rattle.jm_machine.specs.declared.call.Call.TheVariants.{Ask, Publish, Commit}
 use Rattle.jm_machine.specs.declared.state.Definition.{Definition}
 use Rattle.jm_machine.specs.declared.state.Row.{Row}
 use Rattle.jm_machine.specs.Life.{client_of, is_started, mode_of}
 use Rattle.jm_machine.specs.Rows.{settles_at_once}
-use Rattle.jm_machine.specs.Machine.{State, asked, consumer_of, definition_of, durable_of, is_client, key_at, of_session, reply, same_definition, selected_by, station_of, step}
+use Rattle.jm_machine.specs.Machine.{State, asked, consumer_of, definition_of, durable_of, is_client, key_at, of_number, of_session, reply, same_definition, selected_by, station_of, step}
 use Rattle.jm_keep.specs.declared.change.RowChange.{RowChange}
 use Rattle.jm_keep.specs.declared.change.RowChange.TheVariants.{DropStation, PutStation}
 use Rattle.jm_keep.specs.Persisted.{is_lasting, is_persistent, rows_under, LeadsTo}
 use Rattle.jm_keep.specs.Leads.{drops, puts}
-use Rattle.jm_keep.specs.Steps.{StandsInOrder, AreGone, taken_under, lapsed_under, out_through, all_under, next_under, counted, takes}
+use Rattle.jm_keep.specs.Steps.{StandsInOrder, AreGone, taken_under, lapsed_under, out_through, out_under, all_under, next_under, counted, takes}
 
 -- Publications
 
@@ -56,12 +57,14 @@ ArePublished state place (m ∷ messages) changes =
 
 -- Rows that go
 
--- the changes are that the rows which go are dropped, and with them each message of which none is left; and then those
+-- the changes are that the rows which go are dropped, and with them each message of which none is left, with its delivery
+-- time where it has a delay; and then those
 pub record DropsThen (goes : Key → ℕ → Row → Bool) (state : State) (others changes : List RowChange) : Type 0 where
   pub rows : List (Key × ℕ)
+  pub delays : List ℕ
   pub places : List ℕ
-  pub are_gone : AreGone goes state rows places
-  pub changes_are : changes ≡ drops rows places ++ others
+  pub are_gone : AreGone goes state rows delays places
+  pub changes_are : changes ≡ drops rows delays places ++ others
 
 -- Requests
 
@@ -79,6 +82,12 @@ abbrev pub AreReceived : Option Mode → (Content → Bool) → ℕ → Option K
 AreReceived mode p now None state changes = changes ≡ []
 AreReceived mode p now (Some k) state changes = AreDelivered mode p now k state changes
 
+-- a listener is done with its message: of its consumer's key, where it was made, the rows go that are out through this
+-- consumer
+abbrev pub AreDone : (SessionId → ℕ → Bool) → Option Key → State → List RowChange → Type 0
+AreDone p None state changes = changes ≡ []
+AreDone p (Some k) state changes = MatchBool (is_lasting k) (DropsThen (out_under k p) state [] changes) (changes ≡ [])
+
 -- a durable subscription that asks for that is made, where none stands; one that asks for the same is joined, and another
 -- replaced
 abbrev pub AreSubscribed : Key → Definition → Option Definition → State → List RowChange → Type 0
@@ -86,7 +95,8 @@ AreSubscribed k d None state changes = changes ≡ PutStation k (Some d) ∷ []
 AreSubscribed k d (Some old) state changes =
     MatchBool (same_definition old d) (changes ≡ []) (DropsThen (all_under k) state (DropStation k ∷ PutStation k (Some d) ∷ []) changes)
 
--- the changes that a session's request asks for
+-- the changes that a session's request asks for. What a listener takes is out in every mode, as in a session whose client
+-- acknowledges
 abbrev pub AreRequested : State → SessionId → Request → List RowChange → Type 0
 AreRequested state s (CreateDurable c destination name selector no_local) changes =
     AreSubscribed (durable_of (client_of state.life) s name) (asked destination selector no_local false) (definition_of (station_of (durable_of (client_of state.life) s name) state.stations)) state changes
@@ -99,6 +109,12 @@ AreRequested state s (Receive c now) changes =
     (AreReceived (mode_of state.life s) (selected_by (consumer_of state.consumers s c)) now (key_at (consumer_of state.consumers s c)) state changes)
     (changes ≡ [])
 AreRequested state s Acknowledge changes = MatchBool (is_client (mode_of state.life s)) (DropsThen (out_through (of_session s)) state [] changes) (changes ≡ [])
+AreRequested state s (Take c now) changes =
+    MatchBool (is_started state.life s.connection)
+    (AreReceived (Some Client) (selected_by (consumer_of state.consumers s c)) now (key_at (consumer_of state.consumers s c)) state changes)
+    (changes ≡ [])
+AreRequested state s (Done c ok) changes =
+    MatchBool (ok && settles_at_once (mode_of state.life s)) (AreDone (of_number s c) (key_at (consumer_of state.consumers s c)) state changes) (changes ≡ [])
 AreRequested state s _ changes = changes ≡ []
 
 -- Calls

@@ -4,14 +4,15 @@ use Rattle.std.specs.List.{list_any}
 use Rattle.jm_dest.specs.declared.key.Key.{Key}
 use Rattle.jm_dest.specs.Keys.{key_eq}
 use Rattle.jm_header.specs.declared.content.Content.{Content}
+use Rattle.jm_header.specs.Headers.{is_delayed}
 use Rattle.jm_format.specs.Format as format
 use Rattle.jm_machine.specs.declared.state.Definition.{Definition}
 use Rattle.jm_machine.specs.Machine.{State}
 use Rattle.jm_machine.specs.Rows.{fresh}
 use Rattle.jm_keep.specs.Stored.{is_at, definition_after}
-use Rattle.jm_keep.specs.Persisted.{stored_row, shown, durable_definition, LeadsTo}
+use Rattle.jm_keep.specs.Persisted.{StoredRow, stored_row, shown, due_time, durable_definition, LeadsTo}
 use Rattle.jm_keep.specs.declared.change.RowChange.{RowChange}
-use Rattle.jm_keep.specs.declared.change.RowChange.TheVariants.{DropHeld, DropMessage, DropStation, PutStation, PutMessage, PutHeld, SetCount}
+use Rattle.jm_keep.specs.declared.change.RowChange.TheVariants.{DropHeld, DropMessage, DropStation, PutStation, PutMessage, PutHeld, SetCount, DropDelay, PutDelay}
 
 -- a row of a key at a place
 abbrev pub is_one_of : List (Key × ℕ) → Key → ℕ → Bool
@@ -21,26 +22,38 @@ is_one_of rows key place = list_any (λ x. is_at x.0 x.1 key place) rows
 abbrev pub is_among : List ℕ → ℕ → Bool
 is_among places place = list_any (λ p. p == place) places
 
--- rows go, and messages
-abbrev pub drops : List (Key × ℕ) → List ℕ → List RowChange
-drops rows places = map (λ x. DropHeld x.0 x.1) rows ++ map (λ p. DropMessage p) places
+-- rows go, then delivery times, and then messages
+abbrev pub drops : List (Key × ℕ) → List ℕ → List ℕ → List RowChange
+drops rows delays places = map (λ x. DropHeld x.0 x.1) rows ++ map (λ p. DropDelay p) delays ++ map (λ p. DropMessage p) places
 
 -- the places are those of the messages of which every stored row is among the rows
 pub record AreLast (state : State) (rows : List (Key × ℕ)) (places : List ℕ) : Type 0 where
   pub last : (key : Key) (place : ℕ) → is_among places place ≡ true → IsSome (stored_row state key place) → is_one_of rows key place ≡ true
   pub left : (key : Key) (place : ℕ) → is_among places place ≡ false → is_one_of rows key place ≡ true → (other : Key) × IsSome (stored_row state other place) × (is_one_of rows other place ≡ false)
 
--- a state has lost those rows, and with them the messages at those places, of which no stored row is left
-pub record Loses (old new : State) (rows : List (Key × ℕ)) (places : List ℕ) : Type 0 where
+-- of the places those are where the message has a delay, as a stored row there shows
+pub record AreDelays (state : State) (delays places : List ℕ) : Type 0 where
+  pub among : (place : ℕ) → is_among delays place ≡ true → is_among places place ≡ true
+  pub delayed : (place : ℕ) → is_among places place ≡ true → (key : Key) × (r : StoredRow) × (stored_row state key place ≡ Some r) × (is_among delays place ≡ is_delayed r.message)
+
+-- a state has lost those rows, and with them the messages at those places, of which no stored row is left; of the messages
+-- those have a delay
+pub record Loses (old new : State) (rows : List (Key × ℕ)) (delays places : List ℕ) : Type 0 where
   pub definitions : (key : Key) → durable_definition new key ≡ durable_definition old key
   pub gone : (key : Key) (place : ℕ) → is_one_of rows key place ≡ true → stored_row new key place ≡ None
   pub kept : (key : Key) (place : ℕ) → is_one_of rows key place ≡ false → stored_row new key place ≡ stored_row old key place
   pub last : (key : Key) (place : ℕ) → is_among places place ≡ true → stored_row new key place ≡ None
   pub left : (key : Key) (place : ℕ) → is_among places place ≡ false → is_one_of rows key place ≡ true → (other : Key) × IsSome (stored_row new other place)
+  pub delays_are : AreDelays old delays places
+
+-- the delivery time of a message comes, where it has a delay
+abbrev pub put_delay : ℕ → Option ℕ → List RowChange
+put_delay place None = []
+put_delay place (Some due) = PutDelay place due ∷ []
 
 -- what is stored of a message that comes to those keys, of which there is one at least
 abbrev pub puts : List Key → ℕ → Content → List RowChange
-puts keys place m = PutMessage place (format.record m) ∷ map (λ key. PutHeld key place) keys
+puts keys place m = PutMessage place (format.record m) ∷ put_delay place (due_time m) ++ map (λ key. PutHeld key place) keys
 
 -- a state has got the message at the place, under those keys
 pub record Gains (old new : State) (keys : List Key) (place : ℕ) (m : Content) : Type 0 where
@@ -79,7 +92,7 @@ abbrev pub NothingLeads : Type 0
 NothingLeads = (old new : State) → StoresTheSame old new → LeadsTo old new []
 
 abbrev pub DropsLead : Type 0
-DropsLead = (old new : State) (rows : List (Key × ℕ)) (places : List ℕ) → Loses old new rows places → LeadsTo old new (drops rows places)
+DropsLead = (old new : State) (rows : List (Key × ℕ)) (delays places : List ℕ) → Loses old new rows delays places → LeadsTo old new (drops rows delays places)
 
 abbrev pub PutsLead : Type 0
 PutsLead = (old new : State) (keys : List Key) (place : ℕ) (m : Content) → Gains old new keys place m → LeadsTo old new (puts keys place m)

@@ -1,16 +1,18 @@
 -- What is stored of the provider's state: the definitions of durable subscriptions, and the rows of PERSISTENT messages
--- under them and under queues, each with its place and count.
+-- under them and under queues, each with its place and count; of a message with a delay also its delivery time.
 use Rattle.std.specs.Prelude.{◌≡◌, ℕ, Bool, true, false, ◌==◌, List, [], ◌∷◌, Option, Some, None, IfSome, if◌then◌else◌}
 use Rattle.jm_dest.specs.declared.key.Key.{Key}
 use Rattle.jm_dest.specs.declared.key.Key.TheVariants.{Queue, Own, SharedOwn, Durable}
 use Rattle.jm_header.specs.declared.content.Content.{Content}
 use Rattle.jm_header.specs.declared.content.DeliveryMode.{DeliveryMode}
 use Rattle.jm_header.specs.declared.content.DeliveryMode.TheVariants.{Persistent, NonPersistent}
+use Rattle.jm_header.specs.Headers.{is_delayed}
 use Rattle.jm_format.specs.Format as format
 use Rattle.jm_machine.specs.declared.state.PlacedRow.{PlacedRow}
 use Rattle.jm_machine.specs.declared.state.Row.{Row}
 use Rattle.jm_machine.specs.declared.state.Definition.{Definition}
 use Rattle.jm_machine.specs.Machine.{State, station_of, definition_of}
+use Rattle.jm_machine.specs.Reopened.{is_durable}
 use Rattle.jm_machine.specs.Wants.{placed_rows}
 use Rattle.jm_keep.specs.Stored.{Stored, changed_all}
 use Rattle.jm_keep.specs.declared.change.RowChange.{RowChange}
@@ -26,13 +28,6 @@ is_lasting (Queue name) = true
 is_lasting (Own s c) = false
 is_lasting (SharedOwn client name) = false
 is_lasting (Durable client name) = true
-
--- the key is that of a durable subscription
-abbrev pub is_durable : Key → Bool
-is_durable (Queue name) = false
-is_durable (Own s c) = false
-is_durable (SharedOwn client name) = false
-is_durable (Durable client name) = true
 
 -- the rows under a key, at their places
 abbrev pub rows_under : State → Key → List PlacedRow
@@ -72,16 +67,29 @@ count_of (Some r) = Some r.count
 abbrev pub durable_definition : State → Key → Option Definition
 durable_definition state key = if is_durable key then definition_of (station_of key state.stations) else None
 
--- of the message at a place its record is stored where a stored row holds it, and nothing where none does
-pub record IsRecord (state : State) (place : ℕ) (bytes : Option (List ℕ)) : Type 0 where
-  pub held : (key : Key) → IfSome (stored_row state key place) (λ r. bytes ≡ Some (format.record r.message))
-  pub free : ((key : Key) → stored_row state key place ≡ None) → bytes ≡ None
+-- that is what is kept of the message at a place: each stored row that holds it shows this, and it is nothing where none does
+pub record IsKeptOf (A : Type 0) (kept_of : Content → Option A) (state : State) (place : ℕ) (kept : Option A) : Type 0 where
+  pub held : (key : Key) → IfSome (stored_row state key place) (λ r. kept ≡ kept_of r.message)
+  pub free : ((key : Key) → stored_row state key place ≡ None) → kept ≡ None
+
+-- of the message at a place its record is stored
+abbrev pub IsRecord : State → ℕ → Option (List ℕ) → Type 0
+IsRecord = IsKeptOf (List ℕ) (λ m. Some (format.record m))
+
+-- the delivery time of a message with a delay
+abbrev pub due_time : Content → Option ℕ
+due_time m = if is_delayed m then Some m.delivery_time else None
+
+-- of the message at a place its delivery time is stored, where it has a delay
+abbrev pub IsDue : State → ℕ → Option ℕ → Type 0
+IsDue = IsKeptOf ℕ due_time
 
 -- that is what is stored of the state
 pub record IsPersisted (state : State) (s : Stored) : Type 0 where
   pub definitions : (key : Key) → s.definition key ≡ durable_definition state key
   pub counts : (key : Key) (place : ℕ) → s.count key place ≡ count_of (stored_row state key place)
   pub messages : (place : ℕ) → IsRecord state place (s.message place)
+  pub dues : (place : ℕ) → IsDue state place (s.due place)
 
 -- the changes lead from what is stored of one state to what is stored of another
 abbrev pub LeadsTo : State → State → List RowChange → Type 0

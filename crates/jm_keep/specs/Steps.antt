@@ -13,11 +13,11 @@ use Rattle.jm_machine.specs.declared.state.PlacedRow.{PlacedRow}
 use Rattle.jm_machine.specs.declared.state.Row.{Row}
 use Rattle.jm_machine.specs.declared.state.Station.{Station}
 use Rattle.jm_machine.specs.Rows.{has_lapsed, is_out, raised, sent_out, InOrder}
-use Rattle.jm_machine.specs.Machine.{State, new_core, AllInOrder, Publisher, receive, settled, returned, deleted, put, with_message, accepts, publisher_of, station_of}
+use Rattle.jm_machine.specs.Machine.{State, new_core, AllInOrder, Publisher, receive, settled, returned, with_done, of_number, deleted, put, with_message, accepts, publisher_of, station_of}
 use Rattle.jm_machine.specs.Wants.{next_placed, next_chosen}
 use Rattle.jm_keep.specs.Persisted.{rows_under, row_at, is_lasting, is_persistent, IsPersisted, LeadsTo}
 use Rattle.jm_keep.specs.Stored.{nothing}
-use Rattle.jm_keep.specs.Leads.{is_one_of, drops, AreLast, Loses, Gains, StoresTheSame}
+use Rattle.jm_keep.specs.Leads.{is_one_of, drops, AreLast, AreDelays, Loses, Gains, StoresTheSame}
 use Rattle.jm_keep.specs.declared.change.RowChange.{RowChange}
 use Rattle.jm_keep.specs.declared.change.RowChange.TheVariants.{DropStation, PutStation, SetCount}
 use Rattle.jm_machine.specs.declared.state.Definition.{Definition}
@@ -44,10 +44,12 @@ abbrev pub passes : (Row → Bool) → Option Row → Bool
 passes p None = false
 passes p (Some r) = is_persistent r.message.mode && p r
 
--- the rows are the stored ones that go, and the places those of their messages of which none is left
-pub record AreGone (goes : Key → ℕ → Row → Bool) (state : State) (rows : List (Key × ℕ)) (places : List ℕ) : Type 0 where
+-- the rows are the stored ones that go, the places those of their messages of which none is left, and the delays those of
+-- these messages that have a delay
+pub record AreGone (goes : Key → ℕ → Row → Bool) (state : State) (rows : List (Key × ℕ)) (delays places : List ℕ) : Type 0 where
   pub rows_are : (key : Key) (place : ℕ) → is_one_of rows key place ≡ (is_lasting key && passes (goes key place) (row_at place (rows_under state key)))
   pub places_are : AreLast state rows places
+  pub delays_are : AreDelays state delays places
 
 -- in a delivery from the key that settles at once each row of it goes that has lapsed, and the one that is taken
 abbrev pub taken_under : Key → ℕ → Option PlacedRow → Key → ℕ → Row → Bool
@@ -60,6 +62,10 @@ lapsed_under k now key place r = key_eq k key && has_lapsed now r
 -- where consumers that pass settle, each row goes that is out through them
 abbrev pub out_through : (SessionId → ℕ → Bool) → Key → ℕ → Row → Bool
 out_through p key place r = is_out p r
+
+-- where a listener is done with its message, each row of its consumer's key goes that is out through this consumer
+abbrev pub out_under : Key → (SessionId → ℕ → Bool) → Key → ℕ → Row → Bool
+out_under k p key place r = key_eq k key && is_out p r
 
 -- with its subscription each row of the key goes
 abbrev pub all_under : Key → Key → ℕ → Row → Bool
@@ -98,8 +104,15 @@ PublishGains =
 -- an acknowledgement and a commit lose the rows that are out through consumers that pass
 abbrev pub SettleLoses : Type 0
 SettleLoses =
-    (state : State) (p : SessionId → ℕ → Bool) (rows : List (Key × ℕ)) (places : List ℕ) →
-    StandsInOrder state → AreGone (out_through p) state rows places → Loses state (settled p state) rows places
+    (state : State) (p : SessionId → ℕ → Bool) (rows : List (Key × ℕ)) (delays places : List ℕ) →
+    StandsInOrder state → AreGone (out_through p) state rows delays places → Loses state (settled p state) rows delays places
+
+-- a listener that is done with its message loses the rows of its consumer's key that are out through this consumer
+abbrev pub DoneLoses : Type 0
+DoneLoses =
+    (state : State) (s : SessionId) (c : ℕ) (k : Key) (rows : List (Key × ℕ)) (delays places : List ℕ) →
+    StandsInOrder state → is_lasting k ≡ true → AreGone (out_under k (of_number s c)) state rows delays places →
+    Loses state (with_done s c true (Some k) state) rows delays places
 
 -- what is given back changes nothing of what is stored
 abbrev pub ReturnStores : Type 0
@@ -108,16 +121,16 @@ ReturnStores = (state : State) (p : SessionId → ℕ → Bool) → StoresTheSam
 -- a delivery that settles at once loses the rows that have lapsed, and the one that is taken
 abbrev pub ReceiveLoses : Type 0
 ReceiveLoses =
-    (state : State) (p : Content → Bool) (now : ℕ) (k : Key) (rows : List (Key × ℕ)) (places : List ℕ) →
-    StandsInOrder state → is_lasting k ≡ true → AreGone (taken_under k now (next_under p now k (rows_under state k))) state rows places →
-    Loses state (receive p (λ r. []) now (Some k) state) rows places
+    (state : State) (p : Content → Bool) (now : ℕ) (k : Key) (rows : List (Key × ℕ)) (delays places : List ℕ) →
+    StandsInOrder state → is_lasting k ≡ true → AreGone (taken_under k now (next_under p now k (rows_under state k))) state rows delays places →
+    Loses state (receive p (λ r. []) now (Some k) state) rows delays places
 
 -- a delivery that settles nothing loses the rows that have lapsed; the one that goes out through the consumer is counted
 abbrev pub CountedReceiveLeads : Type 0
 CountedReceiveLeads =
-    (state : State) (p : Content → Bool) (s : SessionId) (c now : ℕ) (k : Key) (rows : List (Key × ℕ)) (places : List ℕ) →
-    StandsInOrder state → is_lasting k ≡ true → AreGone (lapsed_under k now) state rows places →
-    LeadsTo state (receive p (λ r. sent_out s c r ∷ []) now (Some k) state) (drops rows places ++ counted k (next_under p now k (rows_under state k)))
+    (state : State) (p : Content → Bool) (s : SessionId) (c now : ℕ) (k : Key) (rows : List (Key × ℕ)) (delays places : List ℕ) →
+    StandsInOrder state → is_lasting k ≡ true → AreGone (lapsed_under k now) state rows delays places →
+    LeadsTo state (receive p (λ r. sent_out s c r ∷ []) now (Some k) state) (drops rows delays places ++ counted k (next_under p now k (rows_under state k)))
 
 -- of a new core nothing is stored
 abbrev pub NewStoresNothing : Type 0
@@ -125,7 +138,7 @@ NewStoresNothing = (opening limit : ℕ) → IsPersisted (new_core opening limit
 
 -- a durable subscription that is deleted loses its rows, and then goes itself
 abbrev pub DeleteLeads : Type 0
-DeleteLeads = (state : State) (client : Option (List ℕ)) (name : List ℕ) (rows : List (Key × ℕ)) (places : List ℕ) → AreGone (all_under (Durable client name)) state rows places → LeadsTo state (deleted (Durable client name) state) (drops rows places ++ DropStation (Durable client name) ∷ [])
+DeleteLeads = (state : State) (client : Option (List ℕ)) (name : List ℕ) (rows : List (Key × ℕ)) (delays places : List ℕ) → AreGone (all_under (Durable client name)) state rows delays places → LeadsTo state (deleted (Durable client name) state) (drops rows delays places ++ DropStation (Durable client name) ∷ [])
 
 -- one that is put where none is comes as it is defined
 abbrev pub PutLeads : Type 0

@@ -4,18 +4,20 @@ use Rattle.jm_dest.specs.declared.key.Key.{Key}
 use Rattle.jm_dest.specs.Keys.{key_eq}
 use Rattle.jm_machine.specs.declared.state.Definition.{Definition}
 use Rattle.jm_keep.specs.declared.change.RowChange.{RowChange}
-use Rattle.jm_keep.specs.declared.change.RowChange.TheVariants.{DropHeld, DropMessage, DropStation, PutStation, PutMessage, PutHeld, SetCount}
+use Rattle.jm_keep.specs.declared.change.RowChange.TheVariants.{DropHeld, DropMessage, DropStation, PutStation, PutMessage, PutHeld, SetCount, DropDelay, PutDelay}
 
 -- what is stored: what the durable subscription of a key asks for, how often the message at a place was delivered under a
--- key that holds it, and the record of the message at a place. In which order it was put there does not show
+-- key that holds it, the record of the message at a place, and its delivery time, where it has a delay. In which order it
+-- was put there does not show
 pub record Stored : Type 0 where
   pub definition : Key → Option Definition
   pub count : Key → ℕ → Option ℕ
   pub message : ℕ → Option (List ℕ)
+  pub due : ℕ → Option ℕ
 
 -- nothing is stored
 abbrev pub nothing : Stored
-nothing = record { definition = λ key. None; count = λ key place. None; message = λ place. None }
+nothing = record { definition = λ key. None; count = λ key place. None; message = λ place. None; due = λ place. None }
 
 -- the row of the key at the place is meant
 abbrev pub is_at : Key → ℕ → Key → ℕ → Bool
@@ -41,12 +43,19 @@ message_after p b (DropMessage place) = if place == p then None else b
 message_after p b (PutMessage place bytes) = if place == p then Some bytes else b
 message_after p b _ = b
 
+-- the delivery time of the message at the place after it
+abbrev pub due_after : ℕ → Option ℕ → RowChange → Option ℕ
+due_after p d (DropDelay place) = if place == p then None else d
+due_after p d (PutDelay place due) = if place == p then Some due else d
+due_after p d _ = d
+
 -- what is stored after a change
 abbrev pub changed : Stored → RowChange → Stored
 changed s change = record {
   definition = λ k. definition_after k (s.definition k) change;
   count = λ k p. count_after k p (s.count k p) change;
   message = λ p. message_after p (s.message p) change;
+  due = λ p. due_after p (s.due p) change;
 }
 
 -- after all changes, in turn

@@ -1,12 +1,12 @@
 ghost use Rattle.std.specs.Prelude.{◌≡◌, IfOk};
 
 use jm_base::List;
-use jm_dest::Key;
+use jm_dest::{Key, Moment};
 use jm_machine::Definition;
 use std::alloc::{AllocError, Global};
 
 /// One change of what is stored. A step lists its changes so that each row goes before its message and its station, and
-/// comes after them.
+/// comes after them; a delivery time goes before its message and comes directly after it.
 #[derive(Debug, PartialEq, Drop)]
 pub enum RowChange {
     /// The row of that key at that place goes.
@@ -42,6 +42,15 @@ pub enum RowChange {
         key: Key,
         place: u64,
         count: u32,
+    },
+    /// The delivery time of the message at that place goes, which has a delay.
+    DropDelay {
+        place: u64,
+    },
+    /// The delivery time of the message at that place comes, which has a delay: in milliseconds, after its timestamp.
+    PutDelay {
+        place: u64,
+        due: Moment,
     },
 }
 
@@ -94,6 +103,11 @@ impl RowChange {
                 key: key.copy()?,
                 place: *place,
                 count: *count,
+            }),
+            RowChange::DropDelay { place } => Ok(RowChange::DropDelay { place: *place }),
+            RowChange::PutDelay { place, due } => Ok(RowChange::PutDelay {
+                place: *place,
+                due: *due,
             }),
         }
     }

@@ -21,8 +21,12 @@ pub trait Keep {
     /// It has found again all that it wrote.
     ghost is_clean: { Self → Bool };
 
+    /// It keeps something.
+    ghost is_keeping: { Self → Bool };
+
     /// Whether it keeps anything. One that does not is never written to, and no changes are listed for it.
     fn keeps(&self) -> bool
+        ensures keeping { result ≡ is_keeping self.now }
         ensures clean { IsTrue (is_clean self.now) → IsTrue result };
 
     /// Makes all changes, in turn, or none of them.
@@ -50,6 +54,8 @@ impl Keep for NoKeep {
     ghost faults = { λ _. 0 };
 
     ghost is_clean = { λ _. false };
+
+    ghost is_keeping = { λ _. false };
 
     fn keeps(&self) -> bool
         ensures { result ≡ false }

@@ -8,7 +8,7 @@ ghost use Rattle.jm_keep.specs.Stored.{changed_all, nothing};
 use crate::change::RowChange;
 use crate::keep::{Keep, StoreFault};
 use jm_base::List;
-use jm_dest::Key;
+use jm_dest::{Key, Moment};
 use jm_machine::Definition;
 use std::alloc::{AllocError, Global};
 use std::marker::Model;
@@ -97,6 +97,20 @@ fn message_next<'a>(
     }
 }
 
+/// The delivery time of the message at the place after the change, where it was that before.
+fn due_next(due: Option<Moment>, place: u64, change: &RowChange) -> Option<Moment>
+    ensures { result ≡ spec.due_after place due change.now }
+{
+    match change {
+        RowChange::DropDelay { place: at } if *at == place => None,
+        RowChange::PutDelay {
+            place: at,
+            due: delivery_time,
+        } if *at == place => Some(*delivery_time),
+        _ => due,
+    }
+}
+
 impl MemKeep {
     /// Nothing is stored. Takes no memory.
     pub fn new(alloc: Global) -> MemKeep
@@ -148,6 +162,18 @@ impl MemKeep {
         message
     }
 
+    /// The delivery time of the message at that place, where it is stored with a delay. Goes over all changes; takes no
+    /// memory.
+    pub fn due(&self, place: u64) -> Option<Moment>
+        ensures { result ≡ (changed_all nothing self.now).due place }
+    {
+        let mut due = None;
+        for change in &self.changes {
+            due = due_next(due, place, change);
+        }
+        due
+    }
+
     /// Adds the changes behind all others, or none of them.
     fn add(&mut self, changes: &[RowChange]) -> Result<(), AllocError>
         ensures ok { OnOk result (self.new ≡ self.old ++ changes.now) }
@@ -168,6 +194,8 @@ impl Keep for MemKeep {
     ghost faults = { λ k. 0 };
 
     ghost is_clean = { λ k. true };
+
+    ghost is_keeping = { λ k. true };
 
     fn keeps(&self) -> bool
         ensures { result ≡ true }

@@ -14,16 +14,17 @@ use Rattle.jm_header.specs.declared.content.Content.{Content}
 use Rattle.jm_machine.specs.declared.call.Who.{Who}
 use Rattle.jm_machine.specs.declared.call.Who.TheVariants.{Connection, Session}
 use Rattle.jm_machine.specs.declared.call.Request.{Request}
-use Rattle.jm_machine.specs.declared.call.Request.TheVariants.{CloseConnection, CreateSession, CloseSession, CreateConsumer, CreateDurable, CreateShared, CreateSharedDurable, Unsubscribe, CloseConsumer, Receive, Acknowledge, Recover, Rollback}
+use Rattle.jm_machine.specs.declared.call.Request.TheVariants.{CloseConnection, CreateSession, CloseSession, CreateConsumer, CreateDurable, CreateShared, CreateSharedDurable, Unsubscribe, CloseConsumer, Receive, Acknowledge, Recover, Rollback, SetListener, Take, Done as DoneWith}
 use Rattle.jm_machine.specs.declared.call.Call.{Call}
 use Rattle.jm_machine.specs.declared.call.Call.TheVariants.{Ask, Publish, Commit}
+use Rattle.jm_machine.specs.declared.state.Consumer.{Consumer}
 use Rattle.jm_machine.specs.declared.state.Definition.{Definition}
 use Rattle.jm_machine.specs.declared.state.PlacedRow.{PlacedRow}
 use Rattle.jm_machine.specs.declared.state.Row.{Row}
 use Rattle.jm_machine.specs.declared.state.Station.{Station}
 use Rattle.jm_machine.specs.Life.{client_of, mode_of, is_started}
-use Rattle.jm_machine.specs.Rows.{fresh, left_of, live_placed, change_placed, deliver_placed, deliver_chosen}
-use Rattle.jm_machine.specs.Machine.{State, is_of_topic, is_to, durable_of, shared_of, asked, is_same, subscribed, put, joined, definition_of, station_of, Publisher, publisher_of, accepts, is_full, one_missed, brought, offered, with_message, with_rows, at_key, at_queue, at_queue_of, queued, without, published, receive, consumer_of, key_at, made, selected_by, defined, of_session, of_connection, of_number, settled_rows, returned_rows, settled, returned, closed, with_life, is_client, held, refusal, publish_refusal, commit_refusal, after, after_commit, moved, step, AllInOrder}
+use Rattle.jm_machine.specs.Rows.{fresh, left_of, taken, settles_at_once, live_placed, change_placed, deliver_placed, deliver_chosen}
+use Rattle.jm_machine.specs.Machine.{State, is_of_topic, is_to, durable_of, shared_of, asked, is_same, subscribed, put, joined, definition_of, station_of, Publisher, publisher_of, accepts, is_full, one_missed, brought, offered, with_message, with_rows, at_key, at_queue, at_queue_of, queued, without, published, receive, take, with_done, done_rows, holding_at, is_coming, set_busy, set_listening, consumer_of, key_at, made, selected_by, defined, of_session, of_connection, of_number, settled_rows, returned_rows, settled, returned, closed, with_life, is_client, held, refusal, publish_refusal, commit_refusal, after, after_commit, moved, step, AllInOrder}
 use Rattle.jm_machine.specs.Wants.{placed_rows}
 use Rattle.jm_machine.specs.Isolation.{Reached}
 use Rattle.jm_machine.specs.Accepted.{AllAccepted, HoldsAccepted}
@@ -269,6 +270,24 @@ sorted_given p state h = (
   },
 )
 
+-- what is settled or given back under one key
+done_kept : (s : SessionId) (c : ℕ) (ok : Bool) (P : ℕ → Type 0) → Keeps P (done_rows s c ok)
+done_kept s c true P rows h = filter_at P _ rows h
+done_kept s c false P rows h = returned_at P (of_number s c) rows h
+
+sorted_done : (s : SessionId) (c : ℕ) (ok : Bool) (k : Option Key) (state : State) → IsSorted state → IsSorted (with_done s c ok k state)
+sorted_done s c ok None state h = h
+sorted_done s c ok (Some k) state h = (
+  h.0,
+  record {
+    stations = each_at (OfTopic h.0 state.next_place) (done_rows s c ok) (done_kept s c ok (OfTopic h.0 state.next_place)) k state.stations h.1.stations;
+    queues = queues_of (OfThis h.0 state.next_place) (done_rows s c ok) (done_kept s c ok) k state.queues h.1.queues;
+  },
+)
+
+sorted_consumers : (consumers : List Consumer) (state : State) → IsSorted state → IsSorted (record state { consumers = consumers })
+sorted_consumers consumers state h = (h.0, record { stations = h.1.stations; queues = h.1.queues })
+
 sorted_closed : (p : SessionId → ℕ → Bool) (state : State) → IsSorted state → IsSorted (closed p state)
 sorted_closed p state h = (h.0, record { stations = each_filter (OfTopic h.0 state.next_place) _ state.stations h.1.stations; queues = h.1.queues })
 
@@ -314,6 +333,16 @@ sorted_after state (Session s) (CloseConsumer c) h = sorted_closed (of_number s 
 sorted_after state (Session s) Acknowledge h = sorted_if (is_client (mode_of state.life s)) (settled (of_session s) state) state (sorted_settled (of_session s) state h) h
 sorted_after state (Session s) Recover h = sorted_given (of_session s) state h
 sorted_after state (Session s) Rollback h = sorted_given (of_session s) state h
+sorted_after state (Session s) (SetListener c on) h = sorted_consumers (set_listening s c on state.consumers) state h
+sorted_after state (Session s) (Take c now) h =
+    let p : Content → Bool = selected_by (consumer_of state.consumers s c) in
+    let k : Option Key = key_at (consumer_of state.consumers s c) in
+    sorted_if (is_started state.life s.connection) (take p s c now k state) state
+    (sorted_consumers (set_busy s c (is_coming now (holding_at p k state).rows) state.consumers) (receive p (taken s c) now k state) (sorted_received p (taken s c) now k state h)) h
+sorted_after state (Session s) (DoneWith c ok) h =
+    let free : State = record state { consumers = set_busy s c false state.consumers } in
+    let still : IsSorted free = sorted_consumers (set_busy s c false state.consumers) state h in
+    sorted_if (settles_at_once (mode_of state.life s)) (with_done s c ok (key_at (consumer_of state.consumers s c)) free) free (sorted_done s c ok (key_at (consumer_of state.consumers s c)) free still) still
 sorted_after state (Session s) _ h = h
 
 sorted_committed : (state : State) (who : Who) (ms : List Content) → IsSorted state → IsSorted (after_commit state who ms)

@@ -3,6 +3,7 @@ use Rattle.std.proofs.Common.{◌≡◌, ℕ, ◌+◌, Bool, true, false, cond, 
 use Rattle.std.specs.Prelude.{◌||◌, IsOk, IsErr, MatchBool}
 use Rattle.std.specs.List.{list_any}
 use Rattle.jm_base.specs.declared.mode.Mode.{Mode}
+use Rattle.jm_base.specs.declared.mode.Mode.TheVariants.{Client}
 use Rattle.jm_base.specs.declared.refusal.Refusal.{Refusal}
 use Rattle.jm_dest.specs.declared.destination.Destination.{Destination}
 use Rattle.jm_dest.specs.declared.destination.Destination.TheVariants.{Queue as ToQueue, Topic as ToTopic}
@@ -16,13 +17,13 @@ use Rattle.jm_machine.specs.declared.answer.Answer.TheVariants.{Done}
 use Rattle.jm_machine.specs.declared.call.Who.{Who}
 use Rattle.jm_machine.specs.declared.call.Who.TheVariants.{Connection, Session}
 use Rattle.jm_machine.specs.declared.call.Request.{Request}
-use Rattle.jm_machine.specs.declared.call.Request.TheVariants.{CloseConnection, CreateSession, CloseSession, CreateConsumer, CreateDurable, CreateShared, CreateSharedDurable, Unsubscribe, CloseConsumer, Receive, Acknowledge, Recover, Rollback}
+use Rattle.jm_machine.specs.declared.call.Request.TheVariants.{CloseConnection, CreateSession, CloseSession, CreateConsumer, CreateDurable, CreateShared, CreateSharedDurable, Unsubscribe, CloseConsumer, Receive, Acknowledge, Recover, Rollback, SetListener, Take, Done as DoneWith}
 use Rattle.jm_machine.specs.declared.call.Call.TheVariants.{Ask, Publish, Commit}
 use Rattle.jm_machine.specs.declared.state.Definition.{Definition}
 use Rattle.jm_machine.specs.declared.state.Row.{Row}
 use Rattle.jm_machine.specs.Life.{client_of, is_started, mode_of}
-use Rattle.jm_machine.specs.Rows.{settles_at_once, sent_out, left_of, deliver_placed, deliver_chosen}
-use Rattle.jm_machine.specs.Machine.{State, after, after_commit, answer, asked, closed, commit_refusal, consumer_of, definition_of, deleted, held, is_client, is_same, joined, key_at, made, moved, of_connection, of_number, of_session, publish_refusal, published, put, receive, refusal, replied, reply, returned, same_definition, selected_by, settled, station_of, step, subscribed, with_life, with_message}
+use Rattle.jm_machine.specs.Rows.{settles_at_once, sent_out, left_of, taken, deliver_placed, deliver_chosen}
+use Rattle.jm_machine.specs.Machine.{State, after, after_commit, answer, asked, closed, commit_refusal, consumer_of, definition_of, deleted, held, holding_at, is_coming, set_busy, set_listening, take, is_client, is_same, joined, key_at, made, moved, of_connection, of_number, of_session, publish_refusal, published, put, receive, refusal, replied, reply, returned, same_definition, selected_by, settled, station_of, step, subscribed, with_life, with_message}
 use Rattle.jm_machine.proofs.Keys.{key_refl}
 use Rattle.jm_keep.specs.declared.change.RowChange.{RowChange}
 use Rattle.jm_keep.specs.declared.change.RowChange.TheVariants.{DropStation, PutStation}
@@ -37,6 +38,7 @@ use Rattle.jm_keep_law.proofs.Settled.{settle_loses, return_stores}
 use Rattle.jm_keep_law.proofs.Received.{receive_loses}
 use Rattle.jm_keep_law.proofs.Counted.{counted_receive_leads}
 use Rattle.jm_keep_law.proofs.Deleted.{emptied, empties, ends, delete_leads, put_leads}
+use Rattle.jm_keep_law.proofs.Done.{consumers_same, done_lead, lead_on}
 use Rattle.jm_keep_law.proofs.Quiet.{none_lead, same_trans, same_refl, closed_same, life_same, given_closed, joined_same, put_same, made_same, changes_same, deleted_same}
 
 -- ---- publications
@@ -77,13 +79,13 @@ published_lead state (m ∷ ms) cs o h = subst (λ t. LeadsTo state (published (
 -- ---- rows that go
 
 dropped_lead : (goes : Key → ℕ → Row → Bool) (a b : State) (others cs : List RowChange) →
-    ((rows : List (Key × ℕ)) (places : List ℕ) → AreGone goes a rows places → LeadsTo a b (drops rows places ++ others)) →
+    ((rows : List (Key × ℕ)) (delays places : List ℕ) → AreGone goes a rows delays places → LeadsTo a b (drops rows delays places ++ others)) →
     DropsThen goes a others cs → LeadsTo a b cs
-dropped_lead goes a b others cs f h = subst (λ t. LeadsTo a b t) (sym h.changes_are) (f h.rows h.places h.are_gone)
+dropped_lead goes a b others cs f h = subst (λ t. LeadsTo a b t) (sym h.changes_are) (f h.rows h.delays h.places h.are_gone)
 
 pub settled_lead : (state : State) (p : SessionId → ℕ → Bool) (b : State) (others cs : List RowChange) → StandsInOrder state → LeadsTo (settled p state) b others → DropsThen (out_through p) state others cs → LeadsTo state b cs
 settled_lead state p b others cs o g h = dropped_lead (out_through p) state b others cs
-    (λ rows places gone. chain state (settled p state) b (drops rows places) others (drops_lead state (settled p state) rows places (settle_loses state p rows places o gone)) g) h
+    (λ rows delays places gone. chain state (settled p state) b (drops rows delays places) others (drops_lead state (settled p state) rows delays places (settle_loses state p rows delays places o gone)) g) h
 
 -- ---- requests
 
@@ -99,12 +101,12 @@ delivered_lead state mode p s c now k cs o h = go (is_lasting k) refl h
         → LeadsTo state (receive p (left_of mode s c) now (Some k) state) cs
     settle l true e h = subst (λ f. LeadsTo state (receive p f now (Some k) state) cs) (all_left mode s c true e)
         (dropped_lead (taken_under k now (next_under p now k (rows_under state k))) state (receive p (λ r. []) now (Some k) state) [] cs
-        (λ rows places gone. chain state (receive p (λ r. []) now (Some k) state) (receive p (λ r. []) now (Some k) state) (drops rows places) []
-        (drops_lead state (receive p (λ r. []) now (Some k) state) rows places (receive_loses state p now k rows places o l gone))
+        (λ rows delays places gone. chain state (receive p (λ r. []) now (Some k) state) (receive p (λ r. []) now (Some k) state) (drops rows delays places) []
+        (drops_lead state (receive p (λ r. []) now (Some k) state) rows delays places (receive_loses state p now k rows delays places o l gone))
         (nothing_leads (receive p (λ r. []) now (Some k) state) (receive p (λ r. []) now (Some k) state) (same_refl (receive p (λ r. []) now (Some k) state)))) h)
     settle l false e h = subst (λ f. LeadsTo state (receive p f now (Some k) state) cs) (all_left mode s c false e)
         (dropped_lead (lapsed_under k now) state (receive p (λ r. sent_out s c r ∷ []) now (Some k) state) (counted k (next_under p now k (rows_under state k))) cs
-        (λ rows places gone. counted_receive_leads state p s c now k rows places o l gone) h)
+        (λ rows delays places gone. counted_receive_leads state p s c now k rows delays places o l gone) h)
 
     go : (b : Bool) → is_lasting k ≡ b
         → MatchBool b (MatchBool (settles_at_once mode) (DropsThen (taken_under k now (next_under p now k (rows_under state k))) state [] cs) (DropsThen (lapsed_under k now) state (counted k (next_under p now k (rows_under state k))) cs)) (cs ≡ [])
@@ -115,6 +117,13 @@ delivered_lead state mode p s c now k cs o h = go (is_lasting k) refl h
 pub received_lead : (state : State) (mode : Option Mode) (p : Content → Bool) (s : SessionId) (c now : ℕ) (k : Option Key) (cs : List RowChange) → StandsInOrder state → AreReceived mode p now k state cs → LeadsTo state (receive p (left_of mode s c) now k state) cs
 received_lead state mode p s c now None cs o h = none_lead state state cs (same_refl state) h
 received_lead state mode p s c now (Some k) cs o h = delivered_lead state mode p s c now k cs o h
+
+-- what a listener takes leads there as a receive that leaves the row out; that the consumer is busy is not stored
+pub taken_lead : (state : State) (p : Content → Bool) (s : SessionId) (c now : ℕ) (k : Option Key) (cs : List RowChange) → StandsInOrder state → AreReceived (Some Client) p now k state cs → LeadsTo state (take p s c now k state) cs
+taken_lead state p s c now k cs o h =
+    lead_on state (receive p (taken s c) now k state) (take p s c now k state) cs
+    (subst (λ f. LeadsTo state (receive p f now k state) cs) (sym (all_left (Some Client) s c false refl)) (received_lead state (Some Client) p s c now k cs o h))
+    (consumers_same (set_busy s c (is_coming now (holding_at p k state).rows) state.consumers) (receive p (taken s c) now k state))
 
 pub subscribed_lead : (state : State) (s : SessionId) (c : ℕ) (client : Option (List ℕ)) (name : List ℕ) (d : Definition) (cs : List RowChange) →
     AreSubscribed (Durable client name) d (definition_of (station_of (Durable client name) state.stations)) state cs → LeadsTo state (subscribed s c (Durable client name) d state) cs
@@ -136,14 +145,14 @@ subscribed_lead state s c client name d cs h = go (definition_of (station_of (Du
             → LeadsTo state (joined s c (Durable client name) None (cond b state (put (Durable client name) d state))) cs
         by true h = none_lead state (joined s c (Durable client name) None state) cs (joined_same s c (Durable client name) None state) h
         by false h = dropped_lead (all_under (Durable client name)) state (joined s c (Durable client name) None (put (Durable client name) d state)) (DropStation (Durable client name) ∷ PutStation (Durable client name) (Some d) ∷ []) cs
-            (λ rows places gone. chain state (emptied (Durable client name) state) (joined s c (Durable client name) None (put (Durable client name) d state)) (drops rows places) (DropStation (Durable client name) ∷ PutStation (Durable client name) (Some d) ∷ [])
-            (empties state client name rows places gone)
+            (λ rows delays places gone. chain state (emptied (Durable client name) state) (joined s c (Durable client name) None (put (Durable client name) d state)) (drops rows delays places) (DropStation (Durable client name) ∷ PutStation (Durable client name) (Some d) ∷ [])
+            (empties state client name rows delays places gone)
             (chain (emptied (Durable client name) state) (deleted (Durable client name) state) (joined s c (Durable client name) None (put (Durable client name) d state)) (DropStation (Durable client name) ∷ []) (PutStation (Durable client name) (Some d) ∷ [])
             (ends state client name) comes)) h
 
 pub unsubscribed_lead : (state : State) (client : Option (List ℕ)) (name : List ℕ) (cs : List RowChange) → DropsThen (all_under (Durable client name)) state (DropStation (Durable client name) ∷ []) cs → LeadsTo state (deleted (Durable client name) state) cs
 unsubscribed_lead state client name cs h = dropped_lead (all_under (Durable client name)) state (deleted (Durable client name) state) (DropStation (Durable client name) ∷ []) cs
-    (λ rows places gone. delete_leads state client name rows places gone) h
+    (λ rows delays places gone. delete_leads state client name rows delays places gone) h
 
 shared_same : (state : State) (s : SessionId) (c : ℕ) (client : Option (List ℕ)) (name : List ℕ) (d : Definition) → StoresTheSame state (subscribed s c (SharedOwn client name) d state)
 shared_same state s c client name d = go (is_same (definition_of (station_of (SharedOwn client name) state.stations)) d)
@@ -176,6 +185,14 @@ requested_lead state s Acknowledge cs o h = go (is_client (mode_of state.life s)
     go false h = none_lead state state cs (same_refl state) h
 requested_lead state s Recover cs o h = none_lead state (returned (of_session s) state) cs (return_stores state (of_session s)) h
 requested_lead state s Rollback cs o h = none_lead state (returned (of_session s) state) cs (return_stores state (of_session s)) h
+requested_lead state s (SetListener c on) cs o h = none_lead state (record state { consumers = set_listening s c on state.consumers }) cs (consumers_same (set_listening s c on state.consumers) state) h
+requested_lead state s (Take c now) cs o h = go (is_started state.life s.connection) h
+  where
+    go : (b : Bool) → MatchBool b (AreReceived (Some Client) (selected_by (consumer_of state.consumers s c)) now (key_at (consumer_of state.consumers s c)) state cs) (cs ≡ [])
+        → LeadsTo state (cond b (take (selected_by (consumer_of state.consumers s c)) s c now (key_at (consumer_of state.consumers s c)) state) state) cs
+    go true h = taken_lead state (selected_by (consumer_of state.consumers s c)) s c now (key_at (consumer_of state.consumers s c)) cs o h
+    go false h = none_lead state state cs (same_refl state) h
+requested_lead state s (DoneWith c ok) cs o h = done_lead state s c ok (mode_of state.life s) (key_at (consumer_of state.consumers s c)) cs o h
 requested_lead state s _ cs o h = none_lead state state cs (same_refl state) h
 
 -- of what a connection asks for nothing is stored

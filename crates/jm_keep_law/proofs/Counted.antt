@@ -11,10 +11,11 @@ use Rattle.jm_machine.specs.declared.state.PlacedRow.{PlacedRow}
 use Rattle.jm_machine.specs.declared.state.Row.{Row}
 use Rattle.jm_machine.specs.Rows.{has_lapsed, raised, sent_out, InOrder, live_placed, live, bare, is_next, is_next_chosen, deliver_placed, deliver_chosen}
 use Rattle.jm_machine.specs.Machine.{State, receive}
+use Rattle.jm_machine.specs.Reopened.{is_durable}
 use Rattle.jm_machine.proofs.Keys.{key_same, key_refl}
 use Rattle.jm_keep.specs.declared.change.RowChange.TheVariants.{SetCount}
 use Rattle.jm_keep.specs.Stored.{is_at}
-use Rattle.jm_keep.specs.Persisted.{shown, rows_under, row_at, StoredRow, stored_row, if_stored, is_lasting, is_durable, is_persistent, durable_definition, LeadsTo}
+use Rattle.jm_keep.specs.Persisted.{shown, rows_under, row_at, StoredRow, stored_row, if_stored, is_lasting, is_persistent, durable_definition, LeadsTo}
 use Rattle.jm_keep.specs.Leads.{drops}
 use Rattle.jm_keep.specs.Steps.{StandsInOrder, is_place_of, next_under, passes, lapsed_under, counted, CountedReceiveLeads}
 use Rattle.jm_keep_law.proofs.Placed.{row_at-filter, row_at-sent, found_row, order_filter}
@@ -84,25 +85,25 @@ counts_next mid new k s c rows (Some x) d m n o f = go (is_persistent x.row.mess
 -- ---- rows under the key
 
 -- which of two changes is that of the rows under the key
-abbrev of_key : Key → (List PlacedRow → List PlacedRow) → (List PlacedRow → List PlacedRow) → List PlacedRow → List PlacedRow
+abbrev pub of_key : Key → (List PlacedRow → List PlacedRow) → (List PlacedRow → List PlacedRow) → List PlacedRow → List PlacedRow
 of_key (Queue name) fs fq rows = fq rows
 of_key (Own s c) fs fq rows = fs rows
 of_key (SharedOwn client name) fs fq rows = fs rows
 of_key (Durable client name) fs fq rows = fs rows
 
-under_changed : (fs fq : List PlacedRow → List PlacedRow) → fs [] ≡ [] → (k : Key) (state : State) → rows_under (changes fs fq k state) k ≡ of_key k fs fq (rows_under state k)
+pub under_changed : (fs fq : List PlacedRow → List PlacedRow) → fs [] ≡ [] → (k : Key) (state : State) → rows_under (changes fs fq k state) k ≡ of_key k fs fq (rows_under state k)
 under_changed fs fq z (Queue name) state = ap (λ c. cond c (fq (state.queues name)) (state.queues name)) (key_refl (Queue name))
 under_changed fs fq z (Own s c) state = found_own (Own s c) fs z state.stations
 under_changed fs fq z (SharedOwn client name) state = found_own (SharedOwn client name) fs z state.stations
 under_changed fs fq z (Durable client name) state = found_own (Durable client name) fs z state.stations
 
-one_change : (k : Key) (f : List PlacedRow → List PlacedRow) (rows : List PlacedRow) → of_key k f f rows ≡ f rows
+pub one_change : (k : Key) (f : List PlacedRow → List PlacedRow) (rows : List PlacedRow) → of_key k f f rows ≡ f rows
 one_change (Queue name) f rows = refl
 one_change (Own s c) f rows = refl
 one_change (SharedOwn client name) f rows = refl
 one_change (Durable client name) f rows = refl
 
-stored_of : (state : State) (k : Key) → is_lasting k ≡ true → (place : ℕ) → stored_row state k place ≡ if_stored (row_at place (rows_under state k))
+pub stored_of : (state : State) (k : Key) → is_lasting k ≡ true → (place : ℕ) → stored_row state k place ≡ if_stored (row_at place (rows_under state k))
 stored_of state k l place = ap (λ b. cond b (if_stored (row_at place (rows_under state k))) None) l
 
 sent_row : (p : Content → Bool) (s : SessionId) (c now n : ℕ) (k : Key) (rows : List PlacedRow) → InOrder n rows → (place : ℕ) →
@@ -112,7 +113,7 @@ sent_row p s c now n (Own t d) rows h place = row_at-sent n place (is_next now (
 sent_row p s c now n (SharedOwn client name) rows h place = row_at-sent n place (is_next now (live now (bare rows))) (sent_out s c) (live_placed now rows) (order_filter n _ rows h)
 sent_row p s c now n (Durable client name) rows h place = row_at-sent n place (is_next now (live now (bare rows))) (sent_out s c) (live_placed now rows) (order_filter n _ rows h)
 
-next_stands : (p : Content → Bool) (now n : ℕ) (k : Key) (rows : List PlacedRow) → InOrder n rows → (x : PlacedRow) → next_under p now k rows ≡ Some x → row_at x.place (live_placed now rows) ≡ Some x.row
+pub next_stands : (p : Content → Bool) (now n : ℕ) (k : Key) (rows : List PlacedRow) → InOrder n rows → (x : PlacedRow) → next_under p now k rows ≡ Some x → row_at x.place (live_placed now rows) ≡ Some x.row
 next_stands p now n (Queue name) rows h x e = found_row n (is_next_chosen p now (live now (bare rows))) (live_placed now rows) (order_filter n _ rows h) x e
 next_stands p now n (Own t d) rows h x e = found_row n (is_next now (live now (bare rows))) (live_placed now rows) (order_filter n _ rows h) x e
 next_stands p now n (SharedOwn client name) rows h x e = found_row n (is_next now (live now (bare rows))) (live_placed now rows) (order_filter n _ rows h) x e
@@ -152,10 +153,10 @@ unfolding lapsed
 other_lapsed now k state key e place = row_other (live_placed now) (live_placed now) k state key e place
 
 pub counted_receive_leads : CountedReceiveLeads
-counted_receive_leads state p s c now k rows places o l gone =
-    chain state (lapsed now k state) (receive p (λ r. sent_out s c r ∷ []) now (Some k) state) (drops rows places) (counted k (next_under p now k (rows_under state k)))
-    (drops_lead state (lapsed now k state) rows places
-    (loses_gone (lapsed_under k now) state (lapsed now k state) rows places (definition_lapsed now k state)
+counted_receive_leads state p s c now k rows delays places o l gone =
+    chain state (lapsed now k state) (receive p (λ r. sent_out s c r ∷ []) now (Some k) state) (drops rows delays places) (counted k (next_under p now k (rows_under state k)))
+    (drops_lead state (lapsed now k state) rows delays places
+    (loses_gone (lapsed_under k now) state (lapsed now k state) rows delays places (definition_lapsed now k state)
     (λ key place. row_lapsed now k state o l key place ∙ ap (λ b. cond b None (stored_row state key place)) (under_key (has_lapsed now) k state l key place)) gone))
     (counts_next (lapsed now k state) (receive p (λ r. sent_out s c r ∷ []) now (Some k) state) k s c (live_placed now (rows_under state k)) (next_under p now k (rows_under state k))
     (λ key. ap (λ d. cond (is_durable key) d None) (definition_kept k key (deliver_placed now (λ r. sent_out s c r ∷ [])) state.stations) ∙ sym (definition_lapsed now k state key))

@@ -9,10 +9,11 @@ use Rattle.jm_machine.specs.declared.state.Row.{Row}
 use Rattle.jm_machine.specs.declared.state.Station.{Station}
 use Rattle.jm_machine.specs.Machine.{State, station_of, definition_of, without, at_key, with_rows, deleted, put}
 use Rattle.jm_machine.specs.Wants.{placed_rows}
+use Rattle.jm_machine.specs.Reopened.{is_durable}
 use Rattle.jm_machine.proofs.Keys.{key_same, key_refl}
 use Rattle.jm_keep.specs.declared.change.RowChange.TheVariants.{DropStation, PutStation}
 use Rattle.jm_keep.specs.Stored.{definition_after}
-use Rattle.jm_keep.specs.Persisted.{shown, is_persistent, row_at, StoredRow, stored_row, if_stored, is_durable, durable_definition, is_lasting, LeadsTo, rows_under}
+use Rattle.jm_keep.specs.Persisted.{shown, is_persistent, row_at, StoredRow, stored_row, if_stored, durable_definition, is_lasting, LeadsTo, rows_under}
 use Rattle.jm_keep.specs.Leads.{drops, Loses}
 use Rattle.jm_keep.specs.Steps.{passes, AreGone, all_under, DeleteLeads, PutLeads}
 use Rattle.jm_keep_law.proofs.Gone.{loses_gone}
@@ -166,10 +167,10 @@ all_go false true (Some r) = go (is_persistent r.message.mode)
     go false = refl
 all_go false false o = refl
 
-loses : (state : State) (client : Option (List ℕ)) (name : List ℕ) (rows : List (Key × ℕ)) (places : List ℕ) → AreGone (all_under (Durable client name)) state rows places → Loses state (emptied (Durable client name) state) rows places
+loses : (state : State) (client : Option (List ℕ)) (name : List ℕ) (rows : List (Key × ℕ)) (delays places : List ℕ) → AreGone (all_under (Durable client name)) state rows delays places → Loses state (emptied (Durable client name) state) rows delays places
 unfolding emptied
-loses state client name rows places a =
-    loses_gone (all_under (Durable client name)) state (emptied (Durable client name) state) rows places
+loses state client name rows delays places a =
+    loses_gone (all_under (Durable client name)) state (emptied (Durable client name) state) rows delays places
     (λ key. ap (λ d. cond (is_durable key) d None) (definition_kept (Durable client name) key (λ rows. []) state.stations))
     (λ key place. sym (stored_emptied state (Durable client name) key place) ∙ stored_deleted state client name key place
     ∙ ap (λ b. cond b None (stored_row state key place)) (all_go (key_eq (Durable client name) key) (is_lasting key) (row_at place (rows_under state key))))
@@ -187,8 +188,8 @@ definition_deleted state client name (Durable c n) = go (key_eq (Durable client 
     go false e = ap definition_of (without_other (Durable client name) (Durable c n) state.stations e) ∙ sym (definition_kept (Durable client name) (Durable c n) (λ rows. []) state.stations)
 
 -- first the rows go
-pub empties : (state : State) (client : Option (List ℕ)) (name : List ℕ) (rows : List (Key × ℕ)) (places : List ℕ) → AreGone (all_under (Durable client name)) state rows places → LeadsTo state (emptied (Durable client name) state) (drops rows places)
-empties state client name rows places a = drops_lead state (emptied (Durable client name) state) rows places (loses state client name rows places a)
+pub empties : (state : State) (client : Option (List ℕ)) (name : List ℕ) (rows : List (Key × ℕ)) (delays places : List ℕ) → AreGone (all_under (Durable client name)) state rows delays places → LeadsTo state (emptied (Durable client name) state) (drops rows delays places)
+empties state client name rows delays places a = drops_lead state (emptied (Durable client name) state) rows delays places (loses state client name rows delays places a)
 
 -- then the subscription
 pub ends : (state : State) (client : Option (List ℕ)) (name : List ℕ) → LeadsTo (emptied (Durable client name) state) (deleted (Durable client name) state) (DropStation (Durable client name) ∷ [])
@@ -198,6 +199,6 @@ ends state client name = (station_leads (emptied (Durable client name) state) (d
 })
 
 pub delete_leads : DeleteLeads
-delete_leads state client name rows places a =
-    chain state (emptied (Durable client name) state) (deleted (Durable client name) state) (drops rows places) (DropStation (Durable client name) ∷ [])
-    (empties state client name rows places a) (ends state client name)
+delete_leads state client name rows delays places a =
+    chain state (emptied (Durable client name) state) (deleted (Durable client name) state) (drops rows delays places) (DropStation (Durable client name) ∷ [])
+    (empties state client name rows delays places a) (ends state client name)

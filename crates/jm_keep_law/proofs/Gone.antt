@@ -42,16 +42,17 @@ under_key q k state l key place = go (key_eq k key) refl
     go false e = sym (ap (λ c. is_lasting key && c) (none_goes q (row_at place (rows_under state key))) ∙ false_either (is_lasting key))
 
 -- a state that has lost the rows that go has lost what is listed of them
-pub loses_gone : (goes : Key → ℕ → Row → Bool) (old new : State) (rows : List (Key × ℕ)) (places : List ℕ) →
+pub loses_gone : (goes : Key → ℕ → Row → Bool) (old new : State) (rows : List (Key × ℕ)) (delays places : List ℕ) →
     ((key : Key) → durable_definition new key ≡ durable_definition old key) →
     ((key : Key) (place : ℕ) → stored_row new key place ≡ cond (is_lasting key && passes (goes key place) (row_at place (rows_under old key))) None (stored_row old key place)) →
-    AreGone goes old rows places → Loses old new rows places
-loses_gone goes old new rows places d l a = record {
+    AreGone goes old rows delays places → Loses old new rows delays places
+loses_gone goes old new rows delays places d l a = record {
   definitions = d;
   gone = gone;
   kept = kept;
   last = λ key place e. last key place e (stored_row old key place) refl;
   left = λ key place e f. let it = a.places_are.left key place e f in (it.0, subst (λ o. IsSome o) (sym (kept it.0 place it.2)) it.1);
+  delays_are = a.delays_are;
 }
   where
     gone : (key : Key) (place : ℕ) → is_one_of rows key place ≡ true → stored_row new key place ≡ None

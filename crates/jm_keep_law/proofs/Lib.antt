@@ -10,5 +10,6 @@ pub mod Counted
 pub mod New
 pub mod Deleted
 pub mod Quiet
+pub mod Done
 pub mod Calls
 pub mod Apart

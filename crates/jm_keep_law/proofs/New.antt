@@ -5,7 +5,7 @@ use Rattle.jm_dest.specs.declared.key.Key.{Key}
 use Rattle.jm_dest.specs.declared.key.Key.TheVariants.{Queue, Own, SharedOwn, Durable}
 use Rattle.jm_format.specs.Format as format
 use Rattle.jm_machine.specs.Machine.{new_core}
-use Rattle.jm_keep.specs.Persisted.{stored_row, durable_definition, count_of}
+use Rattle.jm_keep.specs.Persisted.{stored_row, durable_definition, due_time, count_of}
 use Rattle.jm_keep.specs.Steps.{NewStoresNothing}
 
 none : (opening limit : ℕ) (key : Key) (place : ℕ) → stored_row (new_core opening limit) key place ≡ None
@@ -26,6 +26,10 @@ new_stores_nothing opening limit = record {
   counts = λ key place. sym (ap count_of (none opening limit key place));
   messages = λ place. record {
     held = λ key. subst (λ o. IfSome o (λ r. None ≡ Some (format.record r.message))) (sym (none opening limit key place)) tt;
+    free = λ f. refl;
+  };
+  dues = λ place. record {
+    held = λ key. subst (λ o. IfSome o (λ r. None ≡ due_time r.message)) (sym (none opening limit key place)) tt;
     free = λ f. refl;
   };
 }

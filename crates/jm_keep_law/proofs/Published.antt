@@ -15,8 +15,9 @@ use Rattle.jm_machine.specs.declared.state.Station.{Station}
 use Rattle.jm_machine.specs.Rows.{InOrder, fresh}
 use Rattle.jm_machine.specs.Machine.{State, Publisher, publisher_of, accepts, is_full, brought, offered, queued, one_missed, with_rows, with_message, settled, settled_rows, station_of, definition_of}
 use Rattle.jm_machine.specs.Wants.{placed_rows}
+use Rattle.jm_machine.specs.Reopened.{is_durable}
 use Rattle.jm_machine.proofs.Keys.{key_same}
-use Rattle.jm_keep.specs.Persisted.{shown, rows_under, row_at, StoredRow, stored_row, if_stored, is_lasting, is_durable, is_persistent}
+use Rattle.jm_keep.specs.Persisted.{shown, rows_under, row_at, StoredRow, stored_row, if_stored, is_lasting, is_persistent}
 use Rattle.jm_keep.specs.Leads.{StoresTheSame}
 use Rattle.jm_keep.specs.Steps.{StandsInOrder, is_for, is_accepted, takes, PublishGains}
 use Rattle.jm_keep_law.proofs.Received.{found_in_order}

@@ -12,8 +12,9 @@ use Rattle.jm_machine.specs.declared.state.Station.{Station}
 use Rattle.jm_machine.specs.Rows.{has_lapsed, InOrder, live_placed, live, bare, is_next, is_next_chosen, deliver_placed, deliver_chosen}
 use Rattle.jm_machine.specs.Machine.{State, AllInOrder, receive, station_of, definition_of, at_key, at_queue_of, with_rows}
 use Rattle.jm_machine.specs.Wants.{next_placed, next_chosen, placed_rows}
+use Rattle.jm_machine.specs.Reopened.{is_durable}
 use Rattle.jm_machine.proofs.Keys.{key_same, key_refl}
-use Rattle.jm_keep.specs.Persisted.{shown, rows_under, row_at, stored_row, if_stored, is_lasting, is_durable, is_persistent}
+use Rattle.jm_keep.specs.Persisted.{shown, rows_under, row_at, stored_row, if_stored, is_lasting, is_persistent}
 use Rattle.jm_keep.specs.Steps.{StandsInOrder, is_place_of, next_under, passes, taken_under, ReceiveLoses}
 use Rattle.jm_keep_law.proofs.Gone.{under_key, loses_gone}
 use Rattle.jm_keep_law.proofs.Placed.{if_passes, row_at-filter, row_at-gone, order_filter}
@@ -149,8 +150,8 @@ row_left p now k state o l key place = go (key_eq k key) refl
     go false e = row_other (deliver_placed now (λ r. [])) (deliver_chosen p now (λ r. [])) k state key e place
 
 pub receive_loses : ReceiveLoses
-receive_loses state p now k rows places o l lost =
-    loses_gone (taken_under k now (next_under p now k (rows_under state k))) state (receive p (λ r. []) now (Some k) state) rows places
+receive_loses state p now k rows delays places o l lost =
+    loses_gone (taken_under k now (next_under p now k (rows_under state k))) state (receive p (λ r. []) now (Some k) state) rows delays places
     (λ key. ap (λ d. cond (is_durable key) d None) (definition_kept k key (deliver_placed now (λ r. [])) state.stations))
     (λ key place. row_left p now k state o l key place ∙ ap (λ b. cond b None (stored_row state key place)) (under_key (taken now (next_under p now k (rows_under state k)) place) k state l key place))
     lost

@@ -11,7 +11,8 @@ use Rattle.jm_machine.specs.declared.state.Station.{Station}
 use Rattle.jm_machine.specs.Rows.{is_out, given_back}
 use Rattle.jm_machine.specs.Machine.{State, settled_rows, returned_rows, settled, returned, station_of, definition_of, with_rows}
 use Rattle.jm_machine.specs.Wants.{placed_rows}
-use Rattle.jm_keep.specs.Persisted.{rows_under, row_at, stored_row, if_stored, is_lasting, is_durable}
+use Rattle.jm_machine.specs.Reopened.{is_durable}
+use Rattle.jm_keep.specs.Persisted.{rows_under, row_at, stored_row, if_stored, is_lasting}
 use Rattle.jm_keep.specs.Steps.{StandsInOrder, SettleLoses, ReturnStores, passes, out_through}
 use Rattle.jm_keep_law.proofs.Placed.{row_at-filter}
 use Rattle.jm_keep_law.proofs.Gone.{left_stored, loses_gone}
@@ -65,11 +66,11 @@ row_left p state o key place =
     go false false = refl
 
 pub settle_loses : SettleLoses
-settle_loses state p rows places o s = loses_gone (out_through p) state (settled p state) rows places (λ key. ap (λ d. cond (is_durable key) d None) (definition_kept (settled_rows p) key state.stations)) (row_left p state o) s
+settle_loses state p rows delays places o s = loses_gone (out_through p) state (settled p state) rows delays places (λ key. ap (λ d. cond (is_durable key) d None) (definition_kept (settled_rows p) key state.stations)) (row_left p state o) s
 
 -- ---- what is given back
 
-returned_stored : (p : SessionId → ℕ → Bool) (place : ℕ) (rows : List PlacedRow) → if_stored (row_at place (returned_rows p rows)) ≡ if_stored (row_at place rows)
+pub returned_stored : (p : SessionId → ℕ → Bool) (place : ℕ) (rows : List PlacedRow) → if_stored (row_at place (returned_rows p rows)) ≡ if_stored (row_at place rows)
 returned_stored p place [] = refl
 returned_stored p place (x ∷ rows) = go (x.place == place) (returned_stored p place rows)
   where

@@ -1,7 +1,7 @@
 ghost use Rattle.jm_keep.specs.Apart.{QueuesApart, ReachedInOrder};
 ghost use Rattle.jm_keep.specs.Calls.{ChangesLead, RefusedLeads};
 ghost use Rattle.jm_keep.specs.Leads.{ChangesChain, CountLeads, DropsLead, NothingLeads, PutsLead, StationLeads};
-ghost use Rattle.jm_keep.specs.Steps.{CountedReceiveLeads, DeleteLeads, NewStoresNothing, PublishGains, PutLeads, ReceiveLoses, ReturnStores, SettleLoses};
+ghost use Rattle.jm_keep.specs.Steps.{CountedReceiveLeads, DeleteLeads, DoneLoses, NewStoresNothing, PublishGains, PutLeads, ReceiveLoses, ReturnStores, SettleLoses};
 
 /// The law of what goes, proved; the function itself does nothing.
 ///
@@ -75,6 +75,13 @@ pub fn law_settle()
     ensures { SettleLoses }
 {}
 
+/// The law of a listener that is done with its message, proved; the function itself does nothing.
+///
+/// Where that settles it, the stored rows of its consumer's key are lost that are out through this consumer.
+pub fn law_done()
+    ensures { DoneLoses }
+{}
+
 /// The law of what is given back, proved; the function itself does nothing.
 ///
 /// A row that waits again is stored as before.
@@ -123,8 +130,9 @@ pub fn law_order()
 ///
 /// Take any state whose rows stand in order, and any call that is not refused. The changes that this call asks for lead
 /// from what is stored of the state before it to what is stored of the state after it. A publication, a commit, a receive
-/// on a started connection from a queue or a durable subscription, an acknowledgement in mode `Client`, the making of a
-/// durable subscription and its end ask for changes, and every other call for none.
+/// on a started connection from a queue or a durable subscription, a listener's take as well, an acknowledgement in mode
+/// `Client`, in modes `Auto` and `Dups` a listener that is done and settles its message, the making of a durable subscription
+/// and its end ask for changes, and every other call for none.
 pub fn law_changes()
     ensures { ChangesLead }
 {}

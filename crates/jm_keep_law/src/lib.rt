@@ -5,7 +5,7 @@
 mod law;
 
 pub use law::{
-    law_apart, law_chain, law_changes, law_count, law_delete, law_drops, law_new, law_nothing,
-    law_order, law_publish, law_put, law_puts, law_receive, law_receive_counted, law_refused,
-    law_return, law_settle, law_station,
+    law_apart, law_chain, law_changes, law_count, law_delete, law_done, law_drops, law_new,
+    law_nothing, law_order, law_publish, law_put, law_puts, law_receive, law_receive_counted,
+    law_refused, law_return, law_settle, law_station,
 };

@@ -16,7 +16,7 @@ use Rattle.jm_header.specs.declared.content.Content.{Content}
 use Rattle.jm_header.specs.declared.content.DeliveryMode.{DeliveryMode}
 use Rattle.jm_header.specs.declared.content.DeliveryMode.TheVariants.{NonPersistent, Persistent}
 use Rattle.jm_keep.specs.Persisted as keep
-use Rattle.jm_keep.specs.Persisted.{IsPersisted, IsRecord, StoredRow as KeptRow, count_of, durable_definition, if_stored, row_at, stored_row as kept_row}
+use Rattle.jm_keep.specs.Persisted.{IsPersisted, StoredRow as KeptRow, count_of, due_time, durable_definition, if_stored, row_at, stored_row as kept_row}
 use Rattle.jm_machine.specs.declared.state.PlacedRow.{PlacedRow}
 use Rattle.jm_machine.specs.declared.state.Row.{Row}
 use Rattle.jm_machine.specs.declared.state.Station.{Station}
@@ -31,7 +31,7 @@ use Rattle.jm_core.specs.declared.stored.Holders.TheVariants as holders
 use Rattle.jm_core.specs.declared.stored.StoredMessage.{StoredMessage}
 use Rattle.jm_core.specs.declared.stored.StoredSubscription.{StoredSubscription}
 use Rattle.jm_core.specs.Stored.{AreHolders, ArePlaced, IsAdmitted, MayReopen, count_at, count_under, is_persistent, row_stored, rows_stored, rows_under, sent_to, state_stored, stations_stored}
-use Rattle.jm_reopened.specs.Given.{AreSome, ReopenedIsGiven, count_given, count_in, count_of_key, given, given_at}
+use Rattle.jm_reopened.specs.Given.{AreSome, ReopenedIsGiven, count_given, count_in, count_of_key, due_given, given, given_at}
 
 -- what stands for a row where there is none
 abbrev no_stored : StoredRow
@@ -220,6 +220,14 @@ record_is f (Some m) = go (f m)
     go None = tt
     go (Some n) = refl
 
+due_is : (f : StoredMessage → Option ℕ) (o : Option StoredMessage) → IfSome (kept_given f o) (λ r. due_given o ≡ due_time r.message)
+due_is f None = tt
+due_is f (Some m) = go (f m)
+  where
+    go : (n : Option ℕ) → IfSome (kept_of m.message n) (λ r. due_time m.message ≡ due_time r.message)
+    go None = tt
+    go (Some n) = refl
+
 -- the key of the subscription with an index finds what stands there
 count_first : (f : ℕ → Option ℕ) (ss : List StoredSubscription) (i : ℕ) (d : StoredSubscription) → IsDistinct key_eq (map (λ (s : StoredSubscription). s.key) ss) → i < length ss → count_in f ss (get_or ss i d).key ≡ f i
 unfolding IsDistinct
@@ -279,11 +287,15 @@ reopened_is_given opening limit ss ms h some =
       counts = λ key place. count_is ss key (given_at place ms) ∙ sym (ap count_of (kept key place));
       messages = λ place. record {
         held = λ key. subst (λ o. IfSome o (λ r. (given ss ms).message place ≡ Some (format.record r.message))) (sym (kept key place)) (record_is (count_of_key ss key) (given_at place ms));
-        free = λ none. free place (given_at place ms) refl (of_given (IsHeld ss) place ms held) (λ key. sym (kept key place) ∙ none key);
+        free = λ none. ap (option_map (λ (m : StoredMessage). format.record m.message)) (free place (given_at place ms) refl (of_given (IsHeld ss) place ms held) (λ key. sym (kept key place) ∙ none key));
+      };
+      dues = λ place. record {
+        held = λ key. subst (λ o. IfSome o (λ r. due_given (given_at place ms) ≡ due_time r.message)) (sym (kept key place)) (due_is (count_of_key ss key) (given_at place ms));
+        free = λ none. ap due_given (free place (given_at place ms) refl (of_given (IsHeld ss) place ms held) (λ key. sym (kept key place) ∙ none key));
       };
     }
   where
-    free : (place : ℕ) (o : Option StoredMessage) → given_at place ms ≡ o → IfSome o (IsHeld ss) → ((key : Key) → kept_given (count_of_key ss key) (given_at place ms) ≡ None) → option_map (λ (m : StoredMessage). format.record m.message) o ≡ None
+    free : (place : ℕ) (o : Option StoredMessage) → given_at place ms ≡ o → IfSome o (IsHeld ss) → ((key : Key) → kept_given (count_of_key ss key) (given_at place ms) ≡ None) → o ≡ None
     free place None e held none = refl
     free place (Some m) e held none =
         let holder = holder_of ss ms h m held in

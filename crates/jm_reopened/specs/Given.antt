@@ -4,7 +4,7 @@ use Rattle.jm_dest.specs.declared.key.Key.{Key}
 use Rattle.jm_dest.specs.declared.key.Key.TheVariants.{Queue, Own, SharedOwn, Durable}
 use Rattle.jm_dest.specs.Keys.{key_eq}
 use Rattle.jm_format.specs.Format as format
-use Rattle.jm_keep.specs.Persisted.{IsPersisted}
+use Rattle.jm_keep.specs.Persisted.{IsPersisted, due_time}
 use Rattle.jm_keep.specs.Stored.{Stored}
 use Rattle.jm_core.specs.declared.stored.Holders.{Holders}
 use Rattle.jm_core.specs.declared.stored.Holders.TheVariants as holders
@@ -33,12 +33,18 @@ abbrev pub count_given : List StoredSubscription → Key → Option StoredMessag
 count_given subscriptions key None = None
 count_given subscriptions key (Some m) = count_of_key subscriptions key m
 
--- what was given, as a keeper has it: the definitions, the counts, and the records of the messages
+-- the delivery time of a message that may have been given, where it has a delay
+abbrev pub due_given : Option StoredMessage → Option ℕ
+due_given None = None
+due_given (Some m) = due_time m.message
+
+-- what was given, as a keeper has it: the definitions, the counts, the records of the messages, and their delivery times
 abbrev pub given : List StoredSubscription → List StoredMessage → Stored
 given subscriptions messages = record {
   definition = λ key. option_map (λ (s : StoredSubscription). s.definition) (find (λ s. key_eq s.key key) subscriptions);
   count = λ key place. count_given subscriptions key (given_at place messages);
   message = λ place. option_map (λ (m : StoredMessage). format.record m.message) (given_at place messages);
+  due = λ place. due_given (given_at place messages);
 }
 
 -- somebody holds the message

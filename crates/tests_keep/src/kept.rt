@@ -3,7 +3,7 @@
 
 use crate::told::holds;
 use jm_base::List;
-use jm_dest::{Key, Name, SubscriptionName};
+use jm_dest::{Key, Moment, Name, SubscriptionName};
 use jm_keep::{Keep, MemKeep, NoKeep, RowChange};
 use jm_machine::Definition;
 use jm_selector::Selector;
@@ -14,6 +14,19 @@ static RECORD: [u8; 88] = [
     0, 0, 0, 0, 0, 0, 0, 1, // number
     0, 0, 0, 0, 0, 0, 3, 0xe8, // timestamp
     0, 0, 0, 0, 0, 0, 0, 0, 1, 4, // expiration, mode, priority
+    1, 0, 0, 0, 0, 0, 0, 0, 1, 0x74, 0, 0, // destination, correlation, type
+    1, 0, 0, 0, 0, 0, 0, 0, 2, 0x68, 0x69, // body
+    0, 0, 0, 0, 0, 0, 0, 1, // property count
+    0, 0, 0, 0, 0, 0, 0, 1, 0x78, 5, 0, 0, 0, 0, 0, 0, 0, 1, // property
+];
+
+/// The same with a delivery delay of 500 milliseconds.
+static DELAYED_RECORD: [u8; 96] = [
+    2, 0, 0, 0, 1, 0, 0, 0, 1, 0, 0, 0, 1, // version, opening, connection, session
+    0, 0, 0, 0, 0, 0, 0, 1, // number
+    0, 0, 0, 0, 0, 0, 3, 0xe8, // timestamp
+    0, 0, 0, 0, 0, 0, 0, 0, // expiration
+    0, 0, 0, 0, 0, 0, 5, 0xdc, 1, 4, // delivery time, mode, priority
     1, 0, 0, 0, 0, 0, 0, 0, 1, 0x74, 0, 0, // destination, correlation, type
     1, 0, 0, 0, 0, 0, 0, 0, 2, 0x68, 0x69, // body
     0, 0, 0, 0, 0, 0, 0, 1, // property count
@@ -140,6 +153,36 @@ fn of_a_queue(alloc: Global, keeper: &mut MemKeep) -> Option<bool> {
     )
 }
 
+/// A delayed message comes to a queue with its delivery time. None where memory was wanted.
+fn comes_delayed(alloc: Global, keeper: &mut MemKeep) -> Option<bool> {
+    let due = Moment::new(1500).ok()?;
+    let changes = [
+        RowChange::PutMessage {
+            place: 3,
+            bytes: List::new(Vec::from_slice(alloc, DELAYED_RECORD.as_slice()).ok()?),
+        },
+        RowChange::PutDelay { place: 3, due },
+        RowChange::PutHeld {
+            key: queue(alloc)?,
+            place: 3,
+        },
+    ];
+    Some(writes(keeper, &changes) && keeper.due(3) == Some(due) && keeper.due(2).is_none())
+}
+
+/// Its delivery time goes with it. None where memory was wanted.
+fn goes_delayed(alloc: Global, keeper: &mut MemKeep) -> Option<bool> {
+    let changes = [
+        RowChange::DropHeld {
+            key: queue(alloc)?,
+            place: 3,
+        },
+        RowChange::DropDelay { place: 3 },
+        RowChange::DropMessage { place: 3 },
+    ];
+    Some(writes(keeper, &changes) && keeper.due(3).is_none() && keeper.message(3).is_none())
+}
+
 #[test]
 fn rows_in_memory(rt: HostRuntime) {
     let mut keeper = MemKeep::new(rt.alloc());
@@ -152,6 +195,15 @@ fn rows_in_memory(rt: HostRuntime) {
     holds(&rt, "all of it goes", is_kept == Some(true));
     let is_kept = of_a_queue(rt.alloc(), &mut keeper);
     holds(&rt, "a queue", is_kept == Some(true));
+}
+
+#[test]
+fn delivery_times_in_memory(rt: HostRuntime) {
+    let mut keeper = MemKeep::new(rt.alloc());
+    let is_kept = comes_delayed(rt.alloc(), &mut keeper);
+    holds(&rt, "a delayed message comes", is_kept == Some(true));
+    let is_kept = goes_delayed(rt.alloc(), &mut keeper);
+    holds(&rt, "it goes with its delivery time", is_kept == Some(true));
 }
 
 #[test]

@@ -2,7 +2,7 @@ use Rattle.std.proofs.Common.{sym, ◌∙◌, arith}
 use Rattle.jm_keep.specs.Persisted.{rows_under}
 use Rattle.jm_changes.specs.Standing.{key_in, meant}
 use Rattle.jm_changes.proofs.First.{none_from, none_found, stands_off, stands_there}
-use Rattle.jm_changes.proofs.Placed.{under_in_order}
+use Rattle.jm_keep_law.proofs.Published.{under_in_order}
 use Rattle.jm_changes.proofs.going.stands.Goals as goal
 
 pub returns-then-row-place : goal.returns-then-row-place

@@ -15,8 +15,8 @@ loop-index-preserved g c =
     let index = c.loop-index.index in
     record {
       met = elim c.if-is_lasting.branch [
-        | then-is_lasting+in_ok-add_where w ↦ subst (λ s. AreMet (λ key r. is_out through r) state s.rows.items s.gone.items) (sym w.lost-is) w.in_ok-add_where.ensures.fit
-        | else-is_lasting w ↦ subst (λ s. AreMet (λ key r. is_out through r) state s.rows.items s.gone.items) (sym w.lost-is) c.loop-index.invariant.met
+        | then-is_lasting+in_ok-add_where w ↦ subst (λ s. AreMet (λ key r. is_out through r) state s.rows.items s.delays.items s.gone.items) (sym w.lost-is) w.in_ok-add_where.ensures.fit
+        | else-is_lasting w ↦ subst (λ s. AreMet (λ key r. is_out through r) state s.rows.items s.delays.items s.gone.items) (sym w.lost-is) c.loop-index.invariant.met
       ];
       out = elim c.if-is_lasting.branch [
         | then-is_lasting+in_ok-add_where w ↦
@@ -34,5 +34,5 @@ returns g c =
     let state = g.P.Planned.state c.args.planned.now in
     let through = are_meant c.args.which.now in
     let end : c.loop-index.index ≡ length keys = omega (arith, c.loop-index-test.false, c.loop-index.auto.index-end, c.len-index-end.ensures.len) in
-    out_gone through state keys c.loop-index.lost.rows.items c.loop-index.lost.gone.items c.len-index-end.ensures.covers
+    out_gone through state keys c.loop-index.lost.rows.items c.loop-index.lost.delays.items c.loop-index.lost.gone.items c.len-index-end.ensures.covers
     (subst (λ n. AreOut through state keys c.loop-index.lost.rows.items n) end c.loop-index.invariant.out) c.loop-index.invariant.met

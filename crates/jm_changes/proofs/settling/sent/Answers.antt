@@ -12,6 +12,6 @@ returns g c =
     let key = key_in (g.P.Planned.keys c.args.planned.now) c.args.index in
     let state = g.P.Planned.state c.args.planned.now in
     let count = counted key (next_under (selected_by (Some c.args.consumer.now)) c.args.now key (rows_under state key)) in
-    drops_then (lapsed_under key c.args.now) state c.in_ok-lost.lost.rows.items c.in_ok-lost.lost.gone.items count c.push_count.new.changes.items
-    (lapsed_gone key c.args.now state c.in_ok-lost.lost.rows.items c.in_ok-lost.lost.gone.items c.requires.lasting c.in_ok-lost.ensures.rows c.in_ok-lost.ensures.met)
+    drops_then (lapsed_under key c.args.now) state c.in_ok-lost.lost.rows.items c.in_ok-lost.lost.delays.items c.in_ok-lost.lost.gone.items count c.push_count.new.changes.items
+    (lapsed_gone key c.args.now state c.in_ok-lost.lost.rows.items c.in_ok-lost.lost.delays.items c.in_ok-lost.lost.gone.items c.requires.lasting c.in_ok-lost.ensures.rows c.in_ok-lost.ensures.met)
     (c.in_ok-push_count.ensures ∙ ap (λ cs. cs ++ count) c.in_ok-changes.ensures)

@@ -2,8 +2,8 @@ use Rattle.std.proofs.Common.{◌+◌, arith, sym, ap, ◌∙◌, subst}
 use Rattle.jm_keep.specs.Persisted.{rows_under}
 use Rattle.jm_changes.specs.Standing.{AreMet, goes, key_in, meant}
 use Rattle.jm_changes.proofs.First.{met, none_found}
-use Rattle.jm_changes.proofs.Losing.{Has, has_all, turn_from, turn_more, turn_same}
-use Rattle.jm_changes.proofs.Placed.{under_in_order}
+use Rattle.jm_changes.proofs.Losing.{Has, has_all, turn_from, turn_more, turn_read, turn_same}
+use Rattle.jm_keep_law.proofs.Published.{under_in_order}
 use Rattle.jm_changes.proofs.lost.Lost.add_where.Goals as goal
 use Rattle.jm_changes.proofs.lost.Lost.add_where.Goals.{then-row+in_ok-add, else-row}
 
@@ -13,6 +13,14 @@ loop-row-smaller g c =
     (under_in_order (g.P.Planned.state c.args.planned.now) c.requires.order (key_in (g.P.Planned.keys c.args.planned.now) c.args.index)) (sym c.row_where.ensures.row ∙ c.in-Some.is)) in
     let end = c.in-Some.ensures.place in
     omega (arith, from, end)
+
+pub add-requires-clause-read : goal.add-requires-clause-read
+add-requires-clause-read g c =
+    let keys = g.P.Planned.keys c.args.planned.now in
+    let state = g.P.Planned.state c.args.planned.now in
+    let key = key_in keys c.args.index in
+    turn_read (meant c.args.which.now) c.loop-row.place state key c.in-Some.row
+    (met (meant c.args.which.now) state.next_place c.loop-row.place (rows_under state key) c.in-Some.row (under_in_order state c.requires.order key) (sym c.row_where.ensures.row ∙ c.in-Some.is))
 
 pub loop-row-preserved : goal.loop-row-preserved
 loop-row-preserved g c =
@@ -27,8 +35,8 @@ loop-row-preserved g c =
     record {
       within = omega (arith, end);
       fit = elim c.if-row.branch [
-        | then-row+in_ok-add w ↦ subst (λ s. AreMet (goes keys c.args.going.now) state s.rows.items s.gone.items) (sym w.self-is) w.in_ok-add.ensures.fit
-        | else-row w ↦ subst (λ s. AreMet (goes keys c.args.going.now) state s.rows.items s.gone.items) (sym w.self-is) c.loop-row.invariant.fit
+        | then-row+in_ok-add w ↦ subst (λ s. AreMet (goes keys c.args.going.now) state s.rows.items s.delays.items s.gone.items) (sym w.self-is) w.in_ok-add.ensures.fit
+        | else-row w ↦ subst (λ s. AreMet (goes keys c.args.going.now) state s.rows.items s.delays.items s.gone.items) (sym w.self-is) c.loop-row.invariant.fit
       ];
       met = elim c.if-row.branch [
         | then-row+in_ok-add w ↦

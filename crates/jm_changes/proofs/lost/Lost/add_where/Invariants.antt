@@ -8,7 +8,7 @@ use Rattle.jm_changes.proofs.lost.Lost.add_where.Given as goal
 abbrev pub invariant-loop-row : goal.invariant-loop-row
 invariant-loop-row g l = record {
   within : l.place ≤ long_end;
-  fit : AreMet (goes (g.P.Planned.keys l.planned) l.going) (g.P.Planned.state l.planned) l.self.rows.items l.self.gone.items;
+  fit : AreMet (goes (g.P.Planned.keys l.planned) l.going) (g.P.Planned.state l.planned) l.self.rows.items l.self.delays.items l.self.gone.items;
   met : Has (meant l.which) (key_in (g.P.Planned.keys l.planned) l.index) (rows_under (g.P.Planned.state l.planned) (key_in (g.P.Planned.keys l.planned) l.index)) l.initial.self.rows.items l.self.rows.items l.place;
 }
 
