@@ -7,7 +7,7 @@ use Rattle.jm_dest.specs.declared.key.Key.{Key}
 use Rattle.jm_dest.specs.declared.key.Key.TheVariants.{Own, SharedOwn, Durable, Queue as OfQueue}
 use Rattle.jm_dest.specs.Keys.{key_eq}
 use Rattle.jm_machine.specs.declared.answer.Answer.{Answer}
-use Rattle.jm_machine.specs.declared.answer.Answer.TheVariants.{Done}
+use Rattle.jm_machine.specs.declared.answer.Answer.TheVariants.{Done, Sent, Delivered, Nothing, Missed}
 use Rattle.jm_machine.specs.declared.call.Request.{Request}
 use Rattle.jm_machine.specs.declared.call.Request.TheVariants.{CreateSharedDurable}
 use Rattle.jm_machine.specs.declared.call.Who.{Who}
@@ -26,6 +26,14 @@ is_held_alone (Durable client name) = true
 -- how many rows the subscription of a key may hold, where that is limited
 abbrev pub limit_of : Key → ℕ → Option ℕ
 limit_of key limit = if is_limited key then Some limit else None
+
+-- the answer hands a message out
+abbrev pub is_handed_out : Answer → Bool
+is_handed_out Done = false
+is_handed_out (Sent number) = false
+is_handed_out (Delivered delivery) = true
+is_handed_out Nothing = false
+is_handed_out (Missed number) = false
 
 -- what is held after a session's request, which may be refused
 abbrev pub after : Key → Lone → SessionId → Request → Lone

@@ -5,17 +5,21 @@ ghost use Rattle.jm_dest.specs.declared.key.Key.{Key as OfKey};
 ghost use Rattle.jm_dest.specs.declared.destination.Destination.TheVariants.{Topic};
 ghost use Rattle.jm_machine.specs.Life.{mode_of as mode_in};
 ghost use Rattle.jm_machine.specs.Machine as machine;
+ghost use Rattle.jm_machine.specs.Rows as rows;
+ghost use Rattle.jm_machine.specs.Rows.{settles_at_once};
 ghost use Rattle.jm_machine.specs.Lone as spec;
 ghost use Rattle.jm_machine.specs.Lone.Item.{Called};
 ghost use Rattle.jm_scope.specs.Scopes.{scope_seen};
-ghost use Rattle.jm_lone.specs.Parts.{IsAnswered, IsAttached, after, asks_no_shared, is_held_alone};
+ghost use Rattle.jm_lone.specs.Parts.{IsAnswered, IsAttached, after, asks_no_shared, is_handed_out, is_held_alone};
 
 use crate::known::{
-    has_client, is_active, is_new_session, is_started, may_begin, may_close_consumer,
-    may_close_session,
+    has_client, is_active, is_busy, is_listening, is_new_session, is_started, may_begin,
+    may_close_consumer, may_close_session,
 };
 use crate::lone::Lone;
-use crate::marks::{close_connection, close_session, close_sessions_of, set_started};
+use crate::marks::{
+    close_connection, close_session, close_sessions_of, set_busy, set_listening, set_started,
+};
 use jm_base::{Mode, Refusal, Str};
 use jm_dest::{ClientId, ConnectionId, ConsumerId, Destination, Moment, Name, SessionId};
 use jm_machine::{
@@ -32,6 +36,13 @@ fn copy_client(client: &Option<ClientId>) -> Result<Option<ClientId>, AllocError
         None => Ok(None),
         Some(client) => Ok(Some(client.copy()?)),
     }
+}
+
+/// Whether the answer hands a message out.
+fn is_delivered(answer: &Answer) -> bool
+    ensures { result ≡ is_handed_out answer.now }
+{
+    matches!(answer, Answer::Delivered(_))
 }
 
 impl Lone {
@@ -295,7 +306,7 @@ impl Lone {
     }
 
     /// Closes the consumer, where it may be closed: its own subscription ends with it. `IllegalState` where the open session
-    /// has no such consumer, or was never opened.
+    /// has no such consumer, or it is busy, or the session was never opened.
     #[tactic(auto, unfolding(jm_machine::specs::Machine::refusal, jm_machine::specs::Machine::answer, jm_machine::specs::Lone::lone_did))]
     fn close_consumer(
         &mut self,
@@ -316,7 +327,7 @@ impl Lone {
     }
 
     /// Delivers the next message to the consumer, where it may receive, as the mode of its session says; on a stopped
-    /// connection there is nothing. `IllegalState` where the session is not open or the consumer not active.
+    /// connection there is nothing. `IllegalState` where the session is not open, or the consumer not active, or listens.
     #[tactic(auto, unfolding(jm_machine::specs::Machine::refusal, jm_machine::specs::Machine::answer, jm_machine::specs::Lone::lone_did))]
     fn receive(
         &mut self,
@@ -330,7 +341,7 @@ impl Lone {
         let Some(mode) = self.mode_of(session) else {
             return Ok(Err(Refusal::IllegalState));
         };
-        if !is_active(&self.consumers, session, id) {
+        if !is_active(&self.consumers, session, id) || is_listening(&self.consumers, session, id) {
             return Ok(Err(Refusal::IllegalState));
         }
         if !is_started(&self.connections, session.connection) {
@@ -350,6 +361,96 @@ impl Lone {
             return Err(Refusal::IllegalState);
         }
         Ok(Answer::Missed(self.rows.missed()))
+    }
+
+    /// Whether the session's consumer of that number may be used: the session is open, and the consumer active.
+    fn may_use(&self, session: &SessionId, id: ConsumerId) -> bool
+        ensures { result ≡ machine.may_use self.now.life self.now.consumers session.now id }
+    {
+        self.mode_of(session).is_some() && is_active(&self.consumers, session, id)
+    }
+
+    /// Sets the consumer's listener, or takes it away. `IllegalState` where the consumer may not be used, or is busy.
+    #[tactic(auto, unfolding(jm_machine::specs::Machine::refusal, jm_machine::specs::Machine::answer, jm_machine::specs::Lone::lone_did))]
+    fn set_listener(&mut self, session: &SessionId, id: ConsumerId, on: bool) -> Reply
+        ensures { (key : OfKey) →
+            IsAnswered key self.old session.now (Request.SetListener id on) result self.new }
+    {
+        if !self.may_use(session, id) || is_busy(&self.consumers, session, id) {
+            return Err(Refusal::IllegalState);
+        }
+        set_listening(&mut self.consumers, session, id, on);
+        Ok(Answer::Done)
+    }
+
+    /// The next message goes out to the consumer's listener; where there is one, the consumer is busy.
+    fn take_next(
+        &mut self,
+        session: &SessionId,
+        id: ConsumerId,
+        now: Moment,
+    ) -> Result<Answer, AllocError>
+        ensures answer { IfOk result (λ answer. answer ≡ machine.delivery (rows.next now (rows.live now self.old.rows))) }
+        ensures lone { OnOk result (self.new ≡ spec.lone_take session.now id now self.old) }
+    {
+        let answer = self.rows.take(session, id, now)?;
+        set_busy(&mut self.consumers, session, id, is_delivered(&answer));
+        Ok(answer)
+    }
+
+    /// Gives the next message to the consumer's listener, where it may take one: what it takes is out in every mode. On a
+    /// stopped connection there is nothing. `IllegalState` where the consumer may not be used, does not listen, or is busy.
+    #[tactic(auto, unfolding(jm_machine::specs::Machine::refusal, jm_machine::specs::Machine::answer, jm_machine::specs::Lone::lone_did))]
+    fn take(
+        &mut self,
+        session: &SessionId,
+        id: ConsumerId,
+        now: Moment,
+    ) -> Result<Reply, AllocError>
+        ensures { (key : OfKey) → IfOk result (λ reply.
+            IsAnswered key self.old session.now (Request.Take id now) reply self.new) }
+    {
+        let listens = is_listening(&self.consumers, session, id);
+        if !self.may_use(session, id) || !listens || is_busy(&self.consumers, session, id) {
+            return Ok(Err(Refusal::IllegalState));
+        }
+        if is_started(&self.connections, session.connection) {
+            Ok(Ok(self.take_next(session, id, now)?))
+        } else {
+            Ok(Ok(Answer::Nothing))
+        }
+    }
+
+    /// Settles what is out through the consumer, where `ok` is set, or else lets it wait again, where the mode of its session
+    /// settles a message as it is delivered.
+    fn finish(&mut self, session: &SessionId, id: ConsumerId, ok: bool)
+        ensures { self.new ≡ (if settles_at_once (mode_in self.old.life session.now)
+            then (if ok then spec.lone_settled (machine.of_number session.now id) self.old
+            else spec.lone_returned (machine.of_number session.now id) self.old)
+            else self.old) }
+    {
+        if let Some(Mode::Auto | Mode::Dups) = self.mode_of(session) {
+            let which = Consumers::One(*session, id);
+            if ok {
+                self.rows.settle(&which);
+            } else {
+                self.rows.give_back(&which);
+            }
+        }
+    }
+
+    /// Ends the delivery for which the consumer is busy. `IllegalState` where the consumer may not be used, or is not busy.
+    #[tactic(auto, unfolding(jm_machine::specs::Machine::refusal, jm_machine::specs::Machine::answer, jm_machine::specs::Lone::lone_did))]
+    fn done(&mut self, session: &SessionId, id: ConsumerId, ok: bool) -> Reply
+        ensures { (key : OfKey) →
+            IsAnswered key self.old session.now (Request.Done id ok) result self.new }
+    {
+        if !self.may_use(session, id) || !is_busy(&self.consumers, session, id) {
+            return Err(Refusal::IllegalState);
+        }
+        set_busy(&mut self.consumers, session, id, false);
+        self.finish(session, id, ok);
+        Ok(Answer::Done)
     }
 
     /// Settles what is out to the session, where it is open and its mode lets the client acknowledge.
@@ -464,6 +565,15 @@ impl Lone {
             }
             Request::Missed { consumer } if scope.belongs(session, *consumer) => {
                 Ok(Some(self.missed(session, *consumer)))
+            }
+            Request::SetListener { consumer, on } if scope.belongs(session, *consumer) => {
+                Ok(Some(self.set_listener(session, *consumer, *on)))
+            }
+            Request::Take { consumer, now } if scope.belongs(session, *consumer) => {
+                Ok(Some(self.take(session, *consumer, *now)?))
+            }
+            Request::Done { consumer, ok } if scope.belongs(session, *consumer) => {
+                Ok(Some(self.done(session, *consumer, *ok)))
             }
             _ => {
                 self.take_up(alloc, scope, session, request)?;

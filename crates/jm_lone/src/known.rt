@@ -94,7 +94,28 @@ pub(crate) fn is_active(consumers: &[Consumer], session: &SessionId, id: Consume
     }
 }
 
-/// Whether the consumer of that number may be closed: the session is open and has it, or is closed.
+/// Whether the session's consumer of that number listens: it is active, and its listener was set.
+pub(crate) fn is_listening(consumers: &[Consumer], session: &SessionId, id: ConsumerId) -> bool
+    ensures { result ≡ machine.is_listening (machine.consumer_of consumers.now session.now id) }
+{
+    match consumer_of(consumers, session, id) {
+        Some(consumer) => consumer.is_active && consumer.is_listening,
+        None => false,
+    }
+}
+
+/// Whether the session's consumer of that number is busy: it is active, and its listener is not done with a message.
+pub(crate) fn is_busy(consumers: &[Consumer], session: &SessionId, id: ConsumerId) -> bool
+    ensures { result ≡ machine.is_busy (machine.consumer_of consumers.now session.now id) }
+{
+    match consumer_of(consumers, session, id) {
+        Some(consumer) => consumer.is_active && consumer.is_busy,
+        None => false,
+    }
+}
+
+/// Whether the consumer of that number may be closed: the session is open and has it, and it is not busy, or the session is
+/// closed.
 pub(crate) fn may_close_consumer(
     sessions: &[SessionState],
     consumers: &[Consumer],
@@ -102,10 +123,13 @@ pub(crate) fn may_close_consumer(
     id: ConsumerId,
 ) -> bool
     ensures { result ≡ (if is_some (life.open_mode (session_at sessions.now session.now))
-        then is_some (machine.consumer_of consumers.now session.now id) else is_some (session_at sessions.now session.now)) }
+        then is_some (machine.consumer_of consumers.now session.now id) && not (machine.is_busy (machine.consumer_of consumers.now session.now id))
+        else is_some (session_at sessions.now session.now)) }
 {
     match session_of(sessions, session) {
-        Some(state) if state.is_open => consumer_of(consumers, session, id).is_some(),
+        Some(state) if state.is_open => {
+            consumer_of(consumers, session, id).is_some() && !is_busy(consumers, session, id)
+        }
         Some(_) => true,
         None => false,
     }

@@ -204,6 +204,8 @@ impl Lone {
             key: key.copy()?,
             selector: Selector::none(alloc),
             is_active: true,
+            is_listening: false,
+            is_busy: false,
         })?;
         Ok(())
     }

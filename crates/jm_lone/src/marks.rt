@@ -5,7 +5,7 @@ ghost use Rattle.jm_machine.specs.Life as life;
 ghost use Rattle.jm_machine.specs.Machine as machine;
 ghost use Rattle.jm_lone.specs.Sessions.{is_on, is_session};
 
-use jm_dest::{ConnectionId, SessionId};
+use jm_dest::{ConnectionId, ConsumerId, SessionId};
 use jm_machine::find::same_session;
 use jm_machine::{ConnectionState, Consumer, Consumers, SessionState};
 
@@ -92,5 +92,44 @@ pub(crate) fn close_consumers(consumers: &mut [Consumer], which: &Consumers)
 {
     for consumer in consumers.iter_mut() {
         close_among(consumer, which);
+    }
+}
+
+fn mark_listening(consumer: &mut Consumer, session: &SessionId, id: ConsumerId, on: bool)
+    ensures { consumer.new ≡ machine.listening_if session.now id on consumer.old }
+{
+    if same_session(&consumer.session, session) && consumer.id == id {
+        consumer.is_listening = on;
+    }
+}
+
+/// The session's consumer of that number has that mark of its listener, where it was made.
+pub(crate) fn set_listening(
+    consumers: &mut [Consumer],
+    session: &SessionId,
+    id: ConsumerId,
+    on: bool,
+)
+    ensures { consumers.new ≡ machine.set_listening session.now id on consumers.old }
+{
+    for consumer in consumers.iter_mut() {
+        mark_listening(consumer, session, id, on);
+    }
+}
+
+fn mark_busy(consumer: &mut Consumer, session: &SessionId, id: ConsumerId, on: bool)
+    ensures { consumer.new ≡ machine.busy_if session.now id on consumer.old }
+{
+    if same_session(&consumer.session, session) && consumer.id == id {
+        consumer.is_busy = on;
+    }
+}
+
+/// The session's consumer of that number is busy, or not, where it was made.
+pub(crate) fn set_busy(consumers: &mut [Consumer], session: &SessionId, id: ConsumerId, on: bool)
+    ensures { consumers.new ≡ machine.set_busy session.now id on consumers.old }
+{
+    for consumer in consumers.iter_mut() {
+        mark_busy(consumer, session, id, on);
     }
 }

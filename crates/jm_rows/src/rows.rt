@@ -4,7 +4,7 @@ ghost use Rattle.std.specs.Prelude.{◌≡◌, ◌<◌, ℕ, true, Option, [], �
 ghost use Rattle.std.specs.List.{list_any};
 ghost use Rattle.jm_machine.specs.Machine as machine;
 ghost use Rattle.jm_machine.specs.Rows as spec;
-ghost use Rattle.jm_stations.specs.Backlogs.{empty, gone, out_row};
+ghost use Rattle.jm_stations.specs.Backlogs.{empty, gone};
 ghost use Rattle.jm_rows.specs.Rows.{AreWithin, HasLimit, HasRoom, missed_in, rows_in, with_row};
 
 use jm_base::Mode;
@@ -170,7 +170,7 @@ impl Rows {
     {
         match mode {
             Mode::Auto | Mode::Dups => self.settle_next(now),
-            Mode::Client | Mode::Transacted => self.send_next(session, consumer, now),
+            Mode::Client | Mode::Transacted => self.take(session, consumer, now),
         }
     }
 
@@ -184,15 +184,16 @@ impl Rows {
         Ok(self.stations.receive(0, now, copy))
     }
 
-    /// Drops the rows that wait and have lapsed, and delivers the next one, which goes out.
-    fn send_next(
+    /// Drops the rows that wait and have lapsed, and delivers the next one, which goes out to the session through its
+    /// consumer. `AllocError` where a request for memory was refused: all stays as before.
+    pub fn take(
         &mut self,
         session: &SessionId,
         consumer: ConsumerId,
         now: Moment,
     ) -> Result<Answer, AllocError>
         ensures answer { IfOk result (λ answer. answer ≡ machine.delivery (spec.next now (spec.live now self.old.rows))) }
-        ensures rows { OnOk result (self.new ≡ record self.old { rows = spec.deliver now (out_row session.now consumer) self.old.rows }) }
+        ensures rows { OnOk result (self.new ≡ record self.old { rows = spec.deliver now (spec.taken session.now consumer) self.old.rows }) }
         ensures err { OnErr result (self.new ≡ self.old) }
     {
         let copy = self.stations.copy_for(0, now, false)?;

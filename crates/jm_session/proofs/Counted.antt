@@ -57,6 +57,11 @@ and_none : (b : Bool) → (b && false) ≡ false
 and_none true = refl
 and_none false = refl
 
+-- where one consumer is marked, and is counted as before, the numbers stay those of the consumers
+pub counted_marked : {K : Type 0} (entries : List (K × Consumer)) (at : ℕ) (v w : Consumer) (counts : Counts) → slice_get (values_of entries) at ≡ Some v → ((key : Key) → one_at key w ≡ one_at key v) →
+    AreCounted (values_of entries) counts → AreCounted (values_of (set_value_at entries at w)) counts
+counted_marked entries at v w counts there same counted = λ key named. omega (arith, counted key named, active_set key w v entries at there, same key)
+
 -- a closed consumer is active at no key
 pub one_ended : (x : Consumer) (key : Key) → one_at key (record x { is_active = false }) ≡ 0
 one_ended x key = ap (λ b. cond b 1 0) (and_none (key_eq x.key key))

@@ -5,6 +5,7 @@
 
 mod clients;
 mod closing;
+mod marks;
 mod number;
 mod one;
 mod roster;

@@ -8,6 +8,7 @@ ghost use Rattle.jm_machine.specs.Machine as machine;
 ghost use Rattle.jm_session.specs.Numbers.{IsNumbered, number_of};
 
 use crate::closing::{close_consumer, close_consumers};
+use crate::marks::{mark_busy, mark_listening};
 use crate::number::ConsumerNumber;
 use crate::one::one_consumer;
 use crate::source::Source;
@@ -171,6 +172,8 @@ impl Roster {
             key,
             selector,
             is_active: true,
+            is_listening: false,
+            is_busy: false,
         };
         append(&mut self.consumers, consumer);
         // The length is what says that one more can be counted.
@@ -199,5 +202,29 @@ impl Roster {
             consumer: id,
         };
         close_consumer(&mut self.consumers, &mut self.attached, number);
+    }
+
+    /// The session's consumer of that number, where it was made, has that mark of its listener. Takes no memory.
+    pub(crate) fn set_listening(&mut self, session: &SessionId, id: ConsumerId, on: bool)
+        ensures consumers { self.new.consumers ≡ machine.set_listening session.now id on self.old.consumers }
+        ensures spare { self.old.spare ≤ self.new.spare }
+    {
+        let number = ConsumerNumber {
+            session: *session,
+            consumer: id,
+        };
+        mark_listening(&mut self.consumers, number, on);
+    }
+
+    /// The session's consumer of that number, where it was made, is busy, or not. Takes no memory.
+    pub(crate) fn set_busy(&mut self, session: &SessionId, id: ConsumerId, on: bool)
+        ensures consumers { self.new.consumers ≡ machine.set_busy session.now id on self.old.consumers }
+        ensures spare { self.old.spare ≤ self.new.spare }
+    {
+        let number = ConsumerNumber {
+            session: *session,
+            consumer: id,
+        };
+        mark_busy(&mut self.consumers, number, on);
     }
 }

@@ -10,7 +10,7 @@ ghost use Rattle.jm_dest.specs.Keys.{key_eq};
 ghost use Rattle.jm_machine.specs.Attached.{AreCounted, is_named};
 ghost use Rattle.jm_machine.specs.Life as life;
 ghost use Rattle.jm_machine.specs.Machine as machine;
-ghost use Rattle.jm_session.specs.Known.{cause, life_set, may_receive, open_cause};
+ghost use Rattle.jm_session.specs.Known.{cause, life_set, may_set_busy, open_cause};
 
 use crate::clients::Clients;
 use crate::closing::{close_session, close_sessions};
@@ -316,12 +316,68 @@ impl Sessions {
         self.is_open(session) && self.consumer_of(session, id).is_none()
     }
 
-    /// Whether the session's consumer of that number may receive: the session is open, and the consumer
-    /// is active in it.
-    pub fn may_receive(&self, session: &SessionId, id: ConsumerId) -> bool
-        ensures { result ≡ may_receive self.now.life self.now.consumers session.now id }
+    /// Whether the session's consumer of that number listens: it is active, and its listener was set.
+    pub fn is_listening(&self, session: &SessionId, id: ConsumerId) -> bool
+        ensures { result ≡ machine.is_listening (machine.consumer_of self.now.consumers session.now id) }
+    {
+        match self.consumer_of(session, id) {
+            Some(consumer) => consumer.is_active && consumer.is_listening,
+            None => false,
+        }
+    }
+
+    /// Whether the session's consumer of that number is busy: it is active, and its listener is not done with a message.
+    pub fn is_busy(&self, session: &SessionId, id: ConsumerId) -> bool
+        ensures { result ≡ machine.is_busy (machine.consumer_of self.now.consumers session.now id) }
+    {
+        match self.consumer_of(session, id) {
+            Some(consumer) => consumer.is_active && consumer.is_busy,
+            None => false,
+        }
+    }
+
+    /// Whether the session's consumer of that number may be used: the session is open, and the consumer is active in it.
+    pub fn may_use(&self, session: &SessionId, id: ConsumerId) -> bool
+        ensures { result ≡ machine.may_use self.now.life self.now.consumers session.now id }
     {
         self.is_open(session) && self.is_active(session, id)
+    }
+
+    /// Whether the session's consumer of that number may receive: it may be used, and does not listen.
+    pub fn may_receive(&self, session: &SessionId, id: ConsumerId) -> bool
+        ensures { result ≡ machine.may_receive self.now.life self.now.consumers session.now id }
+    {
+        self.may_use(session, id) && !self.is_listening(session, id)
+    }
+
+    /// Whether the listener of the session's consumer of that number may be set, or taken away: the consumer may be used,
+    /// and is not busy.
+    pub fn may_set_listener(&self, session: &SessionId, id: ConsumerId) -> bool
+        ensures { result ≡ machine.may_set_listener self.now.life self.now.consumers session.now id }
+    {
+        self.may_use(session, id) && !self.is_busy(session, id)
+    }
+
+    /// Whether the listener of the session's consumer of that number may take a message: the consumer may be used, listens,
+    /// and is not busy.
+    pub fn may_take(&self, session: &SessionId, id: ConsumerId) -> bool
+        ensures { result ≡ machine.may_take self.now.life self.now.consumers session.now id }
+    {
+        self.may_use(session, id) && self.is_listening(session, id) && !self.is_busy(session, id)
+    }
+
+    /// Whether the listener of the session's consumer of that number may be done with a message: the consumer may be used,
+    /// and is busy.
+    pub fn may_be_done(&self, session: &SessionId, id: ConsumerId) -> bool
+        ensures { result ≡ machine.may_be_done self.now.life self.now.consumers session.now id }
+    {
+        self.may_use(session, id) && self.is_busy(session, id)
+    }
+
+    fn may_set_busy(&self, session: &SessionId, id: ConsumerId, on: bool) -> bool
+        ensures { result ≡ may_set_busy self.now.life self.now.consumers session.now id on }
+    {
+        self.may_take(session, id) || !on && self.may_be_done(session, id)
     }
 
     /// Whether the session may be closed: it was opened, or its connection is closed.
@@ -332,12 +388,12 @@ impl Sessions {
     }
 
     /// Whether the session's consumer of that number may be closed: it was made in the session, which is
-    /// open, or the session is closed.
+    /// open, and is not busy, or the session is closed.
     pub fn may_close_consumer(&self, session: &SessionId, id: ConsumerId) -> bool
         ensures { result ≡ machine.may_close_consumer self.now.life self.now.consumers session.now id }
     {
         if self.is_open(session) {
-            self.consumer_of(session, id).is_some()
+            self.consumer_of(session, id).is_some() && !self.is_busy(session, id)
         } else {
             self.session_of(session).is_some()
         }
@@ -533,8 +589,8 @@ impl Sessions {
     }
 
     /// Closes the session's consumer of that number, which stays known. `IllegalState` where it was never
-    /// made in the session, which is open, or the session was never opened; closing a closed one does
-    /// nothing. Takes no memory.
+    /// made in the session, which is open, or is busy (ours), or the session was never opened; closing a
+    /// closed one does nothing. Takes no memory.
     pub fn close_consumer(&mut self, session: &SessionId, id: ConsumerId) -> Result<(), Refusal>
         ensures ok { is_ok result ≡ machine.may_close_consumer self.old.life self.old.consumers session.now id }
         ensures refused { IfErr result (λ refusal. refusal ≡ IllegalState) }
@@ -547,6 +603,46 @@ impl Sessions {
             return Err(Refusal::IllegalState);
         }
         self.roster.close_one(session, id);
+        Ok(())
+    }
+
+    /// Sets the listener of the session's consumer of that number, or takes it away. `IllegalState` where the session is not
+    /// open, or the consumer is not active in it, or is busy (ours); then all is as before. Takes no memory.
+    pub fn set_listening(
+        &mut self,
+        session: &SessionId,
+        id: ConsumerId,
+        on: bool,
+    ) -> Result<(), Refusal>
+        ensures ok { is_ok result ≡ machine.may_set_listener self.old.life self.old.consumers session.now id }
+        ensures refused { IfErr result (λ refusal. refusal ≡ IllegalState) }
+        ensures life { self.new.life ≡ self.old.life }
+        ensures consumers { self.new.consumers ≡
+            (if is_ok result then machine.set_listening session.now id on self.old.consumers else self.old.consumers) }
+        ensures spare { self.old.spare ≤ self.new.spare }
+    {
+        if !self.may_set_listener(session, id) {
+            return Err(Refusal::IllegalState);
+        }
+        self.roster.set_listening(session, id, on);
+        Ok(())
+    }
+
+    /// The session's consumer of that number is busy from now on, or is not: its listener took a message or found none, or is
+    /// done with one. `IllegalState` where the session is not open, or the consumer is not active in it, or neither listens
+    /// nor is busy, or is busy and is to become so; then all is as before. Takes no memory.
+    pub fn set_busy(&mut self, session: &SessionId, id: ConsumerId, on: bool) -> Result<(), Refusal>
+        ensures ok { is_ok result ≡ may_set_busy self.old.life self.old.consumers session.now id on }
+        ensures refused { IfErr result (λ refusal. refusal ≡ IllegalState) }
+        ensures life { self.new.life ≡ self.old.life }
+        ensures consumers { self.new.consumers ≡
+            (if is_ok result then machine.set_busy session.now id on self.old.consumers else self.old.consumers) }
+        ensures spare { self.old.spare ≤ self.new.spare }
+    {
+        if !self.may_set_busy(session, id, on) {
+            return Err(Refusal::IllegalState);
+        }
+        self.roster.set_busy(session, id, on);
         Ok(())
     }
 }

@@ -1,5 +1,5 @@
 -- What is settled and what is given back, list by list.
-use Rattle.std.proofs.Common.{◌≡◌, ◌≢◌, ◌+◌, ◌<◌, ◌≤◌, ℕ, List, [], ◌∷◌, length, get_or, set, map, Bool, true, false, not, cond, refl, ap, sym, subst, ◌∙◌, arith, inl, inr}
+use Rattle.std.proofs.Common.{◌≡◌, ◌≢◌, ◌+◌, ◌<◌, ◌≤◌, ℕ, zero, suc, List, [], ◌∷◌, length, get_or, set, map, Bool, true, false, not, cond, refl, ap, sym, subst, ◌∙◌, arith, inl, inr}
 use Rattle.std.specs.List.{filter, All}
 use Rattle.std.proofs.lemmas.Bool.Decides.{eqb_tells}
 use Rattle.std.proofs.lemmas.List.{length-map, get_or-map, get_or_default, length-set, get_or-set_same, get_or-set_other, same_lists}
@@ -16,9 +16,10 @@ use Rattle.jm_pending.specs.Placed.{placed, all_placed, content_of}
 use Rattle.jm_pending.specs.Counts.{all_at, IsCounted}
 use Rattle.jm_pending.proofs.Holding.{filter_count, map_count}
 use Rattle.jm_stations.specs.Backlogs as spec
-use Rattle.jm_stations.specs.Backlogs.{Backlog}
+use Rattle.jm_stations.specs.Backlogs.{Backlog, changed_at}
 use Rattle.jm_stations.specs.Kept.{all_rows, shown, all_shown, settled_out, given_back, IsBacklog, IsKept}
-use Rattle.jm_stations.proofs.Shown.{backlog_of, all_covered, all_backlogs_kept, all_shown_kept, mapped_backlog, filtered_backlog, IsLike}
+use Rattle.jm_stations.proofs.Shown.{backlog_of, all_covered, all_backlogs_kept, all_shown_kept, mapped_backlog, filtered_backlog, IsLike, Keeps}
+use Rattle.jm_stations.proofs.Receiving.{changed_kept}
 
 -- the lists before an index are changed, and the others are as they were
 pub record IsStepped (f : Held → Held) (init lists : List Held) (n : ℕ) : Type 0 where
@@ -129,3 +130,19 @@ returned_counted t p lists c = record { each = λ q. c.each q ∙ sym (returned_
 
 pub keeps_all : (t : Messages) → KeepsMessages t t
 keeps_all t = record { same = λ p pos. refl; room = omega arith }
+
+-- one of many, as callers see it
+one_shown : (t : Messages) (k : ℕ) (f : Held → Held) (g : Backlog → Backlog) → ((h : Held) → shown t (f h) ≡ g (shown t h)) → (lists : List Held) → all_shown t (changed_at k f lists) ≡ changed_at k g (all_shown t lists)
+one_shown t k f g same [] = refl
+one_shown t zero f g same (h ∷ lists) = ap (λ b. b ∷ all_shown t lists) (same h)
+one_shown t (suc k) f g same (h ∷ lists) = ap (λ bs. shown t h ∷ bs) (one_shown t k f g same lists)
+
+pub one_seen : (t t' : Messages) (place k : ℕ) (f : Held → Held) (g : Backlog → Backlog) → Keeps t place f → ((h : Held) → shown t (f h) ≡ g (shown t h)) → (d : Held) (lists : List Held) → k < length lists → IsKept t lists place → Follows t t' (get_or lists k d).rows (f (get_or lists k d)).rows → all_shown t' (changed_at k f lists) ≡ changed_at k g (all_shown t lists)
+one_seen t t' place k f g step same d lists l w follows =
+    let after = changed_at k f lists in
+    let counted : IsCounted t' (all_rows after) = (changed_kept t t' place k f step d lists l w follows).counted in
+    all_shown_kept t t' after follows.messages (all_covered t' after counted) ∙ one_shown t k f g same lists
+
+-- rows of one list that wait again have the holders that they had
+pub returned_follows : (t : Messages) (p : SessionId → ℕ → Bool) (h : Held) → Follows t t h.rows (given_back p h).rows
+returned_follows t p h = record { holders = λ q. omega (arith, map_count (back (is_out p)) (λ r. (back_like p r).place) q h.rows); messages = keeps_all t }

@@ -471,6 +471,28 @@ impl Backlogs {
         lists::give_back_each(&mut self.lists, which);
     }
 
+    /// The rows of the list with that index that are out through one of those consumers go, and each message that no
+    /// other row holds with them. Takes no memory.
+    pub fn settle_at(&mut self, index: usize, which: &Consumers)
+        requires { index < length self.old.list }
+        ensures list { self.new.list ≡ spec.changed_at index (spec.settled (are_meant which.now)) self.old.list }
+        ensures next_place { self.new.next_place ≡ self.old.next_place }
+        ensures room { self.old.message_room ≤ self.new.message_room }
+    {
+        lists::settle_at(&mut self.lists, &mut self.table, index, which);
+    }
+
+    /// The rows of the list with that index that are out through one of those consumers wait again, at their places and
+    /// with their counts. Takes no memory.
+    pub fn give_back_at(&mut self, index: usize, which: &Consumers)
+        requires { index < length self.old.list }
+        ensures list { self.new.list ≡ spec.changed_at index (spec.returned (are_meant which.now)) self.old.list }
+        ensures next_place { self.new.next_place ≡ self.old.next_place }
+        ensures room { self.old.message_room ≤ self.new.message_room }
+    {
+        lists::give_back_at(&mut self.lists, index, which);
+    }
+
     /// The row of the list with that index that stands at that place, with its message, which is not copied.
     pub fn row_of(&self, index: usize, place: u64) -> Option<Standing<'_>>
         requires { index < length self.now.list }

@@ -140,6 +140,26 @@ pub(crate) fn give_back_each(lists: &mut Vec<Held>, which: &Consumers)
     }
 }
 
+/// The rows of the list with that index that are out through one of those consumers go.
+pub(crate) fn settle_at(lists: &mut Vec<Held>, table: &mut Table, index: usize, which: &Consumers)
+    requires within { index < length lists.old.items }
+    requires covers { (d : Held) → Covers table.old (slice_index_or lists.old.items index d).rows }
+    ensures lists { lists.new.items ≡ changed_at index (kept.settled_out (are_meant which.now)) lists.old.items }
+    ensures table { (d : Held) → Follows table.old table.new (slice_index_or lists.old.items index d).rows (kept.settled_out (are_meant which.now) (slice_index_or lists.old.items index d)).rows }
+{
+    let held = &mut lists[index];
+    held.settle(table, which);
+}
+
+/// The rows of the list with that index that are out through one of those consumers wait again.
+pub(crate) fn give_back_at(lists: &mut Vec<Held>, index: usize, which: &Consumers)
+    requires { index < length lists.old.items }
+    ensures { lists.new.items ≡ changed_at index (kept.given_back (are_meant which.now)) lists.old.items }
+{
+    let held = &mut lists[index];
+    held.give_back(which);
+}
+
 /// Makes room for that many more rows in each of the lists with those indexes.
 pub(crate) fn reserve_each(
     lists: &mut Vec<Held>,

@@ -469,6 +469,34 @@ impl Stations {
         self.backlogs.give_back(which);
     }
 
+    /// The rows under the key with that index that are out through one of those consumers go, and each message that no
+    /// other row holds with them. What is held under another key is not looked at, and where no row is out through them
+    /// no row is. Takes no memory.
+    #[tactic(auto, using(crate::proofs::Indexes::as_many_changed))]
+    pub fn settle_at(&mut self, index: usize, which: &Consumers)
+        requires { index < length self.old.list }
+        ensures keys { self.new.keys ≡ self.old.keys }
+        ensures list { self.new.list ≡ spec.changed_at index (spec.settled (are_meant which.now)) self.old.list }
+        ensures next_place { self.new.next_place ≡ self.old.next_place }
+        ensures room { self.old.message_room ≤ self.new.message_room }
+    {
+        self.backlogs.settle_at(index, which);
+    }
+
+    /// The rows under the key with that index that are out through one of those consumers wait again, at their places and
+    /// with their counts. What is held under another key is not looked at, and where no row is out through them no row is.
+    /// Takes no memory.
+    #[tactic(auto, using(crate::proofs::Indexes::as_many_changed))]
+    pub fn give_back_at(&mut self, index: usize, which: &Consumers)
+        requires { index < length self.old.list }
+        ensures keys { self.new.keys ≡ self.old.keys }
+        ensures list { self.new.list ≡ spec.changed_at index (spec.returned (are_meant which.now)) self.old.list }
+        ensures next_place { self.new.next_place ≡ self.old.next_place }
+        ensures room { self.old.message_room ≤ self.new.message_room }
+    {
+        self.backlogs.give_back_at(index, which);
+    }
+
     /// The row under the key with that index that stands at that place, with its message, which is not copied.
     pub fn row_of(&self, index: usize, place: u64) -> Option<Standing<'_>>
         requires { index < length self.now.list }
@@ -536,6 +564,13 @@ impl Stations {
         ensures { standing.IsFirstOf (standing.holds place) index self.now.list result }
     {
         self.backlogs.holder_from(index, place)
+    }
+
+    /// The keys in order of creation. Each stands once.
+    pub fn keys(&self) -> &[Key]
+        ensures { result.now ≡ self.now.keys }
+    {
+        self.keys.as_slice()
     }
 
     /// The key with that index.

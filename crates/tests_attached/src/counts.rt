@@ -40,6 +40,8 @@ fn consumer(alloc: Global, of: Of, is_active: bool) -> Result<Consumer, Refusal>
         key,
         selector: Selector::none(alloc),
         is_active,
+        is_listening: false,
+        is_busy: false,
     })
 }
 

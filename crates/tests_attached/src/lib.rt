@@ -9,6 +9,8 @@ mod idle;
 #[cfg(test)]
 mod keys;
 #[cfg(test)]
+mod listening;
+#[cfg(test)]
 mod named;
 #[cfg(test)]
 mod sends;

@@ -99,6 +99,22 @@ fn receive(number: u32, now: i64) -> Result<Request, Refusal> {
     Ok(Request::Receive { consumer, now })
 }
 
+fn set_listener(number: u32, on: bool) -> Result<Request, Refusal> {
+    let consumer = ConsumerId::new(number)?;
+    Ok(Request::SetListener { consumer, on })
+}
+
+fn take(number: u32, now: i64) -> Result<Request, Refusal> {
+    let consumer = ConsumerId::new(number)?;
+    let now = Moment::new(now)?;
+    Ok(Request::Take { consumer, now })
+}
+
+fn done(number: u32, ok: bool) -> Result<Request, Refusal> {
+    let consumer = ConsumerId::new(number)?;
+    Ok(Request::Done { consumer, ok })
+}
+
 fn close_consumer(number: u32) -> Result<Request, Refusal> {
     let consumer = ConsumerId::new(number)?;
     Ok(Request::CloseConsumer { consumer })
@@ -129,6 +145,10 @@ fn request(alloc: Global, op: Op) -> Result<Request, Refusal> {
         Op::Unsubscribe(_, name) => unsubscribe(alloc, name),
         Op::Receive(_, k) => receive(k, 1000),
         Op::ReceiveAt(_, k, now) => receive(k, now),
+        Op::Listener(_, k, on) => set_listener(k, on),
+        Op::Take(_, k) => take(k, 1000),
+        Op::TakeAt(_, k, now) => take(k, now),
+        Op::Done(_, k, ok) => done(k, ok),
         Op::Acknowledge(_) => Ok(Request::Acknowledge),
         Op::Recover(_) => Ok(Request::Recover),
         Op::Rollback(_) => Ok(Request::Rollback),

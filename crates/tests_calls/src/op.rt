@@ -60,6 +60,12 @@ pub enum Op {
     SendDelayed(u32, At, &'static str, i64, Option<i64>),
     Receive(Numbers, u32),
     ReceiveAt(Numbers, u32, i64),
+    /// Whether the consumer of that number listens from then on.
+    Listener(Numbers, u32, bool),
+    Take(Numbers, u32),
+    TakeAt(Numbers, u32, i64),
+    /// Whether the listener of the consumer of that number was done well.
+    Done(Numbers, u32, bool),
     Acknowledge(Numbers),
     Recover(Numbers),
     Rollback(Numbers),
@@ -97,6 +103,10 @@ pub(crate) fn who(op: Op) -> Result<Who, Refusal> {
         | Op::Unsubscribe(numbers, _)
         | Op::Receive(numbers, _)
         | Op::ReceiveAt(numbers, _, _)
+        | Op::Listener(numbers, _, _)
+        | Op::Take(numbers, _)
+        | Op::TakeAt(numbers, _, _)
+        | Op::Done(numbers, _, _)
         | Op::Acknowledge(numbers)
         | Op::Recover(numbers)
         | Op::Rollback(numbers)

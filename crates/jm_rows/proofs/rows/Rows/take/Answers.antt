@@ -4,7 +4,7 @@ use Rattle.jm_machine.specs.Rows.{deliver, live, next}
 use Rattle.jm_stations.specs.Backlogs.{empty, out_row}
 use Rattle.jm_rows.specs.Rows.{Rows}
 use Rattle.jm_rows.proofs.Loaded.{answered_first, rows_delivered}
-use Rattle.jm_rows.proofs.rows.Rows.send_next.Goals as goal
+use Rattle.jm_rows.proofs.rows.Rows.take.Goals as goal
 
 pub returns-clause-answer : goal.returns-clause-answer
 returns-clause-answer c =

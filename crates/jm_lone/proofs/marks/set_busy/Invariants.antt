@@ -1,0 +1,6 @@
+use Rattle.std.proofs.Common.{◌≡◌, ◌++◌, drop, map, take}
+use Rattle.jm_machine.specs.Machine.{busy_if}
+use Rattle.jm_lone.proofs.marks.set_busy.Given as goal
+
+abbrev pub invariant-loop-consumer : goal.invariant-loop-consumer
+invariant-loop-consumer l = l.consumers ≡ map (busy_if l.session l.id l.on) (take l.consumer-index l.initial.consumers) ++ drop l.consumer-index l.initial.consumers

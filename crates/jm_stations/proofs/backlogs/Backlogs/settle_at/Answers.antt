@@ -1,0 +1,30 @@
+use Rattle.jm_machine.specs.Machine.{are_meant}
+use Rattle.jm_stations.specs.Backlogs as spec
+use Rattle.jm_stations.specs.Kept.{settled_out}
+use Rattle.jm_stations.proofs.Holders.{covers_one}
+use Rattle.jm_stations.proofs.Each.{one_seen, settled_backlog, settled_shown}
+use Rattle.jm_stations.proofs.Receiving.{changed_kept, no_rows, within_shown}
+use Rattle.jm_stations.proofs.backlogs.Backlogs.settle_at.Goals as goal
+
+pub settle_at-requires-clause-covers : goal.settle_at-requires-clause-covers
+settle_at-requires-clause-covers c = λ d.
+    covers_one c.self.inside.table c.self.inside.lists.items c.args.index d (within_shown c.self.inside.table c.self.inside.lists.items c.args.index (rw (← c.self.view_is) at c.requires)) c.self.invariant.counted
+
+pub invariant_of-self : goal.invariant_of-self
+invariant_of-self c =
+    let t = c.self.inside.table in
+    let lists = c.self.inside.lists.items in
+    let p = are_meant c.args.which.now in
+    let inside = within_shown t lists c.args.index (rw (← c.self.view_is) at c.requires) in
+    rw c.settle_at.ensures.lists (changed_kept t c.settle_at.new.table c.self.inside.next_place c.args.index (settled_out p) (settled_backlog t c.self.inside.next_place p) no_rows lists inside c.self.invariant (c.settle_at.ensures.table no_rows))
+
+pub returns-clause-list : goal.returns-clause-list
+returns-clause-list c =
+    let t = c.self.inside.table in
+    let lists = c.self.inside.lists.items in
+    let p = are_meant c.args.which.now in
+    let inside = within_shown t lists c.args.index (rw (← c.self.view_is) at c.requires) in
+    rw (c.settle_at.ensures.lists, ← c.self.view_is) (one_seen t c.settle_at.new.table c.self.inside.next_place c.args.index (settled_out p) (spec.settled p) (settled_backlog t c.self.inside.next_place p) (settled_shown t p) no_rows lists inside c.self.invariant (c.settle_at.ensures.table no_rows))
+
+pub returns-clause-room : goal.returns-clause-room
+returns-clause-room c = rw (← c.self.view_is) ((c.settle_at.ensures.table no_rows).messages.room)
