@@ -45,7 +45,7 @@ accepted_is key d p m h = go (is_to d.topic m.destination) (not (d.no_local && i
     go true false r h = cc
     go false b r h = cc
 
-filtered : (d : Definition) (p : PlacedRow → Bool) (rows : List PlacedRow) → AllAccepted d rows → AllAccepted d (filter p rows)
+pub filtered : (d : Definition) (p : PlacedRow → Bool) (rows : List PlacedRow) → AllAccepted d rows → AllAccepted d (filter p rows)
 filtered d p [] h = h
 filtered d p (x ∷ rows) h = go (filtered d p rows h.1) (p x)
   where
@@ -119,7 +119,7 @@ at_key_holds k mode s c now (x ∷ xs) h = go (at_key_holds k mode s c now xs h.
 -- ---- acknowledgement and closing
 
 -- rows that wait again have their messages
-returned : (p : SessionId → ℕ → Bool) (d : Definition) (rows : List PlacedRow) → AllAccepted d rows → AllAccepted d (returned_rows p rows)
+pub returned : (p : SessionId → ℕ → Bool) (d : Definition) (rows : List PlacedRow) → AllAccepted d rows → AllAccepted d (returned_rows p rows)
 returned p d [] h = h
 returned p d (x ∷ rows) h = (go (is_out p x.row), returned p d rows h.1)
   where

@@ -22,9 +22,8 @@ use Rattle.jm_machine.specs.declared.state.Station.{Station}
 use Rattle.jm_machine.specs.Life.{Life, is_started, mode_of}
 use Rattle.jm_machine.specs.Rows.{bare, deliver_chosen, deliver_placed, live, next}
 use Rattle.jm_selector.specs.Selectors.{selector_refusal}
-use Rattle.jm_machine.specs.Machine.{State, after, answer, at_key, at_queue, consumer_of, delivered, delivery, first_cause, held, holding_at, key_at, may_begin, missed_of, receive, refusal, replied, reply, rows_of, rows_under, selected_by, station_of, step, unless, with_rows}
+use Rattle.jm_machine.specs.Machine.{State, after, answer, at_key, at_queue, consumer_of, delivered, delivery, first_cause, held, holding_at, key_at, may_begin, may_receive, missed_of, receive, refusal, replied, reply, rows_of, rows_under, selected_by, station_of, step, unless, with_rows}
 use Rattle.jm_machine.specs.Wants.{is_held_after, is_want, is_next_held_after, may_want, next_placed, placed_rows}
-use Rattle.jm_session.specs.Known.{may_receive}
 use Rattle.jm_stations.specs.Backlogs.{Backlog, answered_where, copy_wanted, empty}
 use Rattle.jm_stations.specs.Stations.{index_in}
 use Rattle.jm_sub.specs.Subscriptions.{Subscription}
@@ -79,7 +78,7 @@ module _ (opening limit : ℕ) (life : Life) (consumers : List Consumer) (ss : L
   before = state_from opening limit life consumers ss list queues place
 
   -- what was told, and what is left, where the consumer has that key
-  from_key : (r : Receiver) (key : Key) (o : Option Taking) (a : Answer) → length list ≡ length ss → IsTaken (Some key) r (keys_of ss) list o → IsTold o r.moment list a →
+  pub from_key : (r : Receiver) (key : Key) (o : Option Taking) (a : Answer) → length list ≡ length ss → IsTaken (Some key) r (keys_of ss) list o → IsTold o r.moment list a →
       (a ≡ delivery (next r.moment (live r.moment (rows_of (station_of key (stations_of ss list)))))) × (stations_of ss (taken_from o r list) ≡ at_key key (with_rows (deliver_placed r.moment (left_by r))) (stations_of ss list))
   from_key r key None a n t e =
       let none = key_missing key (with_rows (deliver_placed r.moment (left_by r))) ss list (fails_all (λ x. key_eq x key) (keys_of ss) (found_none (λ x. key_eq x key) (keys_of ss) t)) in
@@ -142,7 +141,7 @@ module _ (opening limit : ℕ) (life : Life) (consumers : List Consumer) (ss : L
           subst (λ y. Fits (selected_by (Some y)) y.key) (sym same) (subst (Fits (selected_by (Some source))) (sym key) there)
 
   -- memory is wanted for a copy alone
-  wants_copied : (r : Receiver) (key : Key) → length list ≡ length ss → wants_copy (Some key) r (keys_of ss) list ≡ true → is_held_after (Some r.mode) (stations_of ss list) (next_placed r.moment (placed_rows (station_of key (stations_of ss list)))) ≡ true
+  pub wants_copied : (r : Receiver) (key : Key) → length list ≡ length ss → wants_copy (Some key) r (keys_of ss) list ≡ true → is_held_after (Some r.mode) (stations_of ss list) (next_placed r.moment (placed_rows (station_of key (stations_of ss list)))) ≡ true
   wants_copied r key n w = there (index_in (keys_of ss) key) refl w
     where
       at : (i : ℕ) (o : Option Backlog) → slice_get list i ≡ o → index_in (keys_of ss) key ≡ Some i → wants_from r list o ≡ true → is_held_after (Some r.mode) (stations_of ss list) (next_placed r.moment (placed_rows (station_of key (stations_of ss list)))) ≡ true

@@ -13,9 +13,15 @@ pub mod Closing
 pub mod Naming
 pub mod PlansNamed
 pub mod Sources
+pub mod Listening
 mod Sends
 mod Reached
 mod Within
 mod Outstanding
 mod Reopening
 mod Restored
+pub mod Indexed
+pub mod QueueKeys
+pub mod ReadKeys
+pub mod Answered
+pub mod NextRows

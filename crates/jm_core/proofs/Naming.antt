@@ -32,7 +32,7 @@ use Rattle.jm_sub.specs.Sharing.{is_shared, may}
 use Rattle.jm_sub.specs.Subscriptions.{Subscription, definition_at, needed}
 use Rattle.jm_core.specs.declared.named.Wanted.{Wanted}
 use Rattle.jm_core.specs.declared.plan.Change.TheVariants as change
-use Rattle.jm_core.specs.Named.{IsDecided, IsNaming, IsPrepared, asked_by, had_refusal, held_of, home_at, home_in, idle_in, is_had, key_wanted, may_ask, may_have, named_key, naming_refusal, put_decided}
+use Rattle.jm_core.specs.Named.{IsDecided, IsNaming, IsPrepared, asked_by, decision_of, had_refusal, held_of, home_at, home_in, idle_in, is_had, key_wanted, may_ask, may_have, named_key, naming_refusal, put_decided}
 use Rattle.jm_core.specs.Plans.{IsPlan, IsRefused}
 use Rattle.jm_core.specs.Provider.{Provider, state_of}
 use Rattle.jm_core.specs.State.{IsOwn, IsSound, keys_of, stations_of}
@@ -112,6 +112,7 @@ prepared_if limit place old p sharing k selector d (Ok x) named h same source de
       source_is = source;
       valid = valid;
       had = ap (λ (state : State). is_had sharing k d state) same ∙ sym (had_seen limit place sharing k d old named h) ∙ had;
+      chosen = decided ∙ one (is_same (definition_at k old.subscriptions.list) d) ∙ ap (λ (o : Option Definition). decision_of o k d) definition;
       left = ap (λ o. put_decided o (state_of p)) decided ∙ left (is_same (definition_at k old.subscriptions.list) d) ∙ ap (λ (o : Option Definition). cond (is_same o d) (state_of p) (put k d (state_of p))) definition;
       room = room;
       decided = subst (λ (o : Option (Key × Subscription)). IsDecided p k o) (sym decided) (fits (is_same (definition_at k old.subscriptions.list) d) (subst (λ (o : Option (Key × Subscription)). IfSome o (λ y. 0 < p.subscriptions.spare)) decided subs_room));
@@ -120,6 +121,10 @@ prepared_if limit place old p sharing k selector d (Ok x) named h same source de
     -- what is decided, where it is the same or not
     chosen : Bool → Option (Key × Subscription)
     chosen b = option_map (λ (y : Subscription). (k, y)) (cond b None (Some (record { key = k; definition = d })))
+
+    one : (b : Bool) → chosen b ≡ cond b None (Some (k, record { key = k; definition = d }))
+    one true = refl
+    one false = refl
 
     left : (b : Bool) → put_decided (chosen b) (state_of p) ≡ cond b (state_of p) (put k d (state_of p))
     left true = refl
@@ -195,6 +200,7 @@ naming_created p s c w request topic source decision h e f g =
           ∙ ap (λ x. subscribed s c (key_wanted (state_of p) s w) (asked x w.selector.now w.no_local (is_shared w.sharing)) (state_of p)) f
           ∙ ap (λ (state : State). joined s c (key_wanted (state_of p) s w) None state) (sym g.left)
           ∙ ap (λ (x : Origin). joined s c x.key x.selector (put_decided decision (state_of p))) (sym g.source_is);
+      chosen = h.decides decision (g.chosen ∙ ap (λ x. decision_of (definition_of (station_of (key_wanted (state_of p) s w) (state_of p).stations)) (key_wanted (state_of p) s w) (asked x w.selector.now w.no_local (is_shared w.sharing))) (sym f));
       begins = asked_begins w.sharing p.known.life p.known.consumers s c e;
       own = subst (λ (x : Origin). IsOwn s c x.key) (sym g.source_is) (named_own w.sharing (client_of p.known.life) s c w.name.now);
       room = g.room;
@@ -210,12 +216,12 @@ naming_planned old p s c w request topic source decision same h e f g =
 
 pub durable_naming : (state : State) (s : SessionId) (c : ℕ) (w : Wanted) → w.sharing ≡ Unshared → IsNaming state s c w (CreateDurable c w.destination.now w.name.now w.selector.now w.no_local)
 unfolding refusal answer after
-durable_naming state s c w is = rw is (record { refused = refl; told = refl; left = refl; takes = refl })
+durable_naming state s c w is = rw is (record { refused = refl; told = refl; left = refl; takes = refl; decides = λ decision e. e })
 
 pub shared_naming : (state : State) (s : SessionId) (c : ℕ) (w : Wanted) → w.sharing ≡ Shared → w.no_local ≡ false → IsNaming state s c w (CreateShared c w.destination.now w.name.now w.selector.now)
 unfolding refusal answer after
-shared_naming state s c w is local = rw (is, local) (record { refused = refl; told = refl; left = refl; takes = refl })
+shared_naming state s c w is local = rw (is, local) (record { refused = refl; told = refl; left = refl; takes = refl; decides = λ decision e. e })
 
 pub shared_durable_naming : (state : State) (s : SessionId) (c : ℕ) (w : Wanted) → w.sharing ≡ SharedDurable → w.no_local ≡ false → IsNaming state s c w (CreateSharedDurable c w.destination.now w.name.now w.selector.now)
 unfolding refusal answer after
-shared_durable_naming state s c w is local = rw (is, local) (record { refused = refl; told = refl; left = refl; takes = refl })
+shared_durable_naming state s c w is local = rw (is, local) (record { refused = refl; told = refl; left = refl; takes = refl; decides = λ decision e. e })

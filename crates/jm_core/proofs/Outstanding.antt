@@ -3,6 +3,7 @@ use Rattle.std.proofs.Common.{◌≡◌, ℕ, Bool, true, false, cond, List, [],
 use Rattle.std.specs.Prelude.{◌==◌, ◌&&◌, filter, find, is_some, not}
 use Rattle.std.proofs.lemmas.Bool.Decides.{nat_tests}
 use Rattle.jm_base.specs.declared.mode.Mode.{Mode}
+use Rattle.jm_base.specs.declared.mode.Mode.TheVariants.{Client}
 use Rattle.jm_base.specs.declared.refusal.Refusal.{Refusal}
 use Rattle.jm_base.specs.declared.refusal.Refusal.TheVariants.{IllegalState}
 use Rattle.jm_dest.specs.declared.session.SessionId.{SessionId}
@@ -16,7 +17,7 @@ use Rattle.jm_header.specs.declared.content.Content.{Content}
 use Rattle.jm_machine.specs.declared.call.Who.{Who}
 use Rattle.jm_machine.specs.declared.call.Who.TheVariants.{Connection, Session}
 use Rattle.jm_machine.specs.declared.call.Request.{Request}
-use Rattle.jm_machine.specs.declared.call.Request.TheVariants.{Open, Start, Stop, CloseConnection, CreateSession, CloseSession, CreateConsumer, CreateDurable, CreateShared, CreateSharedDurable, Unsubscribe, CloseConsumer, Receive, Acknowledge, Recover, Rollback}
+use Rattle.jm_machine.specs.declared.call.Request.TheVariants.{Open, Start, Stop, CloseConnection, CreateSession, CloseSession, CreateConsumer, CreateDurable, CreateShared, CreateSharedDurable, Unsubscribe, CloseConsumer, Receive, Acknowledge, Recover, Rollback, SetListener, Take, Done}
 use Rattle.jm_machine.specs.declared.call.Call.{Call}
 use Rattle.jm_machine.specs.declared.call.Call.TheVariants.{Ask, Publish, Commit}
 use Rattle.jm_machine.specs.declared.state.Definition.{Definition}
@@ -28,11 +29,12 @@ use Rattle.jm_machine.specs.declared.state.ConnectionState.{ConnectionState}
 use Rattle.jm_machine.specs.declared.state.SessionState.{SessionState}
 use Rattle.jm_machine.specs.declared.state.Station.{Station}
 use Rattle.jm_machine.specs.Life.{Life, client_of, open_mode, mode_of, is_started, is_new_session, close_sessions, life_after}
-use Rattle.jm_machine.specs.Rows.{bare, fresh, goes_out, has_lapsed, is_next, is_out, live, settles_at_once, sent_out, left_of, live_placed, change_placed, deliver_placed, deliver_chosen, is_next_chosen}
-use Rattle.jm_machine.specs.Machine.{State, Publisher, publisher_of, accepts, is_full, one_missed, brought, offered, with_message, with_rows, at_key, without, published, receive, consumer_of, key_at, asked, definition_of, deleted, durable_of, is_same, joined, made, put, shared_of, standing_as, station_of, subscribed, selected_by, at_queue, at_queue_of, at_queues, queued, defined, of_number, unless, of_session, of_connection, settled_rows, returned_rows, settled, returned, closed, with_life, is_client, is_active, held, refusal, publish_refusal, commit_refusal, after, after_commit, moved, step}
+use Rattle.jm_machine.specs.Rows.{bare, fresh, goes_out, has_lapsed, is_next, is_out, live, settles_at_once, sent_out, left_of, taken, live_placed, change_placed, deliver_placed, deliver_chosen, is_next_chosen}
+use Rattle.jm_machine.specs.Machine.{State, Publisher, publisher_of, accepts, is_full, one_missed, brought, offered, with_message, with_rows, at_key, without, published, receive, consumer_of, key_at, asked, definition_of, deleted, durable_of, is_same, joined, made, put, shared_of, standing_as, station_of, subscribed, selected_by, at_queue, at_queue_of, at_queues, queued, defined, of_number, unless, of_session, of_connection, settled_rows, returned_rows, settled, returned, closed, with_life, is_client, is_active, is_busy, is_listening, done, done_rows, set_busy, take, with_done, held, refusal, publish_refusal, commit_refusal, after, after_commit, moved, step}
 use Rattle.jm_machine.specs.Reopened.{AreDurable, AreWaiting}
 use Rattle.jm_machine.specs.Isolation.{Reached}
 use Rattle.jm_machine.specs.Isolation.Reached.{New, Reopened, Stepped}
+use Rattle.jm_core.proofs.Listening.{left_client}
 use Rattle.jm_core.specs.Outstanding.{IsOutToOpen, AllOutToOpen, HoldsOutToOpen, QueuesOutToOpen, AreOutToOpen}
 
 -- ---- sessions that stay open
@@ -296,16 +298,53 @@ open_moved None x y p q = p refl
 open_moved (Some r) x y p q = q
 
 -- a consumer that may be used is one of an open session
-used_open : (a b : Bool) → unless (a && b) IllegalState ≡ None → a ≡ true
-used_open true b e = refl
-used_open false b e = absurd cc
+both_open : (a b d : Bool) → unless ((a && b) && d) IllegalState ≡ None → a ≡ true
+both_open true b d e = refl
+both_open false b d e = absurd cc
 
 open_received_now : (state : State) (s : SessionId) (c now : ℕ) → refusal state.life state.consumers (held state (Session s) (Receive c now)) (Session s) (Receive c now) ≡ None → AreOutToOpen state → AreOutToOpen (after state (Session s) (Receive c now))
 unfolding after refusal
 open_received_now state s c now e h =
     let pass = selected_by (consumer_of state.consumers s c) in
     open_if (is_started state.life s.connection) (receive pass (left_of (mode_of state.life s) s c) now (key_at (consumer_of state.consumers s c)) state) state
-    (open_received pass (mode_of state.life s) s c now (key_at (consumer_of state.consumers s c)) state (used_open (is_some (mode_of state.life s)) (is_active (consumer_of state.consumers s c)) e) h) h
+    (open_received pass (mode_of state.life s) s c now (key_at (consumer_of state.consumers s c)) state (both_open (is_some (mode_of state.life s)) (is_active (consumer_of state.consumers s c)) (not (is_listening (consumer_of state.consumers s c))) e) h) h
+
+-- what a listener takes goes out as where the client acknowledges
+open_taken : (pass : Content → Bool) (s : SessionId) (c now : ℕ) (k : Option Key) (state : State) → is_some (mode_of state.life s) ≡ true → AreOutToOpen state → AreOutToOpen (take pass s c now k state)
+open_taken pass s c now k state o h =
+    let received = subst (λ (f : Row → List Row). AreOutToOpen (receive pass f now k state)) (left_client s c) (open_received pass (Some Client) s c now k state o h) in
+    record { stations = received.stations; queues = received.queues }
+
+open_taken_now : (state : State) (s : SessionId) (c now : ℕ) → refusal state.life state.consumers (held state (Session s) (Take c now)) (Session s) (Take c now) ≡ None → AreOutToOpen state → AreOutToOpen (after state (Session s) (Take c now))
+unfolding after refusal
+open_taken_now state s c now e h =
+    let x = consumer_of state.consumers s c in
+    open_if (is_started state.life s.connection) (take (selected_by x) s c now (key_at x) state) state
+    (open_taken (selected_by x) s c now (key_at x) state (both_open (is_some (mode_of state.life s)) (is_active x) (is_listening x && not (is_busy x)) e) h) h
+
+-- a listener that is done
+rows_done : (life : Life) (s : SessionId) (c : ℕ) (ok : Bool) → KeepsOpen life life (done_rows s c ok)
+rows_done life s c true = rows_filter life (λ x. not (is_out (of_number s c) x.row))
+rows_done life s c false = rows_returned (of_number s c) life life (stays (of_number s c) life)
+
+open_with_done : (s : SessionId) (c : ℕ) (ok : Bool) (k : Option Key) (state : State) → AreOutToOpen state → AreOutToOpen (with_done s c ok k state)
+open_with_done s c ok None state h = h
+open_with_done s c ok (Some k) state h = record {
+  stations = all_at state.life (done_rows s c ok) (rows_done state.life s c ok) k state.stations h.stations;
+  queues = by k;
+}
+  where
+    by : (key : Key) → QueuesOutToOpen state.life (at_queue_of key (done_rows s c ok) state.queues)
+    by (OfQueue name) = queue_at state.life name (done_rows s c ok) (rows_done state.life s c ok) state.queues h.queues
+    by (Own t d) = h.queues
+    by (SharedOwn client name) = h.queues
+    by (Durable client name) = h.queues
+
+open_done : (s : SessionId) (c : ℕ) (ok : Bool) (mode : Option Mode) (k : Option Key) (state : State) → AreOutToOpen state → AreOutToOpen (done s c ok mode k state)
+open_done s c ok mode k state h =
+    let free : State = record state { consumers = set_busy s c false state.consumers } in
+    let kept : AreOutToOpen free = record { stations = h.stations; queues = h.queues } in
+    open_if (settles_at_once mode) (with_done s c ok k free) free (open_with_done s c ok k free kept) kept
 
 -- a connection that is opened, started or stopped leaves the sessions
 open_same : (connections : List ConnectionState) (state : State) → AreOutToOpen state → AreOutToOpen (record state { life = record { connections = connections; sessions = state.life.sessions } })
@@ -330,6 +369,9 @@ open_after state (Session s) (CloseConsumer c) e h = open_ended (of_number s c) 
 open_after state (Session s) Acknowledge e h = open_if (is_client (mode_of state.life s)) (settled (of_session s) state) state (open_settled (of_session s) state h) h
 open_after state (Session s) Recover e h = open_returned (of_session s) state h
 open_after state (Session s) Rollback e h = open_returned (of_session s) state h
+open_after state (Session s) (SetListener c on) e h = record { stations = h.stations; queues = h.queues }
+open_after state (Session s) (Take c now) e h = open_taken_now state s c now e h
+open_after state (Session s) (Done c ok) e h = open_done s c ok (mode_of state.life s) (key_at (consumer_of state.consumers s c)) state h
 open_after state (Session s) _ e h = h
 
 open_committed : (state : State) (who : Who) (ms : List Content) → AreOutToOpen state → AreOutToOpen (after_commit state who ms)

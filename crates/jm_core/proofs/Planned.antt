@@ -161,6 +161,7 @@ own_created p s c topic selector no_local d begins valid is room subs_room key_r
   allowed = rw (begins, valid) refl;
   told = refl;
   left = ap (λ (x : Subscription). joined s c (Own s c) None (put x.key x.definition (state_of p))) (sym is);
+  chosen = tt;
   begins = begins;
   own = refl;
   room = room;
@@ -178,6 +179,7 @@ queue_created p s c queue text selector no_local begins valid read room = record
   allowed = rw (begins, valid) refl;
   told = refl;
   left = ap (λ t. joined s c (OfQueue queue) t (state_of p)) (sym read);
+  chosen = tt;
   begins = begins;
   own = tt;
   room = room;

@@ -77,7 +77,7 @@ first_still p (x ∷ xs) ys l = go (p x) refl (first_still p xs ys)
     go true e r = rw e refl
     go false e r = let rest = r (omega (arith, rw e at l)) in rw e (omega (arith, rest))
 
-positioned : {A : Type 0} (p : A → Bool) (xs : List A) (i : ℕ) → position_or_len p xs ≡ i → i < length xs → position p xs ≡ Some i
+pub positioned : {A : Type 0} (p : A → Bool) (xs : List A) (i : ℕ) → position_or_len p xs ≡ i → i < length xs → position p xs ≡ Some i
 positioned p xs i e l = go (position_or_len p xs) (length xs) e l (nat_lt (position_or_len p xs) (length xs)) refl
   where
     go : (n m : ℕ) → n ≡ i → i < m → (b : Bool) → nat_lt n m ≡ b → cond b (Some n) None ≡ Some i

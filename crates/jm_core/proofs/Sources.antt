@@ -20,6 +20,10 @@ source_found life consumers r x y e f = go (is_started life r.session.connection
     go true o e f = let same : Some y ≡ Some x = f ∙ e in cc
     go false o e f = cc
 
+-- one that is found is one
+pub same_consumer : (x y : Consumer) → Some x ≡ Some y → x ≡ y
+same_consumer x y e = cc
+
 -- where one receives, one is found
 pub source_missing : {B : Type 0} (life : Life) (consumers : List Consumer) (r : Receiver) (x : Consumer) → source_of life consumers r.session r.consumer ≡ Some x → None ≡ consumer_of consumers r.session r.consumer → B
 source_missing {B} life consumers r x e f = go (is_started life r.session.connection) (consumer_of consumers r.session r.consumer) e f

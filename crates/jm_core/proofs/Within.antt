@@ -1,9 +1,10 @@
 -- In every state that the provider reaches each subscription is within the limit.
-use Rattle.std.proofs.Common.{◌≡◌, ◌≤◌, ◌+◌, ℕ, Bool, true, false, cond, List, [], ◌∷◌, ◌++◌, map, length, refl, arith, Option, Some, None}
+use Rattle.std.proofs.Common.{◌≡◌, ◌≤◌, ◌+◌, ℕ, Bool, true, false, cond, List, [], ◌∷◌, ◌++◌, map, length, refl, subst, arith, Option, Some, None}
 use Rattle.std.specs.Prelude.{filter, nat_le, not}
 use Rattle.std.proofs.lemmas.Bool.Decides.{nat_tests}
 use Rattle.std.proofs.lemmas.List.{length-append, length-map}
 use Rattle.jm_base.specs.declared.mode.Mode.{Mode}
+use Rattle.jm_base.specs.declared.mode.Mode.TheVariants.{Client}
 use Rattle.jm_base.specs.declared.refusal.Refusal.{Refusal}
 use Rattle.jm_dest.specs.declared.session.SessionId.{SessionId}
 use Rattle.jm_dest.specs.declared.destination.Destination.{Destination}
@@ -15,7 +16,7 @@ use Rattle.jm_header.specs.declared.content.Content.{Content}
 use Rattle.jm_machine.specs.declared.call.Who.{Who}
 use Rattle.jm_machine.specs.declared.call.Who.TheVariants.{Connection, Session}
 use Rattle.jm_machine.specs.declared.call.Request.{Request}
-use Rattle.jm_machine.specs.declared.call.Request.TheVariants.{CloseConnection, CreateSession, CloseSession, CreateConsumer, CreateDurable, CreateShared, CreateSharedDurable, Unsubscribe, CloseConsumer, Receive, Acknowledge, Recover, Rollback}
+use Rattle.jm_machine.specs.declared.call.Request.TheVariants.{CloseConnection, CreateSession, CloseSession, CreateConsumer, CreateDurable, CreateShared, CreateSharedDurable, Unsubscribe, CloseConsumer, Receive, Acknowledge, Recover, Rollback, SetListener, Take, Done}
 use Rattle.jm_machine.specs.declared.call.Call.{Call}
 use Rattle.jm_machine.specs.declared.call.Call.TheVariants.{Ask, Publish, Commit}
 use Rattle.jm_machine.specs.declared.state.Definition.{Definition}
@@ -24,10 +25,11 @@ use Rattle.jm_machine.specs.declared.state.Row.{Row}
 use Rattle.jm_machine.specs.declared.state.Station.{Station}
 use Rattle.jm_machine.specs.Life.{client_of, mode_of, is_started}
 use Rattle.jm_machine.specs.Rows.{bare, fresh, has_lapsed, is_next, is_out, live, settles_at_once, sent_out, left_of, live_placed, change_placed, deliver_placed}
-use Rattle.jm_machine.specs.Machine.{State, is_limited, Publisher, publisher_of, accepts, is_full, one_missed, brought, offered, with_message, with_rows, at_key, without, published, receive, consumer_of, key_at, asked, definition_of, deleted, durable_of, is_same, made, put, selected_by, shared_of, station_of, subscribed, defined, of_session, of_connection, of_number, settled_rows, returned_row, returned_rows, settled, returned, closed, with_life, is_client, held, refusal, publish_refusal, commit_refusal, after, after_commit, moved, step}
+use Rattle.jm_machine.specs.Machine.{State, is_limited, Publisher, publisher_of, accepts, is_full, one_missed, brought, offered, with_message, with_rows, at_key, without, published, receive, consumer_of, key_at, asked, definition_of, deleted, durable_of, is_same, made, put, selected_by, shared_of, station_of, subscribed, defined, of_session, of_connection, of_number, settled_rows, returned_row, returned_rows, settled, returned, closed, with_life, is_client, done, done_rows, set_busy, take, with_done, held, refusal, publish_refusal, commit_refusal, after, after_commit, moved, step}
 use Rattle.jm_machine.specs.Reopened.{AreDurable, is_durable}
 use Rattle.jm_machine.specs.Isolation.{Reached}
 use Rattle.jm_machine.specs.Isolation.Reached.{New, Reopened, Stepped}
+use Rattle.jm_core.proofs.Listening.{left_client}
 use Rattle.jm_core.specs.Limits.{AllWithin, IsWithin}
 
 -- ---- rows
@@ -132,6 +134,17 @@ within_received : (p : Content → Bool) (mode : Option Mode) (s : SessionId) (c
 within_received p mode s c now None state h = h
 within_received p mode s c now (Some k) state h = all_at state.limit (deliver_placed now (left_of mode s c)) (fewer_delivered mode s c now) k state.stations h
 
+within_taken : (p : Content → Bool) (s : SessionId) (c now : ℕ) (k : Option Key) (state : State) → HasLimits state → HasLimits (take p s c now k state)
+within_taken p s c now k state h = subst (λ (f : Row → List Row). HasLimits (receive p f now k state)) (left_client s c) (within_received p (Some Client) s c now k state h)
+
+fewer_done : (s : SessionId) (c : ℕ) (ok : Bool) → Fewer (done_rows s c ok)
+fewer_done s c true = fewer_filter (λ x. not (is_out (of_number s c) x.row))
+fewer_done s c false = fewer_returned (of_number s c)
+
+within_with_done : (s : SessionId) (c : ℕ) (ok : Bool) (k : Option Key) (state : State) → HasLimits state → HasLimits (with_done s c ok k state)
+within_with_done s c ok None state h = h
+within_with_done s c ok (Some k) state h = all_at state.limit (done_rows s c ok) (fewer_done s c ok) k state.stations h
+
 within_settled : (p : SessionId → ℕ → Bool) (state : State) → HasLimits state → HasLimits (settled p state)
 within_settled p state h = all_each state.limit (settled_rows p) (fewer_filter (λ x. not (is_out p x.row))) state.stations h
 
@@ -151,6 +164,11 @@ within_made s c (Topic name) selector no_local state h = within_put (Own s c) (d
 within_if : (b : Bool) (x y : State) → HasLimits x → HasLimits y → HasLimits (cond b x y)
 within_if true x y p q = p
 within_if false x y p q = q
+
+within_done : (s : SessionId) (c : ℕ) (ok : Bool) (mode : Option Mode) (k : Option Key) (state : State) → HasLimits state → HasLimits (done s c ok mode k state)
+within_done s c ok mode k state h =
+    let free : State = record state { consumers = set_busy s c false state.consumers } in
+    within_if (settles_at_once mode) (with_done s c ok k free) free (within_with_done s c ok k free h) h
 
 within_subscribed : (s : SessionId) (c : ℕ) (k : Key) (d : Definition) (state : State) → HasLimits state → HasLimits (subscribed s c k d state)
 within_subscribed s c k d state h = within_if (is_same (definition_of (station_of k state.stations)) d) state (put k d state) h (within_put k d state h)
@@ -180,6 +198,11 @@ within_after state (Session s) (CloseConsumer c) h = within_closed (of_number s 
 within_after state (Session s) Acknowledge h = within_if (is_client (mode_of state.life s)) (settled (of_session s) state) state (within_settled (of_session s) state h) h
 within_after state (Session s) Recover h = within_given (of_session s) state h
 within_after state (Session s) Rollback h = within_given (of_session s) state h
+within_after state (Session s) (SetListener c on) h = h
+within_after state (Session s) (Take c now) h =
+    within_if (is_started state.life s.connection) (take (selected_by (consumer_of state.consumers s c)) s c now (key_at (consumer_of state.consumers s c)) state) state
+    (within_taken (selected_by (consumer_of state.consumers s c)) s c now (key_at (consumer_of state.consumers s c)) state h) h
+within_after state (Session s) (Done c ok) h = within_done s c ok (mode_of state.life s) (key_at (consumer_of state.consumers s c)) state h
 within_after state (Session s) _ h = h
 
 within_committed : (state : State) (who : Who) (ms : List Content) → HasLimits state → HasLimits (after_commit state who ms)

@@ -8,6 +8,7 @@ use Rattle.jm_dest.specs.declared.key.Key.{Key}
 use Rattle.jm_dest.specs.Keys.{key_eq}
 use Rattle.jm_machine.specs.declared.answer.Answer.TheVariants.{Done}
 use Rattle.jm_machine.specs.declared.call.Request.{Request}
+use Rattle.jm_machine.specs.declared.call.Request.TheVariants.{CreateConsumer, CreateDurable, CreateShared, CreateSharedDurable}
 use Rattle.jm_machine.specs.declared.call.Who.TheVariants.{Session}
 use Rattle.jm_machine.specs.declared.state.Consumer.{Consumer}
 use Rattle.jm_machine.specs.declared.state.Definition.{Definition}
@@ -103,12 +104,30 @@ abbrev pub list_with : ℕ → Option (Key × Subscription) → List Key → Lis
 list_with limit None keys list = list
 list_with limit (Some d) keys list = kept_under (is_other d.0) keys list ++ empty (limit_of limit d.0) ∷ []
 
+-- what is decided of the subscription of the key, of which that is held, and which is to ask for that: nothing where it does,
+-- and else one that does, beside a copy of its key
+abbrev pub decision_of : Option Definition → Key → Definition → Option (Key × Subscription)
+decision_of held key d = if is_same held d then None else Some (key, record { key = key; definition = d })
+
+-- that is decided for a session's request for a consumer, where it asks for a subscription that has a name; for no other
+-- request a consumer is made
+abbrev pub IsDecidedFor : State → SessionId → Request → Option (Key × Subscription) → Type 0
+IsDecidedFor state s (CreateDurable c destination name selector no_local) decision =
+    decision ≡ decision_of (definition_of (station_of (durable_of (client_of state.life) s name) state.stations)) (durable_of (client_of state.life) s name) (asked destination selector no_local false)
+IsDecidedFor state s (CreateShared c destination name selector) decision =
+    decision ≡ decision_of (definition_of (station_of (shared_of (client_of state.life) s name) state.stations)) (shared_of (client_of state.life) s name) (asked destination selector false true)
+IsDecidedFor state s (CreateSharedDurable c destination name selector) decision =
+    decision ≡ decision_of (definition_of (station_of (durable_of (client_of state.life) s name) state.stations)) (durable_of (client_of state.life) s name) (asked destination selector false true)
+IsDecidedFor state s (CreateConsumer c destination selector no_local) decision = Unit {0}
+IsDecidedFor state s _ decision = ⊥
+
 -- a consumer's source and what was decided for it, the subscription of the key asking for that: the selector is read, the
 -- subscription may be had, a new one takes the place of what asks for another thing, and there is room for all
 pub record IsPrepared (p : Provider) (sharing : Sharing) (key : Key) (selector : Option (List ℕ)) (d : Definition) (source : Origin) (decision : Option (Key × Subscription)) : Type 0 where
   pub source_is : source ≡ record { key = key; selector = None }
   pub valid : selector_refusal selector ≡ None
   pub had : is_had sharing key d (state_of p) ≡ true
+  pub chosen : decision ≡ decision_of (definition_of (station_of key (state_of p).stations)) key d
   pub left : put_decided decision (state_of p) ≡ (if is_same (definition_of (station_of key (state_of p).stations)) d then state_of p else put key d (state_of p))
   pub room : 0 < p.known.spare
   pub decided : IsDecided p key decision
@@ -126,9 +145,10 @@ naming_refusal state s c w =
     first_cause (unless (may_ask w.sharing state.life state.consumers s c) IllegalState) (subscription_refusal w.destination.now w.selector.now (is_had w.sharing (key_wanted state s w) (definition_wanted w) state))
 
 -- the session's request asks for its consumer of that number, of the subscription that is wanted: it is refused, answered
--- and carried out as such a request is, and takes memory as such a request does
+-- and carried out as such a request is, takes memory as such a request does, and has that subscription decided
 pub record IsNaming (state : State) (s : SessionId) (c : ℕ) (w : Wanted) (request : Request) : Type 0 where
   pub refused : refusal state.life state.consumers (held state (Session s) request) (Session s) request ≡ naming_refusal state s c w
   pub told : answer state.life state.consumers (held state (Session s) request) (Session s) request ≡ Done
   pub left : after state (Session s) request ≡ subscribed s c (key_wanted state s w) (definition_wanted w) state
   pub takes : takes_memory state (Session s) request ≡ (may_ask w.sharing state.life state.consumers s c && is_of_topic w.destination.now)
+  pub decides : (decision : Option (Key × Subscription)) → decision ≡ decision_of (definition_of (station_of (key_wanted state s w) state.stations)) (key_wanted state s w) (definition_wanted w) → IsDecidedFor state s request decision

@@ -1,5 +1,6 @@
 -- Plans: steps that are prepared. No cause stands against the step, and there is room for what it changes.
 use Rattle.std.specs.Prelude.{◌≡◌, ◌<◌, ◌&&◌, ℕ, true, false, IfSome, List, Option, Some, None, Result, Ok, Err, MatchBool, MatchResult, length, is_some}
+use Rattle.jm_base.specs.declared.mode.Mode.TheVariants.{Client}
 use Rattle.jm_base.specs.declared.refusal.Refusal.{Refusal}
 use Rattle.jm_dest.specs.declared.session.SessionId.{SessionId}
 use Rattle.jm_dest.specs.declared.key.Key.{Key}
@@ -14,10 +15,9 @@ use Rattle.jm_machine.specs.declared.call.Call.TheVariants.{Ask, Publish, Commit
 use Rattle.jm_machine.specs.declared.call.Request.{Request}
 use Rattle.jm_machine.specs.declared.call.Request.TheVariants as requests
 use Rattle.jm_machine.specs.declared.state.Consumer.{Consumer}
-use Rattle.jm_machine.specs.Life.{client_of, connection_of, is_client_taken, is_new_session, is_open_connection, mode_of}
-use Rattle.jm_machine.specs.Machine.{State, after, answer, consumer_of, durable_of, held, is_free, is_stamped, is_transacted, is_untransacted, joined, key_at, may_begin, may_close_consumer, may_close_session, refusal, reply, selected_by}
+use Rattle.jm_machine.specs.Life.{client_of, connection_of, is_client_taken, is_new_session, is_open_connection, is_started, mode_of}
+use Rattle.jm_machine.specs.Machine.{State, after, answer, consumer_of, durable_of, held, is_free, is_stamped, is_transacted, is_untransacted, joined, key_at, may_be_done, may_begin, may_close_consumer, may_close_session, may_receive, may_set_listener, may_take, may_use, refusal, reply, selected_by}
 use Rattle.jm_machine.specs.Wants.{is_want, may_want}
-use Rattle.jm_session.specs.Known.{may_receive}
 use Rattle.jm_session.specs.Sources.{Origin}
 use Rattle.jm_sub.specs.Subscriptions.{Subscription}
 use Rattle.jm_core.specs.declared.publish.Publication.{Publication}
@@ -25,7 +25,7 @@ use Rattle.jm_core.specs.declared.receive.Receiver.{Receiver}
 use Rattle.jm_core.specs.declared.receive.Taking.{Taking}
 use Rattle.jm_core.specs.declared.plan.Change.{Change}
 use Rattle.jm_core.specs.declared.plan.Change.TheVariants as change
-use Rattle.jm_core.specs.Named.{IsDecided, put_decided}
+use Rattle.jm_core.specs.Named.{IsDecided, IsDecidedFor, put_decided}
 use Rattle.jm_core.specs.Provider.{Provider, state_of}
 use Rattle.jm_core.specs.Publications.{ArePrepared}
 use Rattle.jm_core.specs.State.{IsOwn}
@@ -42,8 +42,9 @@ pub record IsOpening (p : Provider) (who : Who) (call : Call) (c : ℕ) (client 
   pub room : 0 < p.known.spare
 
 -- the call makes the session's consumer of that source: no cause stands against it, it is done, and it leaves the state in
--- which the subscription that was decided, where one was, is put, and then the consumer joins; the number is free, a key
--- that is a consumer's own is this one's, and there is room for the consumer
+-- which the subscription that was decided, where one was, is put, and then the consumer joins; of one that has a name that is
+-- decided which it asks for, where it does not stand already; the number is free, a key that is a consumer's own is this
+-- one's, and there is room for the consumer
 pub record IsCreating (p : Provider) (who : Who) (call : Call) (s : SessionId) (c : ℕ) (source : Origin) (decision : Option (Key × Subscription)) : Type 0 where
   pub request : Request
   pub sender : who ≡ Session s
@@ -51,6 +52,7 @@ pub record IsCreating (p : Provider) (who : Who) (call : Call) (s : SessionId) (
   pub allowed : refusal p.known.life p.known.consumers (held (state_of p) (Session s) request) (Session s) request ≡ None
   pub told : answer p.known.life p.known.consumers (held (state_of p) (Session s) request) (Session s) request ≡ Done
   pub left : after (state_of p) (Session s) request ≡ joined s c source.key source.selector (put_decided decision (state_of p))
+  pub chosen : IsDecidedFor (state_of p) s request decision
   pub begins : may_begin p.known.life p.known.consumers s c ≡ true
   pub own : IsOwn s c source.key
   pub room : 0 < p.known.spare
@@ -91,13 +93,49 @@ pub record IsReceivingFrom (p : Provider) (who : Who) (call : Call) (r : Receive
   pub key : consumer.key ≡ OfQueue queue
   pub taken : IsTakenFrom queue (selected_by (Some consumer)) r p.queues taking
 
+-- the call is one for the receiver's listener, on a connection that is started: it takes at that moment, as it may, what
+-- stands under the consumer's key, which is no queue's, with the copy that it wants. What it takes stays held, as in a
+-- session whose client acknowledges
+pub record IsTaking (p : Provider) (who : Who) (call : Call) (r : Receiver) (taking : Option Taking) : Type 0 where
+  pub sender : who ≡ Session r.session
+  pub asked : call ≡ Ask (requests.Take r.consumer r.moment)
+  pub mode : r.mode ≡ Client
+  pub allowed : may_take p.known.life p.known.consumers r.session r.consumer ≡ true
+  pub started : is_started p.known.life r.session.connection ≡ true
+  pub apart : is_queue (key_at (consumer_of p.known.consumers r.session r.consumer)) ≡ false
+  pub taken : IsTaken (key_at (consumer_of p.known.consumers r.session r.consumer)) r p.held.keys p.held.list taking
+  pub within : IfSome taking (λ x. x.index < length p.held.list)
+
+-- the same where the consumer is one of a queue: its listener takes what stands there and its selector selects
+pub record IsTakingFrom (p : Provider) (who : Who) (call : Call) (r : Receiver) (taking : Option Taking) : Type 0 where
+  pub consumer : Consumer
+  pub queue : List ℕ
+  pub sender : who ≡ Session r.session
+  pub asked : call ≡ Ask (requests.Take r.consumer r.moment)
+  pub mode : r.mode ≡ Client
+  pub allowed : may_take p.known.life p.known.consumers r.session r.consumer ≡ true
+  pub started : is_started p.known.life r.session.connection ≡ true
+  pub source : consumer_of p.known.consumers r.session r.consumer ≡ Some consumer
+  pub key : consumer.key ≡ OfQueue queue
+  pub taken : IsTakenFrom queue (selected_by (Some consumer)) r p.queues taking
+
+-- the call is one for a listener that may take, on a connection that is stopped
+pub record IsIdling (p : Provider) (who : Who) (call : Call) : Type 0 where
+  pub session : SessionId
+  pub consumer : ℕ
+  pub moment : ℕ
+  pub sender : who ≡ Session session
+  pub asked : call ≡ Ask (requests.Take consumer moment)
+  pub allowed : may_take p.known.life p.known.consumers session consumer ≡ true
+  pub stopped : is_started p.known.life session.connection ≡ false
+
 -- the call asks, as it may, what the consumer's subscription missed, and that is so many publications
 pub record IsMissing (p : Provider) (who : Who) (call : Call) (n : ℕ) : Type 0 where
   pub session : SessionId
   pub consumer : ℕ
   pub sender : who ≡ Session session
   pub asked : call ≡ Ask (requests.Missed consumer)
-  pub allowed : may_receive p.known.life p.known.consumers session consumer ≡ true
+  pub allowed : may_use p.known.life p.known.consumers session consumer ≡ true
   pub number : n ≡ missed_at (key_at (consumer_of p.known.consumers session consumer)) (state_of p).stations
 
 -- the call publishes those messages: its session is open and not transacted and stamped them, and the publications are
@@ -138,6 +176,13 @@ IsPlan p who call (change.CloseConsumer s c) =
     (who ≡ Session s) × (call ≡ Ask (requests.CloseConsumer c)) × (may_close_consumer p.known.life p.known.consumers s c ≡ true)
 IsPlan p who call (change.Receive r taking) = IsReceiving p who call r taking
 IsPlan p who call (change.ReceiveFrom r taking) = IsReceivingFrom p who call r taking
+IsPlan p who call (change.SetListener s c on) =
+    (who ≡ Session s) × (call ≡ Ask (requests.SetListener c on)) × (may_set_listener p.known.life p.known.consumers s c ≡ true)
+IsPlan p who call (change.Take r taking) = IsTaking p who call r taking
+IsPlan p who call (change.TakeFrom r taking) = IsTakingFrom p who call r taking
+IsPlan p who call change.Nothing = IsIdling p who call
+IsPlan p who call (change.Done s c mode ok) =
+    (who ≡ Session s) × (call ≡ Ask (requests.Done c ok)) × (mode_of p.known.life s ≡ Some mode) × (may_be_done p.known.life p.known.consumers s c ≡ true)
 IsPlan p who call (change.Acknowledge s mode) =
     (who ≡ Session s) × (call ≡ Ask requests.Acknowledge) × (mode_of p.known.life s ≡ Some mode)
 IsPlan p who call (change.Recover s) =
@@ -169,3 +214,7 @@ PlanFits old who call result new =
 abbrev pub InstallFits : Provider → Change → Answer → Provider → Type 0
 InstallFits old change answer new =
     (who : Who) (call : Call) → IsPlan old who call change → StepFits (state_of old) who call (Ok answer) (state_of new)
+
+-- the answer is that of the machine, for the call that the plan is of
+abbrev pub IsAnswer : Provider → Change → Answer → Type 0
+IsAnswer p change answer = (who : Who) (call : Call) → IsPlan p who call change → Ok answer ≡ reply (state_of p) who call

@@ -3,7 +3,7 @@ use Rattle.std.specs.Prelude.{◌≡◌, ◌≤◌, ◌<◌, ◌+◌, ℕ, List,
 use Rattle.jm_dest.specs.declared.destination.Destination.{Destination}
 use Rattle.jm_dest.specs.declared.destination.Destination.TheVariants.{Queue, Topic}
 use Rattle.jm_dest.specs.declared.key.Key.{Key}
-use Rattle.jm_dest.specs.declared.key.Key.TheVariants.{Queue as OfQueue}
+use Rattle.jm_dest.specs.declared.key.Key.TheVariants.{Queue as OfQueue, Own, SharedOwn, Durable}
 use Rattle.jm_dest.specs.Keys.{key_eq}
 use Rattle.jm_header.specs.declared.content.Content.{Content}
 use Rattle.jm_machine.specs.declared.state.PlacedRow.{PlacedRow}
@@ -20,6 +20,13 @@ rows_at (k ∷ keys) (b ∷ list) name = if key_eq k (OfQueue name) then b.rows 
 -- what the queues hold
 abbrev pub rows_in : Stations → List ℕ → List PlacedRow
 rows_in queues = rows_at queues.keys queues.list
+
+-- the key is that of a queue
+abbrev pub IsOfQueue : Key → Type 0
+IsOfQueue (OfQueue name) = Unit {0}
+IsOfQueue (Own s c) = ⊥
+IsOfQueue (SharedOwn client name) = ⊥
+IsOfQueue (Durable client name) = ⊥
 
 -- there may be any number of rows
 abbrev pub HasNoLimit : Backlog → Type 0

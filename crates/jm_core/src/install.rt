@@ -8,6 +8,7 @@ use crate::life::{
     make_close_connection, make_close_consumer, make_close_session, make_open, make_session,
     make_start, make_stop,
 };
+use crate::listen::{ending_key, make_busy, make_done, make_free, make_listener};
 use crate::plan::Change;
 use crate::publish::{Publication, make_publications};
 use crate::receive::{Receiver, Taking, make_delivery, make_delivery_from};
@@ -38,6 +39,11 @@ impl CoreState {
             Change::CloseConsumer(session, id) => self.install_close_consumer(&session, id),
             Change::Receive(receiver, taking) => self.install_delivery(&receiver, taking),
             Change::ReceiveFrom(receiver, taking) => self.install_delivery_from(&receiver, taking),
+            Change::SetListener(session, id, on) => self.install_listener(&session, id, on),
+            Change::Take(receiver, taking) => self.install_take(&receiver, taking),
+            Change::TakeFrom(receiver, taking) => self.install_take_from(&receiver, taking),
+            Change::Nothing => self.install_nothing(),
+            Change::Done(session, id, mode, ok) => self.install_done(&session, id, mode, ok),
             Change::Acknowledge(id, mode) => self.install_acknowledge(&id, mode),
             Change::Recover(id) => self.install_recover(&id),
             Change::Rollback(id) => self.install_rollback(&id),
@@ -159,6 +165,76 @@ impl CoreState {
                 make_delivery_from(&mut self.queues, &consumer.selector, receiver, taking)
             }
         }
+    }
+
+    fn install_listener(&mut self, session: &SessionId, id: ConsumerId, on: bool) -> Answer
+        requires { IsPlanned self.old (Change.SetListener session.now id on) }
+        ensures { InstallFits self.old (Change.SetListener session.now id on) result self.new }
+    {
+        make_listener(&mut self.sessions, session, id, on);
+        Answer::Done
+    }
+
+    fn install_take(&mut self, receiver: &Receiver, taking: Option<Taking>) -> Answer
+        requires { IsPlanned self.old (Change.Take receiver.now taking) }
+        ensures { InstallFits self.old (Change.Take receiver.now taking) result self.new }
+    {
+        let answer = make_delivery(&mut self.stations, receiver, taking);
+        make_busy(
+            &mut self.sessions,
+            &receiver.session,
+            receiver.consumer,
+            &answer,
+        );
+        answer
+    }
+
+    /// Takes from the queue what the receiver's consumer selects.
+    fn install_take_from(&mut self, receiver: &Receiver, taking: Option<Taking>) -> Answer
+        requires { IsPlanned self.old (Change.TakeFrom receiver.now taking) }
+        ensures { InstallFits self.old (Change.TakeFrom receiver.now taking) result self.new }
+    {
+        match self
+            .sessions
+            .consumer_of(&receiver.session, receiver.consumer)
+        {
+            None => Answer::Nothing,
+            Some(consumer) => {
+                let answer = make_delivery_from(
+                    &mut self.queues,
+                    &consumer.selector,
+                    receiver,
+                    taking,
+                );
+                make_busy(
+                    &mut self.sessions,
+                    &receiver.session,
+                    receiver.consumer,
+                    &answer,
+                );
+                answer
+            }
+        }
+    }
+
+    fn install_nothing(&self) -> Answer
+        requires { IsPlanned self.now Change.Nothing }
+        ensures { InstallFits self.now Change.Nothing result self.now }
+    {
+        Answer::Nothing
+    }
+
+    /// Settles what is out through the consumer, or gives it back, where the mode settles a message in the step that
+    /// delivers it. The consumer is not busy any more.
+    fn install_done(&mut self, session: &SessionId, id: ConsumerId, mode: Mode, ok: bool) -> Answer
+        requires { IsPlanned self.old (Change.Done session.now id mode ok) }
+        ensures { InstallFits self.old (Change.Done session.now id mode ok) result self.new }
+    {
+        let receiver = Consumers::One(*session, id);
+        let key = ending_key(&self.sessions, session, id, mode);
+        make_done(&mut self.stations, &mut self.queues, key, &receiver, ok);
+        make_free(&mut self.sessions, session, id);
+        Answer::Done
     }
 
     /// Settles what is out to the session, where its mode lets the client acknowledge.

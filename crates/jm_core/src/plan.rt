@@ -2,13 +2,15 @@
 
 ghost use Rattle.std.specs.Prelude.{◌≡◌, Bool, true, Some};
 ghost use Rattle.jm_dest.specs.declared.destination.Destination.TheVariants as destination;
+ghost use Rattle.jm_base.specs.declared.mode.Mode.TheVariants as mode;
 ghost use Rattle.jm_machine.specs.Life as life;
-ghost use Rattle.jm_session.specs.Known.{may_receive};
+ghost use Rattle.jm_machine.specs.Machine.{consumer_of, may_receive, may_take};
 ghost use Rattle.jm_core.specs.Plans.{PlanFits};
 ghost use Rattle.jm_core.specs.Takings.{source_of};
 
 use crate::create::{prepare_create, prepare_create_of};
 use crate::life::{prepare_open, prepare_session};
+use crate::listen::taker;
 use crate::named::Wanted;
 use crate::publish::Publication;
 use crate::receive::{
@@ -46,6 +48,16 @@ pub(crate) enum Change {
     Receive(Receiver, Option<Taking>),
     /// What it takes from its consumer's queue.
     ReceiveFrom(Receiver, Option<Taking>),
+    /// Whether the consumer listens from then on.
+    SetListener(SessionId, ConsumerId, bool),
+    /// What the receiver's listener takes; what it takes stays held, as in mode `Client`.
+    Take(Receiver, Option<Taking>),
+    /// What it takes from its consumer's queue.
+    TakeFrom(Receiver, Option<Taking>),
+    /// A listener takes while its connection is stopped.
+    Nothing,
+    /// Whether what is out through the consumer is settled, where the mode settles a message in the step that delivers it.
+    Done(SessionId, ConsumerId, Mode, bool),
     Acknowledge(SessionId, Mode),
     Recover(SessionId),
     Rollback(SessionId),
@@ -166,7 +178,13 @@ impl CoreState {
             Request::Recover => self.plan_recover(session),
             Request::Rollback => self.plan_rollback(session),
             Request::Missed { consumer } => self.plan_missed(session, *consumer),
-            _ => Err(Refusal::IllegalState),
+            Request::SetListener { consumer, on } => self.plan_listener(session, *consumer, *on),
+            Request::Take { consumer, now } => self.plan_take(session, *consumer, *now),
+            Request::Done { consumer, ok } => self.plan_done(session, *consumer, *ok),
+            Request::Open { client: _ }
+            | Request::Start
+            | Request::Stop
+            | Request::CloseConnection => Err(Refusal::IllegalState),
         }
     }
 
@@ -411,6 +429,76 @@ impl CoreState {
                 Ok(Change::Receive(receiver, taking))
             }
         }
+    }
+
+    #[tactic(auto, unfolding(jm_machine::specs::Machine::refusal, jm_machine::specs::Machine::reply))]
+    fn plan_listener(
+        &self,
+        session: &SessionId,
+        id: ConsumerId,
+        on: bool,
+    ) -> Result<Change, Refusal>
+        ensures { PlanFits self.now (Who.Session session.now) (Call.Ask (Request.SetListener id on)) result self.now }
+    {
+        if !self.sessions.may_set_listener(session, id) {
+            return Err(Refusal::IllegalState);
+        }
+        Ok(Change::SetListener(*session, id, on))
+    }
+
+    fn plan_take(
+        &self,
+        session: &SessionId,
+        consumer: ConsumerId,
+        now: Moment,
+    ) -> Result<Change, Refusal>
+        ensures { PlanFits self.now (Who.Session session.now) (Call.Ask (Request.Take consumer now)) result self.now }
+    {
+        let source = taker(&self.sessions, session, consumer)?;
+        if !self.sessions.is_started(session.connection) {
+            return Ok(Change::Nothing);
+        }
+        let receiver = Receiver {
+            session: *session,
+            mode: Mode::Client,
+            consumer,
+            moment: now,
+        };
+        self.plan_take_by(receiver, source)
+    }
+
+    /// Plans a delivery to the listener of a consumer that may take, of a connection that is started.
+    fn plan_take_by(&self, receiver: Receiver, source: &Consumer) -> Result<Change, Refusal>
+        requires mode { receiver.mode ≡ mode.Client }
+        requires started { life.is_started self.now.known.life receiver.session.connection ≡ true }
+        requires allowed { may_take self.now.known.life self.now.known.consumers receiver.session receiver.consumer ≡ true }
+        requires source { consumer_of self.now.known.consumers receiver.session receiver.consumer ≡ Some source.now }
+        ensures { PlanFits self.now (Who.Session receiver.session)
+            (Call.Ask (Request.Take receiver.consumer receiver.moment)) result self.now }
+    {
+        match &source.key {
+            Key::Queue(_) => {
+                let taking = prepare_delivery_from(&self.queues, source, &receiver)?;
+                Ok(Change::TakeFrom(receiver, taking))
+            }
+            Key::Own(_, _) | Key::SharedOwn(_, _) | Key::Durable(_, _) => {
+                let taking = prepare_delivery(&self.stations, &source.key, &receiver)?;
+                Ok(Change::Take(receiver, taking))
+            }
+        }
+    }
+
+    #[tactic(auto, unfolding(jm_machine::specs::Machine::refusal, jm_machine::specs::Machine::reply))]
+    fn plan_done(&self, session: &SessionId, id: ConsumerId, ok: bool) -> Result<Change, Refusal>
+        ensures { PlanFits self.now (Who.Session session.now) (Call.Ask (Request.Done id ok)) result self.now }
+    {
+        let Some(mode) = self.sessions.mode_of(session) else {
+            return Err(Refusal::IllegalState);
+        };
+        if !self.sessions.may_be_done(session, id) {
+            return Err(Refusal::IllegalState);
+        }
+        Ok(Change::Done(*session, id, mode, ok))
     }
 
     #[tactic(auto, unfolding(jm_machine::specs::Machine::refusal, jm_machine::specs::Machine::reply))]

@@ -32,7 +32,7 @@ use std::marker::Model;
 /// there is for more. What a call answers and leaves is said of that state alone (`state_of`), and every
 /// core's state is one that the provider reaches.
 pub struct Core {
-    state: CoreState,
+    pub(crate) state: CoreState,
 }
 
 // (by hand, so that a caller lets a core go by one call, on each of its ways out)

@@ -1,9 +1,10 @@
 //! What the queues hold.
 
 ghost use Rattle.std.specs.Prelude.{◌≡◌, ◌≤◌, ◌<◌, ◌+◌, ◌++◌, ◌&&◌, ℕ, true, false, List, [], ◌∷◌, not, is_some, map, length, slice_index_or, None, Some, IfSome, IfOk, OnOk, OnErr};
+ghost use Rattle.jm_dest.specs.declared.key.Key.{Key as KeyShown};
 ghost use Rattle.jm_dest.specs.declared.key.Key.TheVariants as key;
 ghost use Rattle.jm_dest.specs.declared.destination.Destination.TheVariants as destination;
-ghost use Rattle.jm_machine.specs.Machine.{are_meant, at_queue, at_queues, places_end, queued, returned_rows, settled_rows};
+ghost use Rattle.jm_machine.specs.Machine.{State, are_meant, at_queue, at_queues, places_end, queued, returned_rows, settled_rows};
 ghost use Rattle.jm_machine.specs.Rows.{bare, chosen, deliver_chosen};
 ghost use Rattle.jm_machine.specs.Wants.{next_chosen};
 ghost use Rattle.jm_selector.specs.Selectors.{read_selects, selector_read};
@@ -13,8 +14,10 @@ ghost use Rattle.jm_stations.specs.Loading.{stored_row};
 ghost use Rattle.jm_stations.specs.Stations.{index_in};
 ghost use Rattle.jm_core.specs.Publications.{IsReserved};
 ghost use Rattle.jm_core.specs.Queues.{HaveMoreRoom, rows_in};
+ghost use Rattle.jm_core.specs.Reading as reading;
 ghost use Rattle.jm_core.specs.Reopening.{joins};
 
+use crate::rows::Rows;
 use jm_dest::{ConsumerId, Key, Moment, Name, SessionId};
 use jm_header::Message;
 use jm_machine::{Answer, Consumers, PlacedRow, Row, RowState};
@@ -40,14 +43,15 @@ impl Drop for Queues {
 }
 
 impl Model for Queues {
+    ghost use Rattle.std.specs.Prelude.{All};
     ghost use Rattle.jm_stations.specs.Stations.{Stations as StationsShown};
-    ghost use Rattle.jm_core.specs.Queues.{AreQueues};
+    ghost use Rattle.jm_core.specs.Queues.{AreQueues, IsOfQueue};
 
     ghost Value = { StationsShown };
 
     ghost view = { λ q. q.stations };
 
-    ghost invariant = { λ q. AreQueues q.stations.list q.stations.next_place };
+    ghost invariant = { λ q. AreQueues q.stations.list q.stations.next_place × All IsOfQueue q.stations.keys };
 }
 
 /// Adds the key of a queue behind all others, which holds nothing and may hold any number of messages: where it stands.
@@ -105,6 +109,24 @@ impl Queues {
             None => Ok(Vec::new(alloc)),
             Some(index) => self.stations.rows_of(index),
         }
+    }
+
+    /// The keys of queues, each once.
+    pub(crate) fn keys(&self) -> &[Key]
+        ensures { result.now ≡ self.now.keys }
+    {
+        self.stations.keys()
+    }
+
+    /// The rows under the key with that index, which are those of its queue.
+    pub(crate) fn rows_at(&self, index: usize) -> Rows<'_>
+        requires { index < length self.now.keys }
+        ensures { (state : State) (d : KeyShown) → state.queues ≡ rows_in self.now →
+            result ≡ reading.rows_under state (slice_index_or self.now.keys index d) }
+    {
+        // The length is what says that each key stands once.
+        let _number = self.stations.len();
+        Rows::new(&self.stations, index)
     }
 
     /// Where the key of a queue stands. It is found by its hash.
@@ -269,5 +291,26 @@ impl Queues {
         ensures next_place { self.new.next_place ≡ self.old.next_place }
     {
         self.stations.give_back(which);
+    }
+
+    /// The rows of the queue with that index that are out through one of those consumers go. Takes no memory.
+    pub(crate) fn settle_at(&mut self, index: usize, which: &Consumers)
+        requires { index < length self.old.list }
+        ensures rows { (name : List ℕ) → index_in self.old.keys (key.Queue name) ≡ Some index →
+            rows_in self.new ≡ at_queue name (settled_rows (are_meant which.now)) (rows_in self.old) }
+        ensures next_place { self.new.next_place ≡ self.old.next_place }
+    {
+        self.stations.settle_at(index, which);
+    }
+
+    /// The rows of the queue with that index that are out through one of those consumers wait again, at their places and
+    /// with their counts. Takes no memory.
+    pub(crate) fn give_back_at(&mut self, index: usize, which: &Consumers)
+        requires { index < length self.old.list }
+        ensures rows { (name : List ℕ) → index_in self.old.keys (key.Queue name) ≡ Some index →
+            rows_in self.new ≡ at_queue name (returned_rows (are_meant which.now)) (rows_in self.old) }
+        ensures next_place { self.new.next_place ≡ self.old.next_place }
+    {
+        self.stations.give_back_at(index, which);
     }
 }

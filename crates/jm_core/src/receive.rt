@@ -6,10 +6,9 @@ ghost use Rattle.std.specs.Option.{option_copied};
 ghost use Rattle.jm_base.specs.declared.refusal.Refusal.TheVariants.{IllegalState};
 ghost use Rattle.jm_machine.specs.Life.{mode_of};
 ghost use Rattle.jm_dest.specs.declared.key.Key.TheVariants as queue;
-ghost use Rattle.jm_machine.specs.Machine.{at_queue, consumer_of, key_at, selected_by};
+ghost use Rattle.jm_machine.specs.Machine.{at_queue, consumer_of, key_at, may_receive, may_use, selected_by};
 ghost use Rattle.jm_machine.specs.Rows.{deliver_chosen, settles_at_once};
 ghost use Rattle.jm_selector.specs.Selectors.{read_selects, selector_read};
-ghost use Rattle.jm_session.specs.Known.{may_receive};
 ghost use Rattle.jm_stations.specs.Backlogs.{Backlog, answered, answered_where, changed_at, copy_wanted, copy_wanted_where};
 ghost use Rattle.jm_stations.specs.Stations.{index_in};
 ghost use Rattle.jm_core.specs.Takings as spec;
@@ -43,7 +42,7 @@ pub(crate) struct Taking {
 }
 
 /// Whether the mode settles a message in the step that delivers it.
-fn settles(mode: Mode) -> bool
+pub(crate) fn settles(mode: Mode) -> bool
     ensures { result ≡ settles_at_once (Some mode) }
 {
     match mode {
@@ -69,7 +68,7 @@ pub(crate) fn receiving<'a>(
         return Err(Refusal::IllegalState);
     };
     match sessions.consumer_of(session, id) {
-        Some(consumer) if consumer.is_active => {
+        Some(consumer) if consumer.is_active && !consumer.is_listening => {
             if sessions.is_started(session.connection) {
                 Ok((mode, Some(consumer)))
             } else {
@@ -231,12 +230,12 @@ pub(crate) fn missed_key<'a>(
     session: &SessionId,
     id: ConsumerId,
 ) -> Result<&'a Key, Refusal>
-    ensures ok { OnOk result (may_receive sessions.now.life sessions.now.consumers session.now id ≡ true) }
+    ensures ok { OnOk result (may_use sessions.now.life sessions.now.consumers session.now id ≡ true) }
     ensures key { IfOk result (λ key. key_at (consumer_of sessions.now.consumers session.now id) ≡ Some key.now) }
     ensures illegal { IfErr result (λ refusal. refusal ≡ IllegalState) }
-    ensures refused { OnErr result (may_receive sessions.now.life sessions.now.consumers session.now id ≡ false) }
+    ensures refused { OnErr result (may_use sessions.now.life sessions.now.consumers session.now id ≡ false) }
 {
-    if !sessions.may_receive(session, id) {
+    if !sessions.may_use(session, id) {
         return Err(Refusal::IllegalState);
     }
     match sessions.consumer_of(session, id) {

@@ -31,7 +31,7 @@ fn ends_transaction(request: &Request) -> bool
 }
 
 /// Drops what was sent in the transactions that the request ends, to which that was told.
-fn drop_ended(halves: &mut Halves, who: &Who, request: &Request, told: &Reply)
+pub fn drop_ended(halves: &mut Halves, who: &Who, request: &Request, told: &Reply)
     ensures sent { sent_of halves.new ≡ sent_of halves.old }
     ensures kept { kept_of halves.new ≡ after_request who.now request.now told.now (kept_of halves.old) }
     ensures room { room halves.old ≤ room halves.new }

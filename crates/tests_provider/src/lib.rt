@@ -9,6 +9,8 @@ mod copies;
 #[cfg(test)]
 mod halves;
 #[cfg(test)]
+mod listeners;
+#[cfg(test)]
 mod lone;
 #[cfg(test)]
 mod ops;

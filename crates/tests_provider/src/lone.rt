@@ -177,6 +177,42 @@ fn what_comes_again_comes_again_alone(rt: HostRuntime) {
     is_text(&rt, "4 ok, 7 a#1, 9 a#2, 12 none, 14 IllegalState, ", told);
 }
 
+/// A message whose session recovers while its consumer is busy: it is not settled with the first delivery.
+static LISTENERS: [Op; 17] = [
+    Op::Open(1),
+    Op::Open(2),
+    Op::Session((1, 1), Mode::Auto),
+    Op::Session((2, 1), Mode::Auto),
+    Op::Consumer((1, 1), 1, None),
+    Op::Start(1),
+    Op::Send(2, "a", None),
+    Op::Listener((1, 1), 1, true),
+    Op::Receive((1, 1), 1),
+    Op::Take((1, 1), 1),
+    Op::CloseConsumer((1, 1), 1),
+    Op::Recover((1, 1)),
+    Op::Take((1, 1), 1),
+    Op::Done((1, 1), 1, true),
+    Op::Take((1, 1), 1),
+    Op::Done((1, 1), 1, true),
+    Op::Take((1, 1), 1),
+];
+
+/// What the subscription answers alone to those calls.
+static LISTENED: &str =
+    "4 ok, 7 ok, 8 IllegalState, 9 a#1, 10 IllegalState, 12 IllegalState, 13 ok, 14 a#2, 15 ok, 16 none, ";
+
+#[test]
+fn what_is_taken_is_taken_alone(rt: HostRuntime) {
+    is_text(&rt, LISTENED, told(rt.alloc(), &LISTENERS, &[], 1));
+}
+
+#[test]
+fn wrong_replies_to_listeners_are_not_handed_back(rt: HostRuntime) {
+    let told = told(rt.alloc(), &LISTENERS, &[7, 9, 13, 14, 16], 1);
+    is_text(&rt, LISTENED, told);
+}
+
 /// Two transacted sessions: a message comes with the commit of its session, comes again after a rollback, and is settled by a
 /// commit; another is rolled back.
 static TRANSACTED: [Op; 19] = [

@@ -3,6 +3,7 @@ use Rattle.jm_stations.specs.Backlogs.{without_room}
 use Rattle.jm_stations.specs.Stations.{Stations}
 use Rattle.jm_core.specs.Queues.{rows_in}
 use Rattle.jm_core.proofs.QueueCounts.{queues_copied}
+use Rattle.jm_core.proofs.QueueKeys.{keys_same}
 use Rattle.jm_core.proofs.QueueRows.{copies_same, rows_same}
 use Rattle.jm_core.proofs.queues.Queues.copy.Goals as goal
 
@@ -11,7 +12,7 @@ invariant_of-result c =
     let i = c.self.inside in
     let list = ap (λ (x : Stations). x.list) c.in_ok-copy.ensures in
     let place = ap (λ (x : Stations). x.next_place) c.in_ok-copy.ensures in
-    rw (list, place) (queues_copied i.stations.list i.stations.next_place c.self.invariant)
+    (rw (list, place) (queues_copied i.stations.list i.stations.next_place c.self.invariant.0), keys_same i.stations.keys c.in_ok-copy.field-0.keys (ap (λ (x : Stations). x.keys) c.in_ok-copy.ensures) c.self.invariant.1)
 
 pub returns-clause-rows : goal.returns-clause-rows
 returns-clause-rows c =

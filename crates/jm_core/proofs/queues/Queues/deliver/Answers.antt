@@ -7,6 +7,7 @@ use Rattle.jm_stations.specs.Backlogs.{Backlog, answered_where, empty, out_row}
 use Rattle.jm_stations.specs.Stations.{Stations}
 use Rattle.jm_core.specs.Queues.{rows_at, rows_in}
 use Rattle.jm_core.proofs.QueueCounts.{fewer_delivered, queues_changed}
+use Rattle.jm_core.proofs.QueueKeys.{keys_same}
 use Rattle.jm_core.proofs.QueueRows.{rows_changed, rows_found}
 use Rattle.jm_core.proofs.queues.Queues.deliver.Goals as goal
 
@@ -14,9 +15,10 @@ pub invariant_of-self : goal.invariant_of-self
 invariant_of-self c =
     let i = c.self.inside in
     let m = c.deliver_where.ensures in
-    let pass = read_selects (selector_read c.args.selector.now) in
-    rw (m.list, m.next_place)
-    (queues_changed c.args.index (deliver_chosen pass c.args.now (out_row c.args.session c.args.consumer)) (fewer_delivered false c.args.session c.args.consumer pass c.args.now) i.stations.list i.stations.next_place c.self.invariant)
+    let pass = read_selects (selector_read c.args.selector.now) in (
+      rw (m.list, m.next_place) (queues_changed c.args.index (deliver_chosen pass c.args.now (out_row c.args.session c.args.consumer)) (fewer_delivered false c.args.session c.args.consumer pass c.args.now) i.stations.list i.stations.next_place c.self.invariant.0),
+      keys_same i.stations.keys c.deliver_where.new.self.keys m.keys c.self.invariant.1,
+    )
 
 pub returns-clause-answer : goal.returns-clause-answer
 returns-clause-answer c name found =

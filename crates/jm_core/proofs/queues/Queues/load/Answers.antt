@@ -6,6 +6,7 @@ use Rattle.jm_stations.specs.Loading.{stored_row}
 use Rattle.jm_stations.specs.Stations.{Stations}
 use Rattle.jm_core.specs.Queues.{rows_at, rows_in}
 use Rattle.jm_core.proofs.QueueCounts.{queues_published, queues_skipped}
+use Rattle.jm_core.proofs.QueueKeys.{keys_same}
 use Rattle.jm_core.proofs.QueueRows.{come_alone, rows_published, with_new}
 use Rattle.jm_core.proofs.queues.Queues.load.Goals as goal
 
@@ -18,8 +19,10 @@ invariant_of-self c =
     let reserved = rw (← c.self.view_is) at c.requires.reserved in
     let from = rw (← c.self.view_is) at c.requires.from in
     let within = All-head (λ j. j < length i.stations.list) c.args.index [] reserved.within in
-    let came = come_alone c.args.index c.args.place row i.stations.list new (rw c.skip_to.ensures at m.list) in
-    rw (m.next_place, c.skip_to.ensures) (queues_published c.args.index c.args.place row i.stations.list new within came (queues_skipped i.stations.list i.stations.next_place c.args.place from c.self.invariant))
+    let came = come_alone c.args.index c.args.place row i.stations.list new (rw c.skip_to.ensures at m.list) in (
+      rw (m.next_place, c.skip_to.ensures) (queues_published c.args.index c.args.place row i.stations.list new within came (queues_skipped i.stations.list i.stations.next_place c.args.place from c.self.invariant.0)),
+      keys_same i.stations.keys c.load.new.self.keys (m.keys ∙ ap (λ (x : Stations). x.keys) c.skip_to.ensures) c.self.invariant.1,
+    )
 
 pub returns-clause-rows : goal.returns-clause-rows
 returns-clause-rows c name found =
@@ -33,7 +36,7 @@ returns-clause-rows c name found =
     let came = come_alone c.args.index c.args.place row i.stations.list new (rw c.skip_to.ensures at m.list) in
     let keys = m.keys ∙ ap (λ (x : Stations). x.keys) c.skip_to.ensures in
     ap (λ ks. rows_at ks new) keys
-    ∙ rows_published i.stations.keys name c.args.index c.args.place row i.stations.list new c.self.invariant.unlimited at within came
+    ∙ rows_published i.stations.keys name c.args.index c.args.place row i.stations.list new c.self.invariant.0.unlimited at within came
     ∙ ap (λ (x : Stations). at_queue name (with_new c.args.place row) (rows_in x)) c.self.view_is
 
 pub load-requires-clause-within : goal.load-requires-clause-within

@@ -7,6 +7,7 @@ use Rattle.jm_stations.specs.Backlogs.{Backlog, answered_where, empty, gone}
 use Rattle.jm_stations.specs.Stations.{Stations}
 use Rattle.jm_core.specs.Queues.{rows_at, rows_in}
 use Rattle.jm_core.proofs.QueueCounts.{fewer_delivered, queues_changed}
+use Rattle.jm_core.proofs.QueueKeys.{keys_same}
 use Rattle.jm_core.proofs.QueueRows.{rows_changed, rows_found}
 use Rattle.jm_core.proofs.queues.Queues.receive.Goals as goal
 
@@ -14,9 +15,10 @@ pub invariant_of-self : goal.invariant_of-self
 invariant_of-self c =
     let i = c.self.inside in
     let m = c.receive_where.ensures in
-    let pass = read_selects (selector_read c.args.selector.now) in
-    rw (m.list, m.next_place)
-    (queues_changed c.args.index (deliver_chosen pass c.args.now gone) (fewer_delivered true (record { connection = 0; number = 0 }) 0 pass c.args.now) i.stations.list i.stations.next_place c.self.invariant)
+    let pass = read_selects (selector_read c.args.selector.now) in (
+      rw (m.list, m.next_place) (queues_changed c.args.index (deliver_chosen pass c.args.now gone) (fewer_delivered true (record { connection = 0; number = 0 }) 0 pass c.args.now) i.stations.list i.stations.next_place c.self.invariant.0),
+      keys_same i.stations.keys c.receive_where.new.self.keys m.keys c.self.invariant.1,
+    )
 
 pub returns-clause-answer : goal.returns-clause-answer
 returns-clause-answer c name found =

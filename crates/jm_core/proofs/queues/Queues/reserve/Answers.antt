@@ -1,4 +1,5 @@
 use Rattle.jm_core.proofs.QueueCounts.{queues_more}
+use Rattle.jm_core.proofs.QueueKeys.{keys_same}
 use Rattle.jm_core.proofs.QueueRows.{one_reserved, queues_reserved}
 use Rattle.jm_core.proofs.queues.Queues.reserve.Goals as goal
 
@@ -6,7 +7,7 @@ pub invariant_of-self : goal.invariant_of-self
 invariant_of-self c =
     let i = c.self.inside in
     let m = c.in_err-reserve.ensures in
-    rw m.next_place (queues_more i.stations.list c.reserve.new.self.list i.stations.next_place m.list c.self.invariant)
+    (rw m.next_place (queues_more i.stations.list c.reserve.new.self.list i.stations.next_place m.list c.self.invariant.0), keys_same i.stations.keys c.reserve.new.self.keys m.keys c.self.invariant.1)
 
 pub returns-in_err-reserve-clause-more : goal.returns-in_err-reserve-clause-more
 returns-in_err-reserve-clause-more c =
@@ -19,7 +20,7 @@ pub invariant_of-self-2 : goal.invariant_of-self-2
 invariant_of-self-2 c =
     let i = c.self.inside in
     let m = c.in_ok-reserve.ensures in
-    rw m.next_place (queues_more i.stations.list c.reserve.new.self.list i.stations.next_place m.list c.self.invariant)
+    (rw m.next_place (queues_more i.stations.list c.reserve.new.self.list i.stations.next_place m.list c.self.invariant.0), keys_same i.stations.keys c.reserve.new.self.keys m.keys c.self.invariant.1)
 
 pub returns-clause-more : goal.returns-clause-more
 returns-clause-more c =

@@ -1,0 +1,109 @@
+-- What is read of the core and of a plan without a change: the rows under each key, and what the plan deletes, puts and
+-- publishes.
+use Rattle.std.specs.Prelude.{◌≡◌, ◌<◌, ◌⊎◌, ◌++◌, ℕ, Bool, true, false, List, [], ◌∷◌, length, map, slice_index_or, Option, Some, None, filter}
+use Rattle.std.specs.List.{list_any}
+use Rattle.jm_dest.specs.declared.destination.Destination.{Destination}
+use Rattle.jm_dest.specs.declared.destination.Destination.TheVariants as destination
+use Rattle.jm_dest.specs.declared.key.Key.{Key}
+use Rattle.jm_dest.specs.declared.key.Key.TheVariants.{Queue, Own, SharedOwn, Durable}
+use Rattle.jm_dest.specs.Keys.{key_eq}
+use Rattle.jm_dest.specs.Names.{text_eq}
+use Rattle.jm_header.specs.declared.content.Content.{Content}
+use Rattle.jm_machine.specs.declared.state.Definition.{Definition}
+use Rattle.jm_machine.specs.declared.state.PlacedRow.{PlacedRow}
+use Rattle.jm_machine.specs.declared.state.Station.{Station}
+use Rattle.jm_machine.specs.Machine.{Publisher, State, accepts, publisher_of, station_of}
+use Rattle.jm_machine.specs.Wants.{placed_rows}
+use Rattle.jm_sub.specs.Subscriptions.{Subscription}
+use Rattle.jm_core.specs.declared.plan.Change.{Change}
+use Rattle.jm_core.specs.declared.plan.Change.TheVariants as change
+use Rattle.jm_core.specs.declared.publish.Publication.{Publication}
+use Rattle.jm_core.specs.Provider.{Provider, state_of}
+
+-- Rows
+
+-- the rows under a key, by place
+abbrev pub rows_under : State → Key → List PlacedRow
+rows_under state (Queue name) = state.queues name
+rows_under state (Own s c) = placed_rows (station_of (Own s c) state.stations)
+rows_under state (SharedOwn client name) = placed_rows (station_of (SharedOwn client name) state.stations)
+rows_under state (Durable client name) = placed_rows (station_of (Durable client name) state.stations)
+
+-- the keys of the subscriptions, and then those of queues
+abbrev pub keys_in : Provider → List Key
+keys_in p = p.held.keys ++ p.queues.keys
+
+-- the key stands there among those
+abbrev pub IsAt : List Key → Key → ℕ → Type 0
+IsAt keys key i = (i < length keys) × ((d : Key) → slice_index_or keys i d ≡ key)
+
+-- the key stands there among those; or nowhere, and no row stands under it
+abbrev pub IsIndexOf : Provider → Key → Option ℕ → Type 0
+IsIndexOf p key None = rows_under (state_of p) key ≡ []
+IsIndexOf p key (Some i) = IsAt (keys_in p) key i
+
+-- each key under which rows stand is one of those
+abbrev pub CoversRows : Provider → Type 0
+CoversRows p = (key : Key) → (rows_under (state_of p) key ≡ []) ⊎ ((i : ℕ) × IsAt (keys_in p) key i)
+
+-- Plans
+
+-- the key of the subscription that the change deletes
+abbrev pub deletes : Change → Option Key
+deletes (change.Unsubscribe key) = Some key
+deletes _ = None
+
+-- a subscription that was decided: its key, and what it asks for
+abbrev pub decides : Option (Key × Subscription) → Option (Key × Definition)
+decides None = None
+decides (Some d) = Some (d.0, d.1.definition)
+
+-- the key of the subscription that the change puts, and what that asks for
+abbrev pub puts : Change → Option (Key × Definition)
+puts (change.CreateConsumer s c source decision) = decides decision
+puts _ = None
+
+-- the publications of the change
+abbrev pub publications_of : Change → List Publication
+publications_of (change.Publish publications) = publications.items
+publications_of (change.Commit s publications) = publications.items
+publications_of _ = []
+
+-- the messages that the change publishes
+abbrev pub publishes : Change → List Content
+publishes change = map (λ (x : Publication). x.message) (publications_of change)
+
+-- Publications
+
+-- a message that goes there comes to the queue of that name
+abbrev pub is_for : List ℕ → Destination → Bool
+is_for name (destination.Queue queue) = text_eq queue name
+is_for name (destination.Topic topic) = false
+
+-- a subscription that there may be accepts the message of its publisher
+abbrev pub is_accepted : Publisher → Content → Option Station → Bool
+is_accepted publisher m None = false
+is_accepted publisher m (Some x) = accepts x.key x.definition publisher m
+
+-- the message comes to the key, and what is held there outlasts the process: to its queue, or to a durable subscription that
+-- accepts it
+abbrev pub lasts_at : State → Content → Key → Bool
+lasts_at state m (Queue name) = is_for name m.destination
+lasts_at state m (Own s c) = false
+lasts_at state m (SharedOwn client name) = false
+lasts_at state m (Durable client name) = is_accepted (publisher_of state.life m) m (station_of (Durable client name) state.stations)
+
+-- the key is that of a durable subscription
+abbrev pub is_durable : Key → Bool
+is_durable (Queue name) = false
+is_durable (Own s c) = false
+is_durable (SharedOwn client name) = false
+is_durable (Durable client name) = true
+
+-- those of the keys with these indexes that are durable subscriptions'
+abbrev pub durable_at : List Key → List ℕ → List Key
+durable_at keys indexes = filter is_durable (map (λ i. slice_index_or keys i (Queue [])) indexes)
+
+-- the keys are those at which the message lasts
+abbrev pub AreLasting : State → Content → List Key → Type 0
+AreLasting state m keys = (key : Key) → list_any (λ k. key_eq k key) keys ≡ lasts_at state m key
