@@ -1,7 +1,7 @@
 -- The calls that a scenario spells, and its limit of held rows (ours).
-use Rattle.std.specs.Prelude.{ℕ, List, [], ◌∷◌, Option, Some, None, option_map, option_and_then, codes}
+use Rattle.std.specs.Prelude.{ℕ, Bool, List, [], ◌∷◌, Option, Some, None, option_map, option_and_then, codes}
 use Rattle.serde_json.specs.Data.{Data, Items, no_items, item}
-use Rattle.serde_json.specs.Find.{get, as_str, as_array}
+use Rattle.serde_json.specs.Find.{get, as_bool, as_str, as_array}
 use Rattle.serde_json.specs.Read.{read}
 use Rattle.jm_dest.specs.declared.destination.Destination.{Destination}
 use Rattle.jm_machine.specs.declared.call.Who.TheVariants.{Connection as OfConnection, Session as OfSession}
@@ -14,7 +14,7 @@ use Rattle.jm_scenario.specs.Fields.{operation_named, is_known}
 use Rattle.jm_scenario.specs.Reading.{where_true}
 use Rattle.jm_scenario.specs.Values.{number, limit, session, mode, name, moment, required, optional, destination, no_local}
 use Rattle.jm_scenario.specs.declared.field.Owner.{Owner}
-use Rattle.jm_scenario.specs.declared.field.Owner.TheVariants.{Scenario as Outer, Open, Start, Stop, CloseConnection, Session, CloseSession, Acknowledge, Recover, Commit, Rollback, Consumer, Durable, Shared, SharedDurable, CloseConsumer, Missed, Unsubscribe, Send, Receive}
+use Rattle.jm_scenario.specs.declared.field.Owner.TheVariants.{Scenario as Outer, Open, Start, Stop, CloseConnection, Session, CloseSession, Acknowledge, Recover, Commit, Rollback, Consumer, Durable, Shared, SharedDurable, CloseConsumer, Missed, Unsubscribe, Listener, Send, Receive, Take, Done}
 use Rattle.jm_scenario.specs.declared.scenario.Scenario.{Scenario}
 
 -- a call by the connection of the record
@@ -74,10 +74,16 @@ unsubscribe_call value =
     option_and_then (λ s. option_map (λ n. call.Ask (OfSession s) (request.Unsubscribe n)) (required name (codes "name") value))
     (required session (codes "s") value)
 
--- a receive of that consumer at that moment
-abbrev pub receive_call : Data → Option ClientCall
-receive_call value =
-    option_and_then (λ s. option_and_then (λ k. option_map (λ now. call.Ask (OfSession s) (request.Receive k now))
+-- a call by the session of the record, about its consumer, with the truth value of that field
+abbrev pub mark_call : (ℕ → Bool → Request) → List ℕ → Data → Option ClientCall
+mark_call request field value =
+    option_and_then (λ s. option_and_then (λ k. option_map (λ mark. call.Ask (OfSession s) (request k mark))
+    (required as_bool field value)) (required number (codes "k") value)) (required session (codes "s") value)
+
+-- a receive of that consumer, or a take of its listener, at that moment
+abbrev pub receive_call : (ℕ → ℕ → Request) → Data → Option ClientCall
+receive_call request value =
+    option_and_then (λ s. option_and_then (λ k. option_map (λ now. call.Ask (OfSession s) (request k now))
     (required moment (codes "now") value)) (required number (codes "k") value)) (required session (codes "s") value)
 
 -- a send to that queue or topic at that moment
@@ -106,8 +112,11 @@ call_as SharedDurable value = shared_call request.CreateSharedDurable value
 call_as CloseConsumer value = consumer_request request.CloseConsumer value
 call_as Missed value = consumer_request request.Missed value
 call_as Unsubscribe value = unsubscribe_call value
+call_as Listener value = mark_call request.SetListener (codes "on") value
 call_as Send value = send_call value
-call_as Receive value = receive_call value
+call_as Receive value = receive_call request.Receive value
+call_as Take value = receive_call request.Take value
+call_as Done value = mark_call request.Done (codes "ok") value
 
 -- the operation of a record
 abbrev pub operation : Data → Option Owner

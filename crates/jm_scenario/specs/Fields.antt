@@ -9,7 +9,7 @@ use Rattle.jm_scenario.specs.declared.field.Field.TheVariants as field
 use Rattle.jm_scenario.specs.declared.field.FieldName.{FieldName}
 use Rattle.jm_scenario.specs.declared.field.FieldName.TheVariants.{Known, Unknown}
 use Rattle.jm_scenario.specs.declared.field.Owner.{Owner}
-use Rattle.jm_scenario.specs.declared.field.Owner.TheVariants.{Scenario, Open, Start, Stop, CloseConnection, Session, CloseSession, Acknowledge, Recover, Commit, Rollback, Consumer, Durable, Shared, SharedDurable, CloseConsumer, Missed, Unsubscribe, Send, Receive}
+use Rattle.jm_scenario.specs.declared.field.Owner.TheVariants.{Scenario, Open, Start, Stop, CloseConnection, Session, CloseSession, Acknowledge, Recover, Commit, Rollback, Consumer, Durable, Shared, SharedDurable, CloseConsumer, Missed, Unsubscribe, Listener, Send, Receive, Take, Done}
 
 -- the name of a field
 abbrev pub field_name : Field → List ℕ
@@ -26,7 +26,9 @@ field_name field.Topic = codes "topic"
 field_name field.Name = codes "name"
 field_name field.Selector = codes "selector"
 field_name field.NoLocal = codes "noLocal"
+field_name field.Listening = codes "on"
 field_name field.Now = codes "now"
+field_name field.Settled = codes "ok"
 field_name field.Priority = codes "priority"
 field_name field.Persistent = codes "persistent"
 field_name field.TimeToLive = codes "ttl"
@@ -62,8 +64,11 @@ operation_named text =
     (if bytes_eq text (codes "close-consumer") then Some CloseConsumer else
     (if bytes_eq text (codes "missed") then Some Missed else
     (if bytes_eq text (codes "unsubscribe") then Some Unsubscribe else
+    (if bytes_eq text (codes "listener") then Some Listener else
     (if bytes_eq text (codes "send") then Some Send else
-    (if bytes_eq text (codes "receive") then Some Receive else None))))))))))))))))))
+    (if bytes_eq text (codes "receive") then Some Receive else
+    (if bytes_eq text (codes "take") then Some Take else
+    (if bytes_eq text (codes "done") then Some Done else None)))))))))))))))))))))
 
 -- the name of a field of a draft
 abbrev pub is_draft_field : List ℕ → Bool
@@ -95,9 +100,12 @@ has SharedDurable name = bytes_eq name (codes "op") || bytes_eq name (codes "s")
 has CloseConsumer name = bytes_eq name (codes "op") || bytes_eq name (codes "s") || bytes_eq name (codes "k")
 has Missed name = bytes_eq name (codes "op") || bytes_eq name (codes "s") || bytes_eq name (codes "k")
 has Unsubscribe name = bytes_eq name (codes "op") || bytes_eq name (codes "s") || bytes_eq name (codes "name")
+has Listener name = bytes_eq name (codes "op") || bytes_eq name (codes "s") || bytes_eq name (codes "k") || bytes_eq name (codes "on")
 has Send name = bytes_eq name (codes "op") || bytes_eq name (codes "s") || bytes_eq name (codes "queue") || bytes_eq name (codes "topic")
     || bytes_eq name (codes "now") || is_draft_field name
 has Receive name = bytes_eq name (codes "op") || bytes_eq name (codes "s") || bytes_eq name (codes "k") || bytes_eq name (codes "now")
+has Take name = bytes_eq name (codes "op") || bytes_eq name (codes "s") || bytes_eq name (codes "k") || bytes_eq name (codes "now")
+has Done name = bytes_eq name (codes "op") || bytes_eq name (codes "s") || bytes_eq name (codes "k") || bytes_eq name (codes "ok")
 
 -- each member has a name that its owner has
 abbrev pub has_each : Owner → Members → Bool

@@ -1,4 +1,4 @@
-ghost use Rattle.std.specs.Prelude.{◌≡◌};
+ghost use Rattle.std.specs.Prelude.{◌≡◌, codes};
 ghost use Rattle.serde_json.specs.View.{view};
 ghost use Rattle.jm_scenario.specs.Calls as spec;
 ghost use Rattle.jm_scenario.specs.Reading.{Reads, ReadsExactly};
@@ -8,7 +8,8 @@ use crate::field::{Field, Owner, not_known, unknown};
 use crate::held::Held;
 use crate::misfit::Misfit;
 use crate::value::{
-    client, connection, consumer, destination, mode, no_local, now, selector, session, subscription,
+    client, connection, consumer, destination, mark, mode, no_local, now, selector, session,
+    subscription,
 };
 use jm_machine::{ClientCall, Request, Who};
 use serde_json::Value;
@@ -169,13 +170,43 @@ fn missed(object: &Value) -> Result<ClientCall, Misfit>
     Ok(ClientCall::Ask { who, request })
 }
 
+fn set_listener(object: &Value) -> Result<ClientCall, Misfit>
+    ensures { ReadsExactly result (spec.mark_call Request.SetListener (codes "on") (view object.now)) }
+{
+    let who = Who::Session(session(object)?);
+    let consumer = consumer(object)?;
+    let on = mark(object, Field::Listening)?;
+    let request = Request::SetListener { consumer, on };
+    Ok(ClientCall::Ask { who, request })
+}
+
 fn receive(object: &Value) -> Result<ClientCall, Misfit>
-    ensures { ReadsExactly result (spec.receive_call (view object.now)) }
+    ensures { ReadsExactly result (spec.receive_call Request.Receive (view object.now)) }
 {
     let who = Who::Session(session(object)?);
     let consumer = consumer(object)?;
     let now = now(object)?;
     let request = Request::Receive { consumer, now };
+    Ok(ClientCall::Ask { who, request })
+}
+
+fn take(object: &Value) -> Result<ClientCall, Misfit>
+    ensures { ReadsExactly result (spec.receive_call Request.Take (view object.now)) }
+{
+    let who = Who::Session(session(object)?);
+    let consumer = consumer(object)?;
+    let now = now(object)?;
+    let request = Request::Take { consumer, now };
+    Ok(ClientCall::Ask { who, request })
+}
+
+fn done(object: &Value) -> Result<ClientCall, Misfit>
+    ensures { ReadsExactly result (spec.mark_call Request.Done (codes "ok") (view object.now)) }
+{
+    let who = Who::Session(session(object)?);
+    let consumer = consumer(object)?;
+    let ok = mark(object, Field::Settled)?;
+    let request = Request::Done { consumer, ok };
     Ok(ClientCall::Ask { who, request })
 }
 
@@ -218,8 +249,11 @@ fn call_as(alloc: Global, object: &Value, operation: Owner) -> Result<ClientCall
         Owner::CloseConsumer => close_consumer(object),
         Owner::Missed => missed(object),
         Owner::Unsubscribe => unsubscribe(alloc, object),
+        Owner::Listener => set_listener(object),
         Owner::Send => send(alloc, object),
         Owner::Receive => receive(object),
+        Owner::Take => take(object),
+        Owner::Done => done(object),
     }
 }
 

@@ -39,8 +39,12 @@ pub enum Field {
     /// Whether a new consumer gets nothing that its own connection publishes; of a durable subscription, nothing that
     /// connections with its client identifier publish.
     NoLocal,
-    /// The moment of a send or a receive.
+    /// Whether the consumer listens from then on.
+    Listening,
+    /// The moment of a send, of a receive or of a take.
     Now,
+    /// Whether what a listener is done with is settled, and not given back.
+    Settled,
     /// JMSPriority, from 0 to 9.
     Priority,
     /// Whether the delivery mode is PERSISTENT.
@@ -90,8 +94,11 @@ pub(crate) enum Owner {
     CloseConsumer,
     Missed,
     Unsubscribe,
+    Listener,
     Send,
     Receive,
+    Take,
+    Done,
 }
 
 impl Field {
@@ -113,7 +120,9 @@ impl Field {
             Field::Name => "name",
             Field::Selector => "selector",
             Field::NoLocal => "noLocal",
+            Field::Listening => "on",
             Field::Now => "now",
+            Field::Settled => "ok",
             Field::Priority => "priority",
             Field::Persistent => "persistent",
             Field::TimeToLive => "ttl",
@@ -175,8 +184,11 @@ impl Owner {
             "close-consumer" => Some(Owner::CloseConsumer),
             "missed" => Some(Owner::Missed),
             "unsubscribe" => Some(Owner::Unsubscribe),
+            "listener" => Some(Owner::Listener),
             "send" => Some(Owner::Send),
             "receive" => Some(Owner::Receive),
+            "take" => Some(Owner::Take),
+            "done" => Some(Owner::Done),
             _ => None,
         }
     }
@@ -211,10 +223,12 @@ impl Owner {
             }
             Owner::CloseConsumer | Owner::Missed => matches!(name, "op" | "s" | "k"),
             Owner::Unsubscribe => matches!(name, "op" | "s" | "name"),
+            Owner::Listener => matches!(name, "op" | "s" | "k" | "on"),
             Owner::Send => {
                 matches!(name, "op" | "s" | "queue" | "topic" | "now") || is_draft_field(name)
             }
-            Owner::Receive => matches!(name, "op" | "s" | "k" | "now"),
+            Owner::Receive | Owner::Take => matches!(name, "op" | "s" | "k" | "now"),
+            Owner::Done => matches!(name, "op" | "s" | "k" | "ok"),
         }
     }
 }

@@ -1,5 +1,5 @@
 ghost use Rattle.std.specs.Prelude.{◌≡◌, ◌≢◌, ◌<◌, ◌^◌, Some, None, MatchResult, option_copied, option_map, option_and_then, codes, nat_lt};
-ghost use Rattle.serde_json.specs.Find.{get, as_str, as_number, as_u64};
+ghost use Rattle.serde_json.specs.Find.{get, as_bool, as_str, as_number, as_u64};
 ghost use Rattle.serde_json.specs.View.{view};
 ghost use Rattle.jm_scenario.specs.Fields.{field_name};
 ghost use Rattle.jm_scenario.specs.Reading.{Reads, ReadsExactly, where_true};
@@ -176,6 +176,17 @@ pub(crate) fn now(object: &Value) -> Result<Moment, Misfit>
     ensures { ReadsExactly result (spec.required spec.moment (codes "now") (view object.now)) }
 {
     moment_of(required(object, Field::Now)?, Field::Now)
+}
+
+/// The truth value of a field that has to stand.
+pub(crate) fn mark(object: &Value, field: Field) -> Result<bool, Misfit>
+    ensures { ReadsExactly result (spec.required as_bool (field_name field) (view object.now)) }
+{
+    let value = required(object, field)?;
+    match value.as_bool() {
+        Some(truth) => Ok(truth),
+        None => Err(misfit(value, field)),
+    }
 }
 
 /// The value of a field that may be absent.
