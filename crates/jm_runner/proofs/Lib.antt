@@ -1,4 +1,5 @@
 pub mod Consumed
 pub mod Faults
 pub mod Limits
+pub mod Told
 pub mod Written

@@ -2,11 +2,13 @@
 use Rattle.std.specs.Prelude.{◌≡◌, ◌==◌, ◌++◌, ℕ, suc, not, Bool, true, false, List, [], ◌∷◌, length, Option, Some, None, Result, unwrap_or, slice_get, if◌then◌else◌}
 use Rattle.jm_base.specs.declared.refusal.Refusal.{Refusal}
 use Rattle.jm_dest.specs.declared.key.Key.{Key}
-use Rattle.jm_machine.specs.Entries.{entry_of, entries_of}
-use Rattle.jm_machine.specs.Isolation.{alone, is_unshared}
+use Rattle.jm_machine.specs.Entries.{entry_of, entries_of, is_not_made}
+use Rattle.jm_machine.specs.Isolation.{alone, is_unshared, keeps_numbers}
+use Rattle.jm_machine.specs.Lone.{Scope, is_answered, scope_of}
 use Rattle.jm_machine.specs.Machine.{new_core}
 use Rattle.jm_machine.specs.declared.answer.Answer.{Answer}
 use Rattle.jm_machine.specs.declared.call.ClientCall.{ClientCall}
+use Rattle.jm_machine.specs.declared.call.ClientCall.TheVariants.{Ask, Send, CommitSession}
 use Rattle.jm_scenario.specs.Key.{key_of_text}
 use Rattle.jm_scenario.specs.Lines.{line}
 use Rattle.jm_scenario.specs.declared.scenario.Scenario.{Scenario}
@@ -46,6 +48,28 @@ lines_at numbers (placed ∷ replies) = line_at numbers placed ++ lines_at numbe
 abbrev pub lines_alone : ℕ → Key → List ClientCall → List (Result Answer Refusal) → List ℕ
 lines_alone limit key calls replies = lines_at (numbers_from 1 1 calls replies) (alone key (new_core 1 limit) (entries_of 1 calls replies))
 
+-- the line of a reply that a run in opening 1 gave to the call of that number, where it is a call that the subscription
+-- answers and counts as made
+abbrev pub line_told : Scope → ℕ → ClientCall → Result Answer Refusal → List ℕ
+line_told scope number (Ask who request) reply = if is_not_made reply then [] else (if is_answered scope who request then line number reply else [])
+line_told scope number (Send s draft destination now) reply = []
+line_told scope number (CommitSession s) reply = []
+
+-- the lines of the replies to its calls, with their numbers, the first call having that number
+abbrev pub lines_told : Scope → ℕ → List ClientCall → List (Result Answer Refusal) → List ℕ
+lines_told scope number [] replies = []
+lines_told scope number (call ∷ calls) [] = []
+lines_told scope number (call ∷ calls) (reply ∷ replies) = line_told scope number call reply ++ lines_told scope (suc number) calls replies
+
+-- the lines of the replies that the run gave to the key's calls, in opening 1 with that limit of held rows
+abbrev pub lines_of_key : ℕ → Key → List ClientCall → List (Result Answer Refusal) → List ℕ
+lines_of_key limit key calls replies = lines_told (scope_of key (new_core 1 limit) (entries_of 1 calls replies)) 1 calls replies
+
+-- where the numbers of the key's consumers name nothing else, what is told of the key is what the run told its sessions: the
+-- law of isolation, of this run
+abbrev pub IsOfRun : ℕ → Key → List ClientCall → List (Result Answer Refusal) → List ℕ → Type 0
+IsOfRun limit key calls replies text = keeps_numbers key (new_core 1 limit) (entries_of 1 calls replies) ≡ true → text ≡ lines_of_key limit key calls replies
+
 -- the key is that of an unshared subscription in the record of the run: in opening 1 with that limit of held rows, and by
 -- what its entries name
 abbrev pub is_unshared_in : ℕ → Key → List ClientCall → List (Result Answer Refusal) → Bool
@@ -59,13 +83,15 @@ IsKey limit text key calls replies = (key_of_text text ≡ Some key) × (is_unsh
 abbrev pub IsRunOf : Scenario → List (Result Answer Refusal) → Type 0
 IsRunOf scenario replies = IsRun (held_limit None scenario.held) scenario.calls replies
 
--- what is printed is the lines of the key's subscription alone, over a run of the scenario that a source gives, and the exit status is that of the run
+-- what is printed is the lines of the key's subscription alone, over a run of the scenario that a source gives, which are
+-- those of that run, and the exit status is that of the run
 abbrev pub TellsLone : {R : Type 0} → (R → Option (List ℕ)) → List ℕ → Source R → Source R → List ℕ → ℕ → Type 0
 TellsLone remaining spelled old new text status =
     (scenario : Scenario) × (replies : List (Result Answer Refusal)) × (key : Key)
     × GivesScenario remaining old new scenario × IsRunOf scenario replies
     × IsKey (held_limit None scenario.held) spelled key scenario.calls replies
-    × (text ≡ lines_alone (held_limit None scenario.held) key scenario.calls replies) × (status ≡ status_of replies)
+    × (text ≡ lines_alone (held_limit None scenario.held) key scenario.calls replies)
+    × IsOfRun (held_limit None scenario.held) key scenario.calls replies text × (status ≡ status_of replies)
 
 -- why a text gives no key: it spells none, or memory is refused
 abbrev pub RefusesText : List ℕ → Fault → Type 0

@@ -1,6 +1,7 @@
 ghost use Rattle.std.specs.Prelude.{◌≡◌, ◌≤◌, ◌+◌, IfOk, IfSome, string_bytes};
 ghost use Rattle.std.specs.List.{list_any};
 ghost use Rattle.jm_core.specs.Provider.{state_of};
+ghost use Rattle.jm_machine.specs.Isolation.{AreIsolated};
 ghost use Rattle.jm_machine.specs.Machine as machine;
 ghost use Rattle.jm_words.specs.Words.{IsLimit};
 ghost use Rattle.jm_runner.specs.Ending.{Ends, ToldBy};
@@ -56,7 +57,8 @@ pub(crate) fn run(
     calls: Vec<ClientCall>,
 ) -> Result<Vec<Reply>, AllocError>
     requires { IsLimit limit }
-    ensures { IfOk result (λ replies. IsRun limit calls.items replies.items) }
+    ensures ran { IfOk result (λ replies. IsRun limit calls.items replies.items) }
+    ensures isolated { IfOk result (λ replies. AreIsolated (machine.new_core 1 limit) calls.items replies.items) }
 {
     new_core(alloc, limit).run(calls)
 }

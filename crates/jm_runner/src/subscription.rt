@@ -1,12 +1,13 @@
 ghost use Rattle.std.specs.Prelude.{◌≡◌, ◌≤◌, ◌+◌, Some, None, true, string_bytes, IfOk, IfErr, IfSome, MatchResult};
 ghost use Rattle.jm_core.specs.Provider.{state_of};
+ghost use Rattle.jm_machine.specs.Isolation.{AreIsolated};
 ghost use Rattle.jm_machine.specs.Machine.{new_core};
 ghost use Rattle.jm_scenario.specs.Key.{key_of_text};
 ghost use Rattle.jm_words.specs.Words.{IsLimit};
 ghost use Rattle.jm_runner.specs.Ending.{Ends, ToldBy};
 ghost use Rattle.jm_runner.specs.Lone as spec;
 ghost use Rattle.jm_runner.specs.Lone.{IsRunOf, RefusesLone, TellsLone};
-ghost use Rattle.jm_runner.specs.Play.{GivesScenario, RefusesScenario};
+ghost use Rattle.jm_runner.specs.Play.{GivesScenario, RefusesScenario, held_limit as spec_limit};
 ghost use Rattle.jm_runner.specs.Source.{reads, reads_max};
 
 use crate::ending::{Ending, Printout, ended};
@@ -109,6 +110,7 @@ fn ran<R: Read>(alloc: Global, source: &mut Source<R>) -> Result<(Scenario, Vec<
         (λ ran. GivesScenario R.remaining source.old source.new ran.0 × IsRunOf ran.0 ran.1.items)
         (RefusesScenario R.remaining source.old source.new) }
     ensures limit { IfOk result (λ ran. IfSome ran.0.held IsLimit) }
+    ensures isolated { IfOk result (λ ran. AreIsolated (new_core 1 (spec_limit None ran.0.held)) ran.0.calls ran.1.items) }
     ensures reads { reads source.new ≤ reads source.old + reads_max }
 {
     let scenario = scenario_of(alloc, source)?;
@@ -151,7 +153,8 @@ fn lines_from(
     }
 }
 
-/// The same from the opening of a run with that limit of held rows.
+/// The same from the opening of a run with that limit of held rows, whose replies are isolated: so, where the numbers of the
+/// key's consumers name nothing else, they are the lines of the replies that the run gave to the key's calls.
 fn lines_alone(
     alloc: Global,
     limit: u32,
@@ -159,9 +162,11 @@ fn lines_alone(
     calls: &[ClientCall],
     replies: &[Reply],
 ) -> Result<String, Fault>
-    requires { IsLimit limit }
+    requires limit { IsLimit limit }
+    requires isolated { AreIsolated (new_core 1 limit) calls.now replies.now }
     ensures ok { IfOk result (λ lines. (string_bytes lines ≡ spec.lines_alone limit key.now calls.now replies.now)
-        × (spec.is_unshared_in limit key.now calls.now replies.now ≡ true)) }
+        × (spec.is_unshared_in limit key.now calls.now replies.now ≡ true)
+        × spec.IsOfRun limit key.now calls.now replies.now (string_bytes lines)) }
     ensures err { IfErr result (spec.RefusesKey limit key.now calls.now replies.now) }
 {
     let opening = new_core(alloc, limit);
@@ -186,7 +191,8 @@ fn told<R: Read>(alloc: Global, source: &mut Source<R>, key: &str) -> Result<Pri
 
 /// Reads a scenario, in at most 16,777,217 reads, and makes its calls on a new provider, then reads the key of a
 /// subscription, a consumer's own or a durable one, and prints what this subscription answers alone: a line for each
-/// reply, with the number of its call. It is fed with the calls of its own sessions, with the accepted calls of their
+/// reply, with the number of its call. By the law of isolation these are the replies that the run gave to the key's calls,
+/// where the numbers of its consumers name nothing else. Alone, it is fed with the calls of its own sessions, with the accepted calls of their
 /// connections, and with the committed messages that it accepts. Its own sessions are the consumer's; of a durable one
 /// those that ask for it, or for its end, with its client identifier. A subscription that is not durable holds at most
 /// as many rows as the scenario says, in the run and alone; where it says none, 100,000. The exit status is that of
