@@ -3,4 +3,4 @@
 
 mod steps;
 
-pub use steps::{Lists, step, step_without_store};
+pub use steps::{step, step_without_store};

@@ -1,10 +1,10 @@
 //! Steps whose changes a keeper keeps.
 
-ghost use Rattle.std.specs.Prelude.{◌≡◌, [], true, Err, IsTrue, IfOk, IfErr, OnOk, OnErr, IsErrOf};
+ghost use Rattle.std.specs.Prelude.{◌≡◌, false, true, Err, IsTrue, IfErr, OnOk, OnErr, IsErrOf};
 ghost use Rattle.jm_core.specs.Plans.{IsPlan};
 ghost use Rattle.jm_core.specs.Provider.{state_of};
 ghost use Rattle.jm_core.specs.Steps.{StepFits};
-ghost use Rattle.jm_keep.specs.Persisted.{IsPersisted, LeadsTo};
+ghost use Rattle.jm_keep.specs.Persisted.{IsPersisted};
 ghost use Rattle.jm_keep.specs.Stored.{HasRisen, changed_all};
 ghost use Rattle.jm_kept.specs.Kept.{KeptFits};
 ghost use Rattle.jm_machine.specs.Entries.{is_not_made};
@@ -13,21 +13,8 @@ ghost use Rattle.jm_machine.specs.Machine as machine;
 use jm_base::Refusal;
 use jm_core::{Answer, Core, Plan, Step};
 use jm_keep::{Keep, RowChange, StoreFault};
-use std::alloc::{AllocError, Global};
-
-/// Who lists what a planned step changes of what is stored.
-pub trait Lists {
-    /// The changes, in turn. `AllocError` where a request for memory was refused.
-    fn changes(
-        &self,
-        alloc: Global,
-        core: &Core,
-        step: &Step,
-        plan: &Plan,
-    ) -> Result<Vec<RowChange>, AllocError>
-        requires { IsPlan core.now step.now.who step.now.call plan.now }
-        ensures { IfOk result (λ changes. LeadsTo (state_of core.now) (machine.step (state_of core.now) step.now.who step.now.call) changes.items) };
-}
+use jm_listed::changes;
+use std::alloc::Global;
 
 fn refusal_of(fault: StoreFault) -> Refusal
     ensures device { fault ≡ StoreFault.Device → result ≡ Refusal.Store }
@@ -57,9 +44,8 @@ fn write<K: Keep>(keeper: &mut K, changes: &[RowChange]) -> Result<(), Refusal>
 }
 
 /// Lists what the planned step changes, and has the keeper write it.
-fn keep<K: Keep, L: Lists>(
+fn keep<K: Keep>(
     alloc: Global,
-    lists: &L,
     core: &Core,
     keeper: &mut K,
     step: &Step,
@@ -69,10 +55,11 @@ fn keep<K: Keep, L: Lists>(
     ensures written { IsTrue (K.is_clean keeper.new) → IsPersisted (state_of core.now) (K.stored keeper.old) →
         OnOk result (IsPersisted (machine.step (state_of core.now) step.now.who step.now.call) (K.stored keeper.new)) }
     ensures refused { IsTrue (K.is_clean keeper.new) → OnErr result (K.stored keeper.new ≡ K.stored keeper.old) }
+    ensures clean { IsTrue (K.is_clean keeper.new) → IsTrue (K.is_clean keeper.old) }
     ensures not_made { IfErr result (λ refusal. is_not_made (Err refusal) ≡ true) }
     ensures store { IsErrOf result Refusal.Store → HasRisen (K.faults keeper.old) (K.faults keeper.new) }
 {
-    let changes = lists.changes(alloc, core, step, plan)?;
+    let changes = changes(alloc, core, step, plan)?;
     write(keeper, &changes)
 }
 
@@ -85,21 +72,24 @@ pub fn step_without_store(core: &mut Core, step: &Step) -> Result<Answer, Refusa
 }
 
 /// Plans one step, has the keeper write what it changes, and installs it. Over a keeper that keeps nothing it is
-/// `step_without_store`. A refusal is the first cause that stands, as `Core::step` says, and leaves core and keeper as they
+/// `step_without_store`, and leaves the keeper alone. A refusal is the first cause that stands, as `Core::step` says, and leaves core and keeper as they
 /// were; so do these, which come after all others:
 ///
 /// - `Memory`: a request for memory was refused, as `Core::step` says, or to list what the step changes, or to the keeper.
 /// - `Store`: the keeper failed to write what the step changes: its count of faults rose in this call, or is at its last
 ///   value.
-pub fn step<K: Keep, L: Lists>(
+pub fn step<K: Keep>(
     alloc: Global,
-    lists: &L,
     core: &mut Core,
     keeper: &mut K,
     step: &Step,
 ) -> Result<Answer, Refusal>
     ensures fits { KeptFits (state_of core.old) step.now.who step.now.call result (state_of core.new) }
+    ensures without { K.is_keeping keeper.old ≡ false →
+        StepFits (state_of core.old) step.now.who step.now.call result (state_of core.new) }
+    ensures alone { K.is_keeping keeper.old ≡ false → keeper.new ≡ keeper.old }
     ensures store { IsErrOf result Refusal.Store → HasRisen (K.faults keeper.old) (K.faults keeper.new) }
+    ensures clean { IsTrue (K.is_clean keeper.new) → IsTrue (K.is_clean keeper.old) }
     ensures kept { IsTrue (K.is_clean keeper.new) → IsPersisted (state_of core.old) (K.stored keeper.old) →
         IsPersisted (state_of core.new) (K.stored keeper.new) }
 {
@@ -110,6 +100,6 @@ pub fn step<K: Keep, L: Lists>(
         Ok(plan) => plan,
         Err(refusal) => return Err(refusal),
     };
-    keep(alloc, lists, core, keeper, step, &plan)?;
+    keep(alloc, core, keeper, step, &plan)?;
     Ok(core.install(plan))
 }

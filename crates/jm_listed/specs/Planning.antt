@@ -1,0 +1,8 @@
+-- A step that is planned on the core, as it is seen.
+use Rattle.jm_core.specs.declared.plan.Change.{Change}
+use Rattle.jm_core.specs.Provider.{Provider}
+
+-- the core as it stands, and what the plan changes
+pub record Planning : Type 0 where
+  pub core : Provider
+  pub plan : Change
