@@ -2,7 +2,7 @@ ghost use Rattle.std.specs.Prelude.{◌≡◌, ◌≢◌, nat_eq, is_none, IfOk,
 ghost use Rattle.jm_base.specs.declared.refusal.Refusal.TheVariants.{Memory};
 ghost use Rattle.jm_selector.specs.Selectors as spec;
 ghost use Rattle.jm_selector.specs.Selectors.{read_selects, refused, selector_read, selector_refusal};
-ghost use Rattle.std.specs.Option.{option_eq};
+ghost use Rattle.std.specs.Option.{option_copied, option_eq};
 ghost use Rattle.std.specs.Cmp.Lexicographic.{pointwise, nat_list_eq_equiv};
 ghost use Rattle.std.proofs.Common.{rules};
 
@@ -34,13 +34,13 @@ impl Drop for Selector {
 
 impl Model for Selector {
     ghost use Rattle.std.specs.Prelude.{◌≡◌, ℕ, List, Option, Ok};
-    ghost use Rattle.jm_selector.specs.Selectors.{selector_read};
+    ghost use Rattle.jm_selector.specs.Selectors.{selector_read, standing};
 
     ghost Value = { Option (List ℕ) };
 
     ghost view = { λ s. s.text };
 
-    ghost invariant = { λ s. selector_read s.text ≡ Ok s.tree };
+    ghost invariant = { λ s. (selector_read s.text ≡ Ok s.tree) × (standing s.text (Ok s.tree) ≡ s.text) };
 }
 
 /// An equal text, or none. `AllocError` where a request for memory was refused.
@@ -142,6 +142,17 @@ impl Selector {
         ensures { result ≡ is_none self.now }
     {
         self.text.is_none()
+    }
+
+    /// Its text, as it was handed in, and none where there is none: a text that stands holds a token. Takes no memory.
+    pub fn text(&self) -> Option<&str>
+        ensures text { option_copied result ≡ self.now }
+        ensures stands { spec.standing self.now (selector_read self.now) ≡ self.now }
+    {
+        match &self.text {
+            None => None,
+            Some(text) => Some(text.as_str()),
+        }
     }
 
     /// Whether it is TRUE for the message, or there is none (Jakarta Messaging 3.1, section 3.8.1). Takes no memory.

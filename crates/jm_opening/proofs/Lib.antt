@@ -1,0 +1,9 @@
+pub mod Texts
+pub mod Values
+pub mod Effects
+pub mod Faults
+pub mod Steps
+pub mod Tables
+pub mod MetaRows
+pub mod FoundLemmas
+pub mod Serving

@@ -1,0 +1,4 @@
+pub mod Judged
+pub mod Meta
+pub mod Opened
+pub mod Opening

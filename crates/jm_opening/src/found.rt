@@ -1,0 +1,14 @@
+//! What a database is before its opening.
+
+/// What a database is before its opening. The number is that of this opening: one more than that of the last.
+#[derive(Clone, Copy, Debug, PartialEq)]
+pub enum Found {
+    /// Nothing stands in it: this opening is its first.
+    Blank,
+    /// The tables of version 1 stand in it, without the index of rows by place.
+    Bare(u32),
+    /// The tables of version 1 and the index.
+    Indexed(u32),
+    /// The tables of version 2.
+    Current(u32),
+}

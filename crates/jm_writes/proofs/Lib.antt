@@ -1,0 +1,17 @@
+pub mod Said
+pub mod Left
+pub mod Edits
+pub mod Found
+pub mod Values
+pub mod Hits
+pub mod Serving
+pub mod Kept
+pub mod Family
+pub mod Drops
+pub mod Puts
+pub mod Counted
+pub mod Stationed
+pub mod Upserts
+pub mod Refused
+pub mod Walked
+pub mod Empty

@@ -1,0 +1,28 @@
+use Rattle.sqlite.specs.Held.{state}
+use Rattle.jm_writes.proofs.Refused.{then_written, then_refused, then_clean}
+use Rattle.jm_writes.proofs.store.StoreKeep.write.Goals as goal
+
+pub returns-in-Ok-clause-written : goal.returns-in-Ok-clause-written
+returns-in-Ok-clause-written g c k =
+    let e = c.in-Ok.ensures in
+    rw (← c.self.view_is) (then_written (state g.S.Store c.self.inside.conn) (state g.S.Store c.write.new.conn) c.self.invariant.1 e.survives.clean e.was_open k e.written).3.stored_is
+
+pub returns-in-Ok-clause-clean : goal.returns-in-Ok-clause-clean
+returns-in-Ok-clause-clean g c k =
+    let e = c.in-Ok.ensures in rw (← c.self.view_is) (then_clean (state g.S.Store c.self.inside.conn) (state g.S.Store c.write.new.conn) c.self.invariant.1 e.survives.clean e.was_open k)
+
+pub returns-then-matches-clause-refused : goal.returns-then-matches-clause-refused
+returns-then-matches-clause-refused g c k =
+    let e = c.in-Err.ensures in rw (← c.self.view_is) (then_refused (state g.S.Store c.self.inside.conn) (state g.S.Store c.write.new.conn) c.self.invariant.1 e.survives.clean e.was_open k e.refused)
+
+pub returns-then-matches-clause-clean : goal.returns-then-matches-clause-clean
+returns-then-matches-clause-clean g c k =
+    let e = c.in-Err.ensures in rw (← c.self.view_is) (then_clean (state g.S.Store c.self.inside.conn) (state g.S.Store c.write.new.conn) c.self.invariant.1 e.survives.clean e.was_open k)
+
+pub returns-else-matches-clause-refused : goal.returns-else-matches-clause-refused
+returns-else-matches-clause-refused g c k =
+    let e = c.in-Err.ensures in rw (← c.self.view_is) (then_refused (state g.S.Store c.self.inside.conn) (state g.S.Store c.write.new.conn) c.self.invariant.1 e.survives.clean e.was_open k e.refused)
+
+pub returns-else-matches-clause-clean : goal.returns-else-matches-clause-clean
+returns-else-matches-clause-clean g c k =
+    let e = c.in-Err.ensures in rw (← c.self.view_is) (then_clean (state g.S.Store c.self.inside.conn) (state g.S.Store c.write.new.conn) c.self.invariant.1 e.survives.clean e.was_open k)

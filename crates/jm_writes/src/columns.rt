@@ -1,0 +1,96 @@
+//! What stands in the columns of rows.
+
+ghost use Rattle.std.specs.Prelude.{◌≡◌, pos, Some, IfOk, FitsSigned};
+ghost use Rattle.std.specs.Int.{w64};
+ghost use Rattle.jm_tables.specs.Rows.{selector_in};
+ghost use Rattle.jm_writes.specs.Columns as spec;
+
+use jm_dest::{ClientId, Key};
+use jm_selector::Selector;
+use sqlite::{Error, ErrorCode};
+
+/// Of a change that the tables cannot hold: it speaks of a key that is neither a queue's nor a durable subscription's, of a
+/// place or a moment past 2^63-1, or of a queue that asks for something, or of a subscription that asks for nothing.
+pub const NOT_STORED: Error = Error::SqliteFailure(ErrorCode::TypeMismatch);
+
+fn durable_family(client: &Option<ClientId>) -> Option<i64>
+    ensures { result ≡ spec.durable_family client.now }
+{
+    match client {
+        Some(client) if client.as_str().is_empty() => None,
+        _ => Some(2),
+    }
+}
+
+/// The family of the key: 1 of a queue, 2 of a durable subscription, and none of another key.
+fn family_of(key: &Key) -> Option<i64>
+    ensures { result ≡ spec.family_of key.now }
+{
+    match key {
+        Key::Queue(_) => Some(1),
+        Key::Durable(client, _) => durable_family(client),
+        Key::Own(_, _) | Key::SharedOwn(_, _) => None,
+    }
+}
+
+/// The family of the key. `NOT_STORED` where it has none.
+pub fn stored_family(key: &Key) -> Result<i64, Error>
+    ensures { IfOk result (λ family. spec.family_of key.now ≡ Some family) }
+{
+    match family_of(key) {
+        Some(family) => Ok(family),
+        None => Err(NOT_STORED),
+    }
+}
+
+fn text_of(client: &Option<ClientId>) -> &str
+    ensures { result.now ≡ spec.text_of client.now }
+{
+    match client {
+        None => "",
+        Some(client) => client.as_str(),
+    }
+}
+
+/// The client of the key, and an empty text where it has none.
+pub fn client_of(key: &Key) -> &str
+    ensures { result.now ≡ spec.client_of key.now }
+{
+    match key {
+        Key::Queue(_) | Key::Own(_, _) => "",
+        Key::SharedOwn(client, _) | Key::Durable(client, _) => text_of(client),
+    }
+}
+
+/// The name of the key, and an empty text where it has none.
+pub fn name_of(key: &Key) -> &str
+    ensures { result.now ≡ spec.name_of key.now }
+{
+    match key {
+        Key::Queue(name) => name.as_str(),
+        Key::Own(_, _) => "",
+        Key::SharedOwn(_, name) | Key::Durable(_, name) => name.as_str(),
+    }
+}
+
+/// The number as a column holds it. `NOT_STORED` where it is past 2^63-1.
+pub fn integer(number: u64) -> Result<i64, Error>
+    ensures value { IfOk result (λ integer. integer ≡ pos number) }
+    ensures fits { IfOk result (FitsSigned w64) }
+{
+    match i64::try_from(number) {
+        Ok(integer) => Ok(integer),
+        Err(_) => Err(NOT_STORED),
+    }
+}
+
+/// The text of the selector, and an empty text where there is none.
+#[tactic(auto, using(crate::proofs::Empty::empty_none))]
+pub fn selector_of(selector: &Selector) -> &str
+    ensures { selector_in result.now ≡ selector.now }
+{
+    match selector.text() {
+        Some(text) => text,
+        None => "",
+    }
+}
