@@ -1,0 +1,4 @@
+pub mod Pushed
+pub mod Waits
+pub mod Verdicts
+pub mod Refused
