@@ -8,7 +8,7 @@ use Rattle.jm_machine.specs.declared.call.Request.{Request}
 use Rattle.jm_machine.specs.declared.call.Request.TheVariants as requests
 
 -- after the request others may find a message, or their wait ends: deliveries begin, or rows wait again, or a consumer is gone
-pub may_wake : Request → Bool
+abbrev pub may_wake : Request → Bool
 may_wake requests.Start = true
 may_wake requests.Recover = true
 may_wake requests.Rollback = true
@@ -19,7 +19,7 @@ may_wake (requests.CloseConsumer consumer) = true
 may_wake request = false
 
 -- the call is accepted, and it carries messages or is such a request
-pub wakes : Call → Result Answer Refusal → Bool
+abbrev pub wakes : Call → Result Answer Refusal → Bool
 wakes (Publish messages) (Ok answer) = true
 wakes (Commit messages) (Ok answer) = true
 wakes (Ask request) (Ok answer) = may_wake request
