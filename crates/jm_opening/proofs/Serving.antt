@@ -1,5 +1,5 @@
 -- What is opened serves.
-use Rattle.std.proofs.Common.{◌≡◌, ℕ, pos, arith, true, List, [], ◌∷◌, refl, sym, subst}
+use Rattle.std.proofs.Common.{◌≡◌, ℕ, List, [], ◌∷◌, refl, sym, subst}
 use Rattle.std.specs.List.{AllByRecursion}
 use Rattle.sqlite_value.specs.Order.{Row}
 use Rattle.sqlite.specs.Effect.{Database}
@@ -9,7 +9,6 @@ use Rattle.jm_opening.specs.declared.found.Found.{Found}
 use Rattle.jm_opening.specs.declared.found.Found.TheVariants.{Blank, Bare, Indexed, Current}
 use Rattle.jm_opening.specs.Meta.{meta_row}
 use Rattle.jm_opening.specs.Opened.{AreTables, IsFound, IsOpened, schema_of}
-use Rattle.jm_opening.specs.Opening.{IsOpenedFrom}
 
 no_rows : AreRows []
 no_rows = record { rise = search; numbered = refl }

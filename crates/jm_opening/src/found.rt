@@ -12,3 +12,18 @@ pub enum Found {
     /// The tables of version 2.
     Current(u32),
 }
+
+impl Found {
+    ghost use Rattle.std.specs.Prelude.{◌≡◌};
+    ghost use Rattle.jm_opening.specs.Opened.{opening_of};
+
+    /// The number of this opening, from 1 to 4,294,967,295: 1 where nothing stands.
+    pub fn opening(self) -> u32
+        ensures { result ≡ opening_of self }
+    {
+        match self {
+            Found::Blank => 1,
+            Found::Bare(opening) | Found::Indexed(opening) | Found::Current(opening) => opening,
+        }
+    }
+}

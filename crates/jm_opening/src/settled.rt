@@ -1,6 +1,6 @@
 //! A connection whose tables are known to have each rowid once.
 
-ghost use Rattle.std.specs.Prelude.{◌≡◌, IsTrue, IfOk, IfErr};
+ghost use Rattle.std.specs.Prelude.{◌≡◌, false, IsTrue, IfOk, IfErr};
 ghost use Rattle.sqlite.specs.Effect.{IsDatabase};
 ghost use Rattle.sqlite.specs.State.{HasCleanDisk, Opens};
 ghost use Rattle.sqlite.specs.Held.{state};
@@ -17,6 +17,7 @@ pub fn settle<S: Alter + Drop>(
     alloc: Global,
     conn: Connection<S>,
 ) -> Result<Connection<S>, (Error, S)>
+    ensures mode { IfOk result (λ c. c.in_transaction ≡ false) }
     ensures tables { IfOk result (λ c. HasCleanDisk (state S.Store c) → AreTables (state S.Store c).now × IsDatabase (state S.Store c).now × Opens (state S.Store c)) }
     ensures same { IfOk result (λ c. HasCleanDisk (state S.Store c) → (state S.Store c).now.trees ≡ (state S.Store conn).committed.trees) }
     ensures refused { IfErr result (λ e. IsClean (S.Store.view e.1) → IsTrue (S.Store.view e.1).is_open → (S.Store.view e.1).trees ≡ (state S.Store conn).committed.trees) }

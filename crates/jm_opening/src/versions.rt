@@ -13,7 +13,7 @@ use crate::memory::{bare, current, indexed};
 use jm_schema::same_schema;
 use sqlite::{Error, ErrorCode};
 use sqlite_schema::schema::Schema;
-use std::alloc::Global;
+use std::alloc::{AllocError, Global};
 
 impl From<Error> for OpenFault {
     ghost use Rattle.std.specs.Prelude.{◌≡◌, ◌⊎◌};
@@ -26,6 +26,17 @@ impl From<Error> for OpenFault {
             Error::SqliteFailure(ErrorCode::OutOfMemory) => OpenFault::Memory,
             _ => OpenFault::Store,
         }
+    }
+}
+
+impl From<AllocError> for OpenFault {
+    ghost use Rattle.std.specs.Prelude.{◌≡◌};
+    ghost use Rattle.jm_opening.specs.declared.judged.OpenFault.TheVariants.{Memory};
+
+    ghost from_gives = { λ _ fault. fault ≡ Memory };
+
+    fn from(_: AllocError) -> OpenFault {
+        OpenFault::Memory
     }
 }
 

@@ -23,7 +23,7 @@ pub fn write<S: Alter>(conn: &mut Connection<S>, found: Found) -> Result<(), Err
     ensures refused { HasCleanDisk (state S.Store conn.new) → IsTrue (state S.Store conn.old).is_open → IsFound found (state S.Store conn.old).now → IsTrue (state S.Store conn.new).is_open
         → OnErr result (((state S.Store conn.new).now ≡ (state S.Store conn.old).committed) × ((state S.Store conn.new).committed ≡ (state S.Store conn.old).committed)) }
     ensures survives { Survives (state S.Store conn.old) (state S.Store conn.new)
-        (λ db. IsTrue (state S.Store conn.old).is_open → IsFound found (state S.Store conn.old).now → HoldsOpened found (state S.Store conn.old).now db) }
+        (λ db. IsTrue (state S.Store conn.old).is_open × (IsFound found (state S.Store conn.old).now → HoldsOpened found (state S.Store conn.old).now db)) }
     ensures durable { HasCleanDisk (state S.Store conn.new) → IsTrue (state S.Store conn.old).is_open → IsFound found (state S.Store conn.old).now
         → OnOk result ((db : Trees) → (state S.Store conn.new).may_leave db → db ≡ (state S.Store conn.new).now.trees) }
 {

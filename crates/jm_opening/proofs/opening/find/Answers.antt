@@ -1,4 +1,4 @@
-use Rattle.std.proofs.Common.{◌≡◌, sym, ap, ◌∙◌}
+use Rattle.std.proofs.Common.{sym, ◌∙◌}
 use Rattle.sqlite.specs.Held.{state}
 use Rattle.jm_opening.proofs.FoundLemmas.{found_so}
 use Rattle.jm_opening.proofs.opening.find.Goals as goal

@@ -1,9 +1,8 @@
-use Rattle.std.proofs.Common.{◌≡◌, rules, arith, sym, ap, subst, ◌∙◌, IsTrue}
+use Rattle.std.proofs.Common.{◌≡◌, rules, arith, subst, IsTrue}
 use Rattle.sqlite.specs.Effect.{Database}
 use Rattle.sqlite.specs.State.{HasCleanDisk}
 use Rattle.sqlite.specs.Held.{state}
 use Rattle.jm_opening.specs.Opened.{IsFound, IsOpened}
-use Rattle.jm_opening.specs.Opening.{IsOpenedFrom}
 use Rattle.jm_opening.proofs.Serving.{serves}
 use Rattle.jm_opening.proofs.opening.open_settled.Goals as goal
 
@@ -20,6 +19,7 @@ returns-clause-opened g c clean settled =
     record {
       found = c.in_ok-found.found;
       is_found = subst (IsFound c.in_ok-found.found) same is;
+      number = c.opening.ensures;
       opened = subst (λ (d : Database). IsOpened c.in_ok-found.found d new.now) same it.0;
       is_open = it.1;
       committed = it.2;
