@@ -1,0 +1,5 @@
+pub mod Asking
+pub mod Keys
+pub mod Standing
+pub mod Stored
+pub mod Values

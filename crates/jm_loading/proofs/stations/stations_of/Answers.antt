@@ -1,0 +1,6 @@
+use Rattle.jm_loading.proofs.Sorted.{are_subscriptions}
+use Rattle.jm_loading.proofs.stations.stations_of.Goals as goal
+
+pub returns-clause-durable : goal.returns-clause-durable
+returns-clause-durable c =
+    rw c.in_ok-sorted.ensures.subscriptions (rw c.deref.ensures.value at (are_subscriptions _ c.in_ok-check.ensures.known c.in_ok-check.ensures.rising))

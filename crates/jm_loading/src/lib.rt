@@ -1,0 +1,17 @@
+//! What the rows of a store's tables make together (ours): the durable subscriptions and the messages that a core is made of
+//! again, or the first row that does not fit the others.
+#![tactic(auto)]
+
+mod assembled;
+mod delays;
+mod fault;
+mod holders;
+mod messages;
+mod order;
+mod reopening;
+mod stations;
+mod walk;
+
+pub use assembled::{Assembled, assemble};
+pub use fault::{RowsFault, Table};
+pub use reopening::reopened;

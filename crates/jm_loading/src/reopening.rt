@@ -1,0 +1,38 @@
+//! A core of what the rows say.
+
+ghost use Rattle.std.specs.Prelude.{◌≡◌, true, IfOk};
+ghost use Rattle.jm_core.specs.Provider.{may_open, state_of};
+ghost use Rattle.jm_keep.specs.Persisted.{IsPersisted};
+ghost use Rattle.jm_loading.specs.Said.{said};
+
+use crate::assembled::{Assembled, assemble};
+use crate::fault::RowsFault;
+use jm_core::Core;
+use jm_decoding::{DelayRow, HeldRow, MessageRow, StationRow};
+use jm_reopened::law_reopened;
+use std::alloc::Global;
+
+/// A core of that opening, of which that is stored what the rows of the tables say: a subscription that is not durable may hold so
+/// many rows. Damaged as `assemble` says, or Memory where a request for memory was refused.
+pub fn reopened(
+    alloc: Global,
+    opening: u32,
+    held_limit: u32,
+    stations: Vec<StationRow>,
+    messages: Vec<MessageRow>,
+    held: &[HeldRow],
+    delays: &[DelayRow],
+) -> Result<Core, RowsFault>
+    requires { may_open opening held_limit ≡ true }
+    ensures { IfOk result (λ core. IsPersisted (state_of core) (said stations.items messages.items held.now delays.now)) }
+{
+    let Assembled {
+        subscriptions,
+        messages,
+    } = assemble(alloc, stations, messages, held, delays)?;
+    law_reopened();
+    match Core::reopen(alloc, opening, held_limit, subscriptions, messages) {
+        Ok(core) => Ok(core),
+        Err(_) => Err(RowsFault::Memory),
+    }
+}
