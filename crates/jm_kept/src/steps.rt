@@ -1,6 +1,6 @@
 //! Steps whose changes a keeper keeps.
 
-ghost use Rattle.std.specs.Prelude.{◌≡◌, false, true, Err, IsTrue, IfErr, OnOk, OnErr, IsErrOf};
+ghost use Rattle.std.specs.Prelude.{◌≡◌, ◌≤◌, false, true, Err, IsTrue, IfErr, OnOk, OnErr, IsErrOf};
 ghost use Rattle.jm_core.specs.Plans.{IsPlan};
 ghost use Rattle.jm_core.specs.Provider.{state_of};
 ghost use Rattle.jm_core.specs.Steps.{StepFits};
@@ -33,6 +33,7 @@ fn write<K: Keep>(keeper: &mut K, changes: &[RowChange]) -> Result<(), Refusal>
     ensures clean { IsTrue (K.is_clean keeper.new) → IsTrue (K.is_clean keeper.old) }
     ensures not_made { IfErr result (λ refusal. is_not_made (Err refusal) ≡ true) }
     ensures store { IsErrOf result Refusal.Store → HasRisen (K.faults keeper.old) (K.faults keeper.new) }
+    ensures faults { K.faults keeper.old ≤ K.faults keeper.new }
 {
     if changes.is_empty() {
         return Ok(());
@@ -58,6 +59,7 @@ fn keep<K: Keep>(
     ensures clean { IsTrue (K.is_clean keeper.new) → IsTrue (K.is_clean keeper.old) }
     ensures not_made { IfErr result (λ refusal. is_not_made (Err refusal) ≡ true) }
     ensures store { IsErrOf result Refusal.Store → HasRisen (K.faults keeper.old) (K.faults keeper.new) }
+    ensures faults { K.faults keeper.old ≤ K.faults keeper.new }
 {
     let changes = changes(alloc, core, step, plan)?;
     write(keeper, &changes)
@@ -89,6 +91,7 @@ pub fn step<K: Keep>(
         StepFits (state_of core.old) step.now.who step.now.call result (state_of core.new) }
     ensures alone { K.is_keeping keeper.old ≡ false → keeper.new ≡ keeper.old }
     ensures store { IsErrOf result Refusal.Store → HasRisen (K.faults keeper.old) (K.faults keeper.new) }
+    ensures faults { K.faults keeper.old ≤ K.faults keeper.new }
     ensures clean { IsTrue (K.is_clean keeper.new) → IsTrue (K.is_clean keeper.old) }
     ensures kept { IsTrue (K.is_clean keeper.new) → IsPersisted (state_of core.old) (K.stored keeper.old) →
         IsPersisted (state_of core.new) (K.stored keeper.new) }

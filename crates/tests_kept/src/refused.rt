@@ -1,11 +1,10 @@
-//! A keeper that fails at one write: what each call is told, and how many changes are stored after it.
+//! A keeper that fails at one write of a run: what each call is told, and how many changes are stored after all.
 
-use crate::clients::make;
 use crate::once::OnceKeep;
 use crate::told::holds;
 use jm_base::{Mode, Refusal};
-use jm_core::{Answer, Core, Reply};
-use jm_tx::Halves;
+use jm_core::{Answer, ClientCall, Core, Reply};
+use jm_kept::run;
 use std::alloc::Global;
 use tests_calls::{Kind, Op, call, shown};
 
@@ -22,51 +21,38 @@ enum Told {
     Refused(Refusal),
 }
 
-/// A call, what it is told, and how many changes are stored after it.
-type Row = (Op, Told, usize);
+/// A call, and what it is told.
+type Row = (Op, Told);
+
+/// How many changes are stored after all calls: a subscription, a message with its row, and both again, as they go.
+const CHANGES: usize = 5;
 
 /// A subscription comes, and the first publication fails, which leaves all as it was but for the number of the send.
 static PUBLICATION: [Row; 10] = [
-    (Op::OpenFor(1, "k"), Told::Done, 0),
-    (Op::Session((1, 1), Mode::Auto), Told::Done, 0),
-    (
-        Op::Named((1, 1), 2, Kind::Durable, "n", None),
-        Told::Done,
-        1,
-    ),
-    (Op::Start(1), Told::Done, 1),
-    (Op::Open(2), Told::Done, 1),
-    (Op::Session((2, 1), Mode::Auto), Told::Done, 1),
-    (Op::Send(2, "a", None), Told::Refused(Refusal::Store), 1),
-    (Op::Receive((1, 1), 2), Told::Nothing, 1),
-    (Op::Send(2, "a", None), Told::Sent(2), 3),
-    (
-        Op::Receive((1, 1), 2),
-        Told::Message("ID:1-2.1.2", "a#1"),
-        5,
-    ),
+    (Op::OpenFor(1, "k"), Told::Done),
+    (Op::Session((1, 1), Mode::Auto), Told::Done),
+    (Op::Named((1, 1), 2, Kind::Durable, "n", None), Told::Done),
+    (Op::Start(1), Told::Done),
+    (Op::Open(2), Told::Done),
+    (Op::Session((2, 1), Mode::Auto), Told::Done),
+    (Op::Send(2, "a", None), Told::Refused(Refusal::Store)),
+    (Op::Receive((1, 1), 2), Told::Nothing),
+    (Op::Send(2, "a", None), Told::Sent(2)),
+    (Op::Receive((1, 1), 2), Told::Message("ID:1-2.1.2", "a#1")),
 ];
 
 /// A subscription comes, and the first commit fails, which leaves what was sent to the next.
 static COMMIT: [Row; 10] = [
-    (Op::OpenFor(1, "k"), Told::Done, 0),
-    (Op::Session((1, 1), Mode::Auto), Told::Done, 0),
-    (
-        Op::Named((1, 1), 2, Kind::Durable, "n", None),
-        Told::Done,
-        1,
-    ),
-    (Op::Start(1), Told::Done, 1),
-    (Op::Open(2), Told::Done, 1),
-    (Op::Session((2, 1), Mode::Transacted), Told::Done, 1),
-    (Op::Send(2, "b", None), Told::Sent(1), 1),
-    (Op::Commit((2, 1)), Told::Refused(Refusal::Store), 1),
-    (Op::Commit((2, 1)), Told::Done, 3),
-    (
-        Op::Receive((1, 1), 2),
-        Told::Message("ID:1-2.1.1", "b#1"),
-        5,
-    ),
+    (Op::OpenFor(1, "k"), Told::Done),
+    (Op::Session((1, 1), Mode::Auto), Told::Done),
+    (Op::Named((1, 1), 2, Kind::Durable, "n", None), Told::Done),
+    (Op::Start(1), Told::Done),
+    (Op::Open(2), Told::Done),
+    (Op::Session((2, 1), Mode::Transacted), Told::Done),
+    (Op::Send(2, "b", None), Told::Sent(1)),
+    (Op::Commit((2, 1)), Told::Refused(Refusal::Store)),
+    (Op::Commit((2, 1)), Told::Done),
+    (Op::Receive((1, 1), 2), Told::Message("ID:1-2.1.1", "b#1")),
 ];
 
 /// Whether the reply shows that text.
@@ -95,45 +81,51 @@ fn is_told(alloc: Global, reply: &Reply, told: Told) -> bool {
     }
 }
 
-/// Whether the call is told what it should be.
-fn is_answered(
-    alloc: Global,
-    core: &mut Core,
-    keeper: &mut OnceKeep,
-    halves: &mut Halves,
-    op: Op,
-    told: Told,
-) -> bool {
-    match call(alloc, op) {
-        Ok(call) => is_told(alloc, &make(alloc, core, keeper, halves, call), told),
-        Err(_) => false,
+/// The calls of the rows.
+fn calls_of(alloc: Global, rows: &[Row]) -> Result<Vec<ClientCall>, Refusal> {
+    let mut calls = Vec::new(alloc);
+    for (op, _) in rows {
+        let call = call(alloc, *op)?;
+        if calls.push(call).is_err() {
+            return Err(Refusal::Memory);
+        }
     }
+    Ok(calls)
 }
 
-/// Whether all calls are told what they should be and store what they should, and the keeper then has failed once.
-fn are_answered(
-    alloc: Global,
-    core: &mut Core,
-    keeper: &mut OnceKeep,
-    halves: &mut Halves,
-    rows: &[Row],
-) -> bool {
-    for (op, told, changes_len) in rows {
-        let is_told = is_answered(alloc, core, keeper, halves, *op, *told);
-        if !is_told || keeper.changes_len() != *changes_len {
+/// Whether the calls were told what they should be, each in turn.
+fn are_told(alloc: Global, replies: &[Reply], rows: &[Row]) -> bool {
+    let mut replies = replies.iter();
+    for (_, told) in rows {
+        let is_told = match replies.next() {
+            Some(reply) => is_told(alloc, reply, *told),
+            None => false,
+        };
+        if !is_told {
             return false;
         }
     }
-    keeper.faults() == 1
+    true
 }
 
-/// The same of that core over a keeper that fails at its second write.
-fn are_answered_over(alloc: Global, core: &mut Core, rows: &[Row]) -> bool {
-    let mut keeper = OnceKeep::new(alloc, 1);
-    match Halves::with_capacity(alloc, 2) {
-        Ok(mut halves) => are_answered(alloc, core, &mut keeper, &mut halves, rows),
+/// Whether all calls, run on that core, are told what they should be.
+fn are_answered(alloc: Global, core: &mut Core, keeper: &mut OnceKeep, rows: &[Row]) -> bool {
+    match calls_of(alloc, rows) {
+        Ok(calls) => match run(alloc, core, keeper, calls) {
+            Ok(replies) => are_told(alloc, &replies, rows),
+            Err(_) => false,
+        },
         Err(_) => false,
     }
+}
+
+/// Whether, over a keeper that fails at its second write, all calls are told what they should be and store what they
+/// should, and the keeper then has failed once.
+fn are_answered_over(alloc: Global, core: &mut Core, rows: &[Row]) -> bool {
+    let mut keeper = OnceKeep::new(alloc, 1);
+    are_answered(alloc, core, &mut keeper, rows)
+        && keeper.changes_len() == CHANGES
+        && keeper.faults() == 1
 }
 
 /// The same of a new core.
