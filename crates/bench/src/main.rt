@@ -1,10 +1,12 @@
-//! Counted work on the core. The words are a kind of work, its rounds, the rows that are held before it,
-//! and its subscribers (or topics); with `timed` as a fifth word the nanoseconds a round are printed too.
+//! Counted work on the core. The words are a kind of work, its rounds, the rows that are held before it, and its subscribers
+//! (or topics). With `kept` as a further word what is stored is kept in memory; with `timed` the nanoseconds a round are
+//! printed too.
 #![tactic(auto)]
 
 mod provider;
 mod work;
 
+use jm_keep::{Keep, MemKeep, NoKeep};
 use provider::Provider;
 use std::alloc::Global;
 use std::env::Env;
@@ -27,10 +29,15 @@ fn load_of(words: &[String]) -> Option<Load> {
     })
 }
 
+/// Whether the word stands behind the load.
+fn has_word(words: &[String], word: &str) -> bool {
+    words.iter().skip(4).any(|it| it.as_str() == word)
+}
+
 /// Prints what was received, and with `timed` how long a round took.
-fn run_on(
+fn run_on<K: Keep + Drop>(
     rt: &(impl Clock + Print),
-    provider: &mut Provider,
+    provider: &mut Provider<K>,
     load: Load,
     is_timed: bool,
 ) -> io::Result<()> {
@@ -50,9 +57,15 @@ fn run_on(
     Ok(())
 }
 
-/// The same on a new provider.
-fn run(rt: &(impl Clock + Print), alloc: Global, load: Load, is_timed: bool) -> io::Result<()> {
-    match Provider::new(alloc, mode(load.kind)) {
+/// The same on a new provider over that keeper.
+fn run<K: Keep + Drop>(
+    rt: &(impl Clock + Print),
+    alloc: Global,
+    keeper: K,
+    load: Load,
+    is_timed: bool,
+) -> io::Result<()> {
+    match Provider::new(alloc, mode(load.kind), keeper) {
         Ok(mut provider) => run_on(rt, &mut provider, load, is_timed),
         Err(_) => println!(rt; "refused"),
     }
@@ -63,11 +76,16 @@ fn main(rt: HostRuntime) -> io::Result<ExitCode> {
     let words: Vec<String> = env::args(&rt)?.skip(1).collect(alloc)?;
     match load_of(&words) {
         None => {
-            println!(&rt; "bench: KIND ROUNDS HELD SUBSCRIBERS [timed]")?;
+            println!(&rt; "bench: KIND ROUNDS HELD SUBSCRIBERS [kept] [timed]")?;
             Ok(ExitCode::from(2))
         }
         Some(load) => {
-            run(&rt, alloc, load, words.len() > 4)?;
+            let is_timed = has_word(&words, "timed");
+            if has_word(&words, "kept") {
+                run(&rt, alloc, MemKeep::new(alloc), load, is_timed)?;
+            } else {
+                run(&rt, alloc, NoKeep, load, is_timed)?;
+            }
             Ok(ExitCode::from(0))
         }
     }

@@ -7,6 +7,8 @@ use jm_dest::{
     ClientId, ConnectionId, ConsumerId, Destination, Moment, Number, SessionId, SubscriptionName,
 };
 use jm_header::{Draft, Message, Sender};
+use jm_keep::Keep;
+use jm_kept::step;
 use jm_tx::{Sent, SessionHalf};
 use std::alloc::Global;
 
@@ -27,12 +29,13 @@ pub(crate) struct Parcel {
 /// The most rows that a subscription may hold.
 const HELD_LIMIT: u32 = 1_000_000;
 
-/// A core with its two sessions, their mode, what the publisher sent in its transaction, and the sum of the numbers of the
-/// messages that were received.
+/// A core and its keeper, with its two sessions, their mode, what the publisher sent in its transaction, and the sum of the
+/// numbers of the messages that were received.
 #[derive(Drop)]
-pub(crate) struct Provider {
+pub(crate) struct Provider<K: Keep + Drop> {
     alloc: Global,
     core: Core,
+    keeper: K,
     receiver: SessionId,
     publisher: SessionId,
     half: SessionHalf,
@@ -80,10 +83,10 @@ fn publishing(mode: Mode) -> Mode {
     }
 }
 
-impl Provider {
+impl<K: Keep + Drop> Provider<K> {
     /// No connection is open yet. The session that receives will have that mode; the one that publishes is transacted where
     /// that is, and else in mode `Auto`.
-    pub(crate) fn new(alloc: Global, mode: Mode) -> Result<Provider, Refusal> {
+    pub(crate) fn new(alloc: Global, mode: Mode, keeper: K) -> Result<Provider<K>, Refusal> {
         let receiver = SessionId::new(ConnectionId::new(1)?, 1)?;
         let publisher = SessionId::new(ConnectionId::new(2)?, 1)?;
         let sender = Sender {
@@ -94,6 +97,7 @@ impl Provider {
         Ok(Provider {
             alloc,
             core,
+            keeper,
             receiver,
             publisher,
             half: SessionHalf::new(alloc, sender, publishing(mode), 0),
@@ -126,11 +130,11 @@ impl Provider {
     }
 
     fn ask(&mut self, who: Who, request: Request) -> Result<Answer, Refusal> {
-        let step = Step {
+        let asked = Step {
             who,
             call: Call::Ask(request),
         };
-        self.core.step(&step)
+        step(self.alloc, &mut self.core, &mut self.keeper, &asked)
     }
 
     /// Acknowledges what was received.
@@ -236,7 +240,8 @@ impl Provider {
     /// Makes the session's call.
     fn make(&mut self, session: SessionId, call: Call) -> Result<(), Refusal> {
         let who = Who::Session(session);
-        match self.core.step(&Step { who, call }) {
+        let made = Step { who, call };
+        match step(self.alloc, &mut self.core, &mut self.keeper, &made) {
             Ok(_) => Ok(()),
             Err(refusal) => Err(refusal),
         }

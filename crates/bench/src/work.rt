@@ -2,6 +2,7 @@
 
 use crate::provider::{Parcel, Provider};
 use jm_base::{Mode, Refusal};
+use jm_keep::Keep;
 
 /// What is done in each round.
 #[derive(Clone, Copy, PartialEq, Eq)]
@@ -135,7 +136,11 @@ fn topic(kind: Kind, number: u32) -> u32 {
 }
 
 /// Commits in each hundredth round, where the kind of work is transacted.
-fn commit_batch(provider: &mut Provider, kind: Kind, round: u32) -> Result<(), Refusal> {
+fn commit_batch<K: Keep + Drop>(
+    provider: &mut Provider<K>,
+    kind: Kind,
+    round: u32,
+) -> Result<(), Refusal> {
     match mode(kind) {
         Mode::Transacted if round % BATCH == BATCH - 1 => provider.commit(),
         _ => Ok(()),
@@ -143,7 +148,7 @@ fn commit_batch(provider: &mut Provider, kind: Kind, round: u32) -> Result<(), R
 }
 
 /// Commits what is left of the last batch, where the kind of work is transacted.
-fn finish_fill(provider: &mut Provider, kind: Kind) -> Result<(), Refusal> {
+fn finish_fill<K: Keep + Drop>(provider: &mut Provider<K>, kind: Kind) -> Result<(), Refusal> {
     match mode(kind) {
         Mode::Transacted => provider.commit(),
         Mode::Auto | Mode::Client | Mode::Dups => Ok(()),
@@ -151,8 +156,8 @@ fn finish_fill(provider: &mut Provider, kind: Kind) -> Result<(), Refusal> {
 }
 
 /// Makes a consumer of that number on the topic of that number, with a subscription as the kind of work asks for it.
-fn subscribe(
-    provider: &mut Provider,
+fn subscribe<K: Keep + Drop>(
+    provider: &mut Provider<K>,
     kind: Kind,
     consumer: u32,
     topic: u32,
@@ -165,7 +170,7 @@ fn subscribe(
 }
 
 /// Opens the provider, and makes the subscribers of the load and the rows that are held before it.
-pub(crate) fn fill(provider: &mut Provider, load: Load) -> Result<(), Refusal> {
+pub(crate) fn fill<K: Keep + Drop>(provider: &mut Provider<K>, load: Load) -> Result<(), Refusal> {
     provider.open()?;
     for number in 0..load.subscribers.min(1_000_000) {
         subscribe(provider, load.kind, number + 1, topic(load.kind, number))?;
@@ -190,7 +195,11 @@ fn receivers(load: Load, round: u32) -> (u32, u32) {
 }
 
 /// Lets what a round received come again, where the kind of work asks for it, and acknowledges or commits it in its turn.
-fn finish(provider: &mut Provider, kind: Kind, round: u32) -> Result<(), Refusal> {
+fn finish<K: Keep + Drop>(
+    provider: &mut Provider<K>,
+    kind: Kind,
+    round: u32,
+) -> Result<(), Refusal> {
     match kind {
         Kind::Redelivery => {
             provider.recover()?;
@@ -209,7 +218,11 @@ fn finish(provider: &mut Provider, kind: Kind, round: u32) -> Result<(), Refusal
 }
 
 /// Makes one round.
-fn work_once(provider: &mut Provider, load: Load, round: u32) -> Result<(), Refusal> {
+fn work_once<K: Keep + Drop>(
+    provider: &mut Provider<K>,
+    load: Load,
+    round: u32,
+) -> Result<(), Refusal> {
     provider.send(parcel(load, round))?;
     if load.kind == Kind::Rollback {
         provider.commit()?;
@@ -222,7 +235,7 @@ fn work_once(provider: &mut Provider, load: Load, round: u32) -> Result<(), Refu
 }
 
 /// Makes the rounds of the load.
-pub(crate) fn work(provider: &mut Provider, load: Load) -> Result<(), Refusal> {
+pub(crate) fn work<K: Keep + Drop>(provider: &mut Provider<K>, load: Load) -> Result<(), Refusal> {
     for round in 0..load.rounds {
         work_once(provider, load, round)?;
     }
