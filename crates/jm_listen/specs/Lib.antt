@@ -1,0 +1,4 @@
+pub mod Turns
+pub mod Sessions
+pub mod Runs
+pub mod Faults
