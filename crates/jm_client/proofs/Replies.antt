@@ -1,0 +1,113 @@
+-- What a client is told of a request, by what the machine may answer to it.
+use Rattle.std.proofs.Common.{◌≡◌, ◌⊎◌, ℕ, Bool, true, false, true≢false, refl, ap, sym, subst, ◌∙◌, inl, inr, List, Option, Some, None, Result, Ok, Err}
+use Rattle.std.specs.Prelude.{MatchBool}
+use Rattle.jm_base.specs.declared.refusal.Refusal.{Refusal}
+use Rattle.jm_base.specs.declared.refusal.Refusal.TheVariants.{BadName, Exhausted, Memory}
+use Rattle.jm_dest.specs.declared.session.SessionId.{SessionId}
+use Rattle.jm_machine.specs.declared.answer.Answer.{Answer}
+use Rattle.jm_machine.specs.declared.answer.Answer.TheVariants.{Done}
+use Rattle.jm_machine.specs.declared.state.Consumer.{Consumer}
+use Rattle.jm_machine.specs.declared.state.Row.{Row}
+use Rattle.jm_machine.specs.declared.call.Who.{Who}
+use Rattle.jm_machine.specs.declared.call.Who.TheVariants.{Connection, Session}
+use Rattle.jm_machine.specs.declared.call.Call.{Call}
+use Rattle.jm_machine.specs.declared.call.Call.TheVariants.{Ask, Publish, Commit}
+use Rattle.jm_machine.specs.declared.call.Request.{Request}
+use Rattle.jm_machine.specs.declared.call.Request.TheVariants.{Receive, Missed, Take}
+use Rattle.jm_machine.specs.Entries.{is_not_made}
+use Rattle.jm_machine.specs.Isolation.{Reached}
+use Rattle.jm_machine.specs.Isolation.Reached.{New}
+use Rattle.jm_machine.specs.Life.{Life}
+use Rattle.jm_machine.specs.Machine.{State, Holding, answer, commit_refusal, delivered, delivery, held, new_core, refusal, replied, reply, step}
+use Rattle.jm_machine.specs.Rows.{live, next}
+use Rattle.jm_kept.specs.Kept.{KeptFits}
+use Rattle.jm_client.specs.Told.{Told, RefusesNew, is_plain, is_receipt, is_missed}
+
+first_of_two : (b : Bool) (P Q R : Type 0) → MatchBool b P (Q × R) → MatchBool b (Unit {0}) Q
+first_of_two true P Q R f = tt
+first_of_two false P Q R f = f.0
+
+-- a client is told what a step over a keeper answers
+pub told_kept : (old new : State) (who : Who) (call : Call) (r : Result Answer Refusal) → Reached old → KeptFits old who call r new → Told who call r
+told_kept old new who call r h f =
+    record { state = old; reached = h; fits = first_of_two (is_not_made r) (new ≡ old) (r ≡ reply old who call) (new ≡ step old who call) f }
+
+replied_is : (o : Option Refusal) (a b : Answer) → Ok b ≡ replied o a → b ≡ a
+replied_is None a b h = cc
+replied_is (Some r) a b h = cc
+
+-- the answer to a request that is accepted
+told_is : (who : Who) (request : Request) (a : Answer) (t : Told who (Ask request) (Ok a)) → a ≡ answer t.state.life t.state.consumers (held t.state who request) who request
+unfolding reply
+told_is who request a t = replied_is (refusal t.state.life t.state.consumers (held t.state who request) who request) _ a t.fits
+
+plain_answer : (life : Life) (consumers : List Consumer) (holding : Holding) (who : Who) (request : Request) → is_plain request ≡ true → answer life consumers holding who request ≡ Done
+unfolding answer
+plain_answer life consumers holding who (Receive c now) h = absurd (true≢false (sym h))
+plain_answer life consumers holding who (Missed c) h = absurd (true≢false (sym h))
+plain_answer life consumers holding who (Take c now) h = absurd (true≢false (sym h))
+plain_answer life consumers holding (Connection c) request h = refl
+plain_answer life consumers holding (Session s) request h = refl
+
+-- a request in which nothing is handed out is done, where it is accepted
+pub told_done : (who : Who) (request : Request) (a : Answer) → is_plain request ≡ true → Told who (Ask request) (Ok a) → Told who (Ask request) (Ok Done)
+told_done who request a h t =
+    let is : a ≡ Done = told_is who request a t ∙ plain_answer t.state.life t.state.consumers (held t.state who request) who request h in
+    subst (λ b. Told who (Ask request) (Ok b)) is t
+
+is_delivery : (r : Option Row) → is_receipt (delivery r) ≡ true
+is_delivery None = refl
+is_delivery (Some r) = refl
+
+is_delivered : (started : Bool) (now : ℕ) (rows : List Row) → is_receipt (delivered started now rows) ≡ true
+is_delivered true now rows = is_delivery (next now (live now rows))
+is_delivered false now rows = refl
+
+receive_answer : (life : Life) (consumers : List Consumer) (holding : Holding) (s : SessionId) (c now : ℕ) → is_receipt (answer life consumers holding (Session s) (Receive c now)) ≡ true
+unfolding answer
+receive_answer life consumers holding s c now = is_delivered _ now holding.rows
+
+-- a receive is answered by a message, or by none
+pub told_receipt : (s : SessionId) (c now : ℕ) (a : Answer) → Told (Session s) (Ask (Receive c now)) (Ok a) → is_receipt a ≡ true
+told_receipt s c now a t =
+    ap is_receipt (told_is (Session s) (Receive c now) a t) ∙ receive_answer t.state.life t.state.consumers (held t.state (Session s) (Receive c now)) s c now
+
+missed_answer : (life : Life) (consumers : List Consumer) (holding : Holding) (s : SessionId) (c : ℕ) → is_missed (answer life consumers holding (Session s) (Missed c)) ≡ true
+unfolding answer
+missed_answer life consumers holding s c = refl
+
+-- to the question how many publications were missed the answer is a number
+pub told_missed : (s : SessionId) (c : ℕ) (a : Answer) → Told (Session s) (Ask (Missed c)) (Ok a) → is_missed a ≡ true
+told_missed s c a t =
+    ap is_missed (told_is (Session s) (Missed c) a t) ∙ missed_answer t.state.life t.state.consumers (held t.state (Session s) (Missed c)) s c
+
+committed_reply : (state : State) (who : Who) (messages : _) (a : Answer) → Ok a ≡ reply state who (Commit messages) → a ≡ Done
+unfolding reply
+committed_reply state who messages a h = replied_is (commit_refusal state who messages) Done a h
+
+-- a commit is done, where it is accepted
+pub told_commit : (who : Who) (messages : _) (a : Answer) → Told who (Commit messages) (Ok a) → Told who (Commit messages) (Ok Done)
+told_commit who messages a t = subst (λ b. Told who (Commit messages) (Ok b)) (committed_reply t.state who messages a t.fits) t
+
+-- memory may be wanted before a call is made
+pub told_memory : (who : Who) (call : Call) → Told who call (Err Memory)
+told_memory who call = record { state = new_core 1 1; reached = New 1 1; fits = tt }
+
+pub no_memory : (who : ℕ → Who) (request : ℕ → Request) → RefusesNew who request Memory
+no_memory who request = inr (0, told_memory (who 0) (Ask (request 0)))
+
+pub no_number : (who : ℕ → Who) (request : ℕ → Request) → RefusesNew who request Exhausted
+no_number who request = inl refl
+
+-- a name that is none, or memory that is wanted before the call
+pub bad_or_memory : (who : ℕ → Who) (request : ℕ → Request) (r : Refusal) → (r ≡ BadName) ⊎ (r ≡ Memory) → (r ≡ BadName) ⊎ RefusesNew who request r
+bad_or_memory who request r h = elim h as (λ _. (r ≡ BadName) ⊎ RefusesNew who request r) [
+  | inl b ↦ inl b
+  | inr m ↦ inr (subst (λ q. RefusesNew who request q) (sym m) (no_memory who request))
+]
+
+pub bad_or_wanted_reply : (who : Who) (call : Call) (r : Refusal) → (r ≡ BadName) ⊎ (r ≡ Memory) → (let e : Result (Unit {0}) Refusal = Err r in e ≡ Err BadName) ⊎ Told who call (Err r)
+bad_or_wanted_reply who call r h = elim h as (λ _. (let e : Result (Unit {0}) Refusal = Err r in e ≡ Err BadName) ⊎ Told who call (Err r)) [
+  | inl b ↦ inl (ap (λ q. Err q) b)
+  | inr m ↦ inr (subst (λ q. Told who call (Err q)) (sym m) (told_memory who call))
+]

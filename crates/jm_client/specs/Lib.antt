@@ -1,0 +1,4 @@
+pub mod Locked
+pub mod Told
+pub mod Sends
+pub mod Wakes

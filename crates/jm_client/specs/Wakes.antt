@@ -1,0 +1,23 @@
+-- Which calls wake the consumers that wait for a message.
+use Rattle.std.specs.Prelude.{Bool, true, false}
+use Rattle.jm_machine.specs.declared.call.Call.{Call}
+use Rattle.jm_machine.specs.declared.call.Call.TheVariants.{Ask, Publish, Commit}
+use Rattle.jm_machine.specs.declared.call.Request.{Request}
+use Rattle.jm_machine.specs.declared.call.Request.TheVariants as requests
+
+-- after the request others may find a message, or their wait ends: deliveries begin, or rows wait again, or a consumer is gone
+abbrev pub may_wake : Request → Bool
+may_wake requests.Start = true
+may_wake requests.Recover = true
+may_wake requests.Rollback = true
+may_wake (requests.Done consumer ok) = true
+may_wake requests.CloseConnection = true
+may_wake requests.CloseSession = true
+may_wake (requests.CloseConsumer consumer) = true
+may_wake request = false
+
+-- after the call, where it is accepted
+abbrev pub wakes : Call → Bool
+wakes (Publish messages) = true
+wakes (Commit messages) = true
+wakes (Ask request) = may_wake request
