@@ -112,11 +112,11 @@ keyed_is more (a ∷ []) h k = absurd (let p = present more (a ∷ []) k in let 
 keyed_is more (a ∷ b ∷ []) h k = absurd (let p = present more (a ∷ b ∷ []) k in let e = p.1 in cc)
 keyed_is more (a ∷ b ∷ c ∷ []) h k = absurd (let p = present more (a ∷ b ∷ c ∷ []) k in let e = p.2 in cc)
 keyed_is more (a ∷ b ∷ c ∷ d ∷ rest) h k =
-    let t1 = and_parts (is_of kind.Integer b) _ h in
-    let t2 = and_parts (is_of kind.Text c) _ t1.1 in
-    let t3 = and_parts (is_of kind.Text d) _ t2.1 in
+    let first = and_parts (is_of kind.Integer b) _ h in
+    let second = and_parts (is_of kind.Text c) _ first.1 in
+    let third = and_parts (is_of kind.Text d) _ second.1 in
     let p = present more (a ∷ b ∷ c ∷ d ∷ rest) k in
-    record { family = whole_is b t1.0 p.0; client = text_is c t2.0 p.1; name = text_is d t3.0 p.2 }
+    record { family = whole_is b first.0 p.0; client = text_is c second.0 p.1; name = text_is d third.0 p.2 }
 
 pub held_is : (more : List Column) (r : Row) → are_typed None 0 (key_columns ++ named (codes "place") kind.Integer true ∷ more) (drop 1 r) ≡ true → are_present None 0 (key_columns ++ named (codes "place") kind.Integer true ∷ more) r ≡ true → IsHeld r
 held_is more r h k = let all = named (codes "place") kind.Integer true ∷ more in record { key = keyed_is all r h k; place = place_is r h (present all r k).3 }
@@ -128,8 +128,8 @@ held_is more r h k = let all = named (codes "place") kind.Integer true ∷ more 
     place_is (a ∷ b ∷ c ∷ []) h k = absurd (cc)
     place_is (a ∷ b ∷ c ∷ d ∷ []) h k = absurd (cc)
     place_is (a ∷ b ∷ c ∷ d ∷ e ∷ rest) h k =
-        let t1 = and_parts (is_of kind.Integer b) _ h in
-        let t2 = and_parts (is_of kind.Text c) _ t1.1 in
-        let t3 = and_parts (is_of kind.Text d) _ t2.1 in
-        let t4 = and_parts (is_of kind.Integer e) _ t3.1 in
-        whole_is e t4.0 (not-true _ (and_parts (not (is_null e)) _ k).0)
+        let first = and_parts (is_of kind.Integer b) _ h in
+        let second = and_parts (is_of kind.Text c) _ first.1 in
+        let third = and_parts (is_of kind.Text d) _ second.1 in
+        let fourth = and_parts (is_of kind.Integer e) _ third.1 in
+        whole_is e fourth.0 (not-true _ (and_parts (not (is_null e)) _ k).0)
