@@ -4,12 +4,12 @@ ghost use Rattle.std.specs.Prelude.{IfOk};
 ghost use Rattle.jm_loading.specs.Said.{AreSaid};
 
 use crate::delays::{check_delays, check_kept};
-use crate::fault::RowsFault;
 use crate::messages::messages_of;
 use crate::stations::{Stations, stations_of};
 use crate::walk::take_all;
 use jm_core::{StoredMessage, StoredSubscription};
 use jm_decoding::{DelayRow, HeldRow, MessageRow, StationRow};
+use jm_opening::OpenFault;
 use std::alloc::Global;
 
 /// What the rows of a store's tables say, as a core is made of it.
@@ -31,7 +31,7 @@ pub fn assemble(
     messages: Vec<MessageRow>,
     held: &[HeldRow],
     delays: &[DelayRow],
-) -> Result<Assembled, RowsFault>
+) -> Result<Assembled, OpenFault>
     ensures ok { IfOk result (λ a. AreSaid stations.items messages.items held.now delays.now a.subscriptions.items a.messages.items) }
 {
     let stations = stations_of(alloc, stations)?;

@@ -7,12 +7,12 @@ ghost use Rattle.jm_core.specs.declared.stored.StoredMessage.{StoredMessage as S
 ghost use Rattle.jm_reopened.specs.Given.{AreSome};
 ghost use Rattle.jm_loading.specs.Delays.{HasItsDelay, IsDelay, IsDueAt};
 
-use crate::fault::{RowsFault, Table};
 use crate::messages::message_at;
 use jm_core::{Holders, StoredMessage};
 use jm_decoding::DelayRow;
 use jm_dest::Moment;
 use jm_header::Message;
+use jm_opening::{OpenFault, TableName};
 
 /// Whether the message is delayed, and becomes due then.
 fn is_due(message: &Message, due: Moment) -> bool
@@ -33,14 +33,14 @@ fn is_delay(messages: &[StoredMessage], delay: DelayRow) -> bool
 
 /// Tests the rows of delayed, whose places rise. Damaged at the first whose place does not, or whose message does not stand, is
 /// not delayed, or becomes due at another moment.
-pub(crate) fn check_delays(messages: &[StoredMessage], delays: &[DelayRow]) -> Result<(), RowsFault>
+pub(crate) fn check_delays(messages: &[StoredMessage], delays: &[DelayRow]) -> Result<(), OpenFault>
     ensures ok { OnOk result (All (IsDelay messages.now) delays.now) }
-    ensures err { IfErr result (IsFaultOf Table.Delayed) }
+    ensures err { IfErr result (IsFaultOf TableName.Delayed) }
 {
     for (at, delay) in delays.iter().enumerate() {
         let rises = at == 0 || delays[at - 1].place < delay.place;
         if !rises || !is_delay(messages, *delay) {
-            return Err(RowsFault::Damaged(Table::Delayed, at as u64));
+            return Err(OpenFault::Damaged(TableName::Delayed, at as u64));
         }
     }
     Ok(())
@@ -68,14 +68,14 @@ fn has_delay(message: &StoredMessage, delays: &[DelayRow]) -> bool
 
 /// Tests that somebody holds each message, and that each delayed one has its row of delayed. Damaged at the first of which that
 /// is not so.
-pub(crate) fn check_kept(messages: &[StoredMessage], delays: &[DelayRow]) -> Result<(), RowsFault>
+pub(crate) fn check_kept(messages: &[StoredMessage], delays: &[DelayRow]) -> Result<(), OpenFault>
     ensures held { OnOk result (All (λ (m : Stored). AreSome m.holders) messages.now) }
     ensures delayed { OnOk result (All (HasItsDelay delays.now) messages.now) }
-    ensures err { IfErr result (IsFaultOf Table.Message) }
+    ensures err { IfErr result (IsFaultOf TableName.Message) }
 {
     for (at, message) in messages.iter().enumerate() {
         if !is_held(message) || !has_delay(message, delays) {
-            return Err(RowsFault::Damaged(Table::Message, at as u64));
+            return Err(OpenFault::Damaged(TableName::Message, at as u64));
         }
     }
     Ok(())

@@ -4,7 +4,6 @@
 
 mod assembled;
 mod delays;
-mod fault;
 mod holders;
 mod messages;
 mod order;
@@ -13,5 +12,4 @@ mod stations;
 mod walk;
 
 pub use assembled::{Assembled, assemble};
-pub use fault::{RowsFault, Table};
 pub use reopening::reopened;

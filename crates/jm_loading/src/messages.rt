@@ -5,9 +5,9 @@ ghost use Rattle.jm_loading.specs.Faults.{IsFaultOf};
 ghost use Rattle.jm_core.specs.declared.stored.StoredMessage.{StoredMessage as Stored};
 ghost use Rattle.jm_loading.specs.Messages.{ArePlacedAs, IsUnheld};
 
-use crate::fault::{RowsFault, Table};
 use jm_core::{Holders, StoredMessage};
 use jm_decoding::MessageRow;
+use jm_opening::{OpenFault, TableName};
 use std::alloc::{AllocError, Global};
 
 /// The end of the places.
@@ -32,9 +32,9 @@ fn unheld(alloc: Global, row: MessageRow) -> StoredMessage
 pub(crate) fn messages_of(
     alloc: Global,
     rows: Vec<MessageRow>,
-) -> Result<Vec<StoredMessage>, RowsFault>
+) -> Result<Vec<StoredMessage>, OpenFault>
     ensures ok { IfOk result (λ messages. ArePlacedAs rows.items messages.items) }
-    ensures err { IfErr result (IsFaultOf Table.Message) }
+    ensures err { IfErr result (IsFaultOf TableName.Message) }
 {
     let mut messages = Vec::new(alloc);
     let mut next = 1;
@@ -42,7 +42,7 @@ pub(crate) fn messages_of(
         let place = row.place;
         if place < next || place >= PLACES_END {
             let at = messages.len() as u64;
-            return Err(RowsFault::Damaged(Table::Message, at));
+            return Err(OpenFault::Damaged(TableName::Message, at));
         }
         messages.push(unheld(alloc, row)).map_err(AllocError::from)?;
         next = place + 1;

@@ -6,9 +6,9 @@ ghost use Rattle.jm_keep.specs.Persisted.{IsPersisted};
 ghost use Rattle.jm_loading.specs.Said.{said};
 
 use crate::assembled::{Assembled, assemble};
-use crate::fault::RowsFault;
 use jm_core::Core;
 use jm_decoding::{DelayRow, HeldRow, MessageRow, StationRow};
+use jm_opening::OpenFault;
 use jm_reopened::law_reopened;
 use std::alloc::Global;
 
@@ -22,9 +22,10 @@ pub fn reopened(
     messages: Vec<MessageRow>,
     held: &[HeldRow],
     delays: &[DelayRow],
-) -> Result<Core, RowsFault>
+) -> Result<Core, OpenFault>
     requires { may_open opening held_limit ≡ true }
-    ensures { IfOk result (λ core. IsPersisted (state_of core) (said stations.items messages.items held.now delays.now)) }
+    ensures stored { IfOk result (λ core. IsPersisted (state_of core) (said stations.items messages.items held.now delays.now)) }
+    ensures opening { IfOk result (λ core. (state_of core).opening ≡ opening) }
 {
     let Assembled {
         subscriptions,
@@ -33,6 +34,6 @@ pub fn reopened(
     law_reopened();
     match Core::reopen(alloc, opening, held_limit, subscriptions, messages) {
         Ok(core) => Ok(core),
-        Err(_) => Err(RowsFault::Memory),
+        Err(_) => Err(OpenFault::Memory),
     }
 }

@@ -4,11 +4,11 @@ ghost use Rattle.std.specs.Prelude.{◌≡◌, ◌++◌, All, IsTrue, IfOk, IfEr
 ghost use Rattle.jm_loading.specs.Faults.{IsFaultOf};
 ghost use Rattle.jm_loading.specs.Stations.{AreRising, AreSubscriptions, IsKnown, queues_in, queues_of, subscriptions_in, subscriptions_of};
 
-use crate::fault::{RowsFault, Table};
 use crate::order::key_cmp;
 use jm_core::StoredSubscription;
 use jm_decoding::StationRow;
 use jm_dest::{Key, Name};
+use jm_opening::{OpenFault, TableName};
 use std::alloc::{AllocError, Global};
 
 /// The queues and the durable subscriptions, each in the order of its rows.
@@ -29,15 +29,15 @@ fn is_known(row: &StationRow) -> bool
 }
 
 /// Tests that the keys rise, and that each row is that of a queue or of a durable subscription.
-fn check(rows: &[StationRow]) -> Result<(), RowsFault>
+fn check(rows: &[StationRow]) -> Result<(), OpenFault>
     ensures rising { OnOk result (AreRising rows.now) }
     ensures known { OnOk result (All IsKnown rows.now) }
-    ensures err { IfErr result (IsFaultOf Table.Station) }
+    ensures err { IfErr result (IsFaultOf TableName.Station) }
 {
     for (at, row) in rows.iter().enumerate() {
         let rises = at == 0 || key_cmp(&rows[at - 1].key, &row.key).is_lt();
         if !rises || !is_known(row) {
-            return Err(RowsFault::Damaged(Table::Station, at as u64));
+            return Err(OpenFault::Damaged(TableName::Station, at as u64));
         }
     }
     Ok(())
@@ -78,12 +78,12 @@ fn sorted(alloc: Global, rows: Vec<StationRow>) -> Result<Stations, AllocError>
 
 /// The queues and the durable subscriptions of the rows, whose keys rise. Damaged at the first whose key does not, or that is that
 /// of no queue and of no durable subscription.
-pub(crate) fn stations_of(alloc: Global, rows: Vec<StationRow>) -> Result<Stations, RowsFault>
+pub(crate) fn stations_of(alloc: Global, rows: Vec<StationRow>) -> Result<Stations, OpenFault>
     ensures queues { IfOk result (λ s. s.queues.items ≡ queues_in rows.items) }
     ensures subscriptions { IfOk result (λ s. s.subscriptions.items ≡ subscriptions_in rows.items) }
     ensures known { OnOk result (All IsKnown rows.items) }
     ensures durable { IfOk result (λ s. AreSubscriptions s.subscriptions.items) }
-    ensures err { IfErr result (IsFaultOf Table.Station) }
+    ensures err { IfErr result (IsFaultOf TableName.Station) }
 {
     check(&rows)?;
     Ok(sorted(alloc, rows)?)

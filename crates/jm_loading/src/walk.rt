@@ -9,13 +9,13 @@ ghost use Rattle.jm_loading.specs.Holding.{AreHeldAs, IsHeldMore, TakesRow};
 ghost use Rattle.jm_loading.specs.Messages.{ArePlacedAs};
 ghost use Rattle.jm_loading.specs.Stations.{AreSubscriptions};
 
-use crate::fault::{RowsFault, Table};
 use crate::holders::{hold_in_queue, hold_under};
 use crate::messages::message_at;
 use crate::stations::Stations;
 use jm_core::{StoredMessage, StoredRow, StoredSubscription};
 use jm_decoding::HeldRow;
 use jm_dest::{Key, Name};
+use jm_opening::{OpenFault, TableName};
 use std::alloc::AllocError;
 
 /// How far the rows of held have come: those to come are of that queue and that subscription, or of later ones.
@@ -98,10 +98,10 @@ pub(crate) fn take_all(
     stations: &Stations,
     messages: &mut [StoredMessage],
     held: &[HeldRow],
-) -> Result<(), RowsFault>
+) -> Result<(), OpenFault>
     requires { AreSubscriptions stations.now.subscriptions.items }
     ensures ok { (rows : List MessageRow) → ArePlacedAs rows messages.old → OnOk result (AreHeldAs rows stations.now.subscriptions.items held.now messages.new) }
-    ensures err { IfErr result (IsFaultOf Table.Held) }
+    ensures err { IfErr result (IsFaultOf TableName.Held) }
 {
     let mut walk = Walk {
         queue: 0,
@@ -109,7 +109,7 @@ pub(crate) fn take_all(
     };
     for (at, row) in held.iter().enumerate() {
         if !take(stations, &mut walk, messages, row)? {
-            return Err(RowsFault::Damaged(Table::Held, at as u64));
+            return Err(OpenFault::Damaged(TableName::Held, at as u64));
         }
     }
     Ok(())

@@ -1,6 +1,6 @@
 //! A store is opened by value.
 
-ghost use Rattle.std.specs.Prelude.{◌≡◌, false, IfOk, IfErr};
+ghost use Rattle.std.specs.Prelude.{◌≡◌, ◌≤◌, false, IfOk, IfErr};
 ghost use Rattle.sqlite.specs.State.{HasCleanDisk};
 ghost use Rattle.sqlite.specs.Held.{state};
 ghost use Rattle.sqlite_trees.specs.Tree.{Trees};
@@ -21,6 +21,7 @@ use std::alloc::Global;
 pub fn open<S: Alter + Drop>(alloc: Global, conn: Connection<S>) -> Result<Opened<S>, Unopened<S>>
     ensures mode { IfOk result (λ o. o.conn.in_transaction ≡ false) }
     ensures opened { IfOk result (λ o. HasCleanDisk (state S.Store o.conn) → IsOpenedAgain o.opening (state S.Store conn).committed.trees (state S.Store o.conn)) }
+    ensures number { IfOk result (λ o. 1 ≤ o.opening) }
     ensures serves { IfOk result (λ o. HasCleanDisk (state S.Store o.conn) → Serves (state S.Store o.conn).now) }
     ensures durable { IfOk result (λ o. HasCleanDisk (state S.Store o.conn) → (db : Trees) → (state S.Store o.conn).may_leave db → db ≡ (state S.Store o.conn).now.trees) }
     ensures left { IfErr result (λ u. IsInNoTransaction u.left) }

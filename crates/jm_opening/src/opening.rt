@@ -1,11 +1,11 @@
 //! The opening of a store.
 
-ghost use Rattle.std.specs.Prelude.{◌≡◌, false, IsTrue, OnOk, OnErr, IfOk, IfErr};
+ghost use Rattle.std.specs.Prelude.{◌≡◌, ◌≤◌, false, IsTrue, OnOk, OnErr, IfOk, IfErr};
 ghost use Rattle.sqlite.specs.State.{HasCleanDisk, Survives};
 ghost use Rattle.sqlite.specs.Held.{state};
 ghost use Rattle.sqlite_trees.specs.Tree.{Trees};
 ghost use Rattle.jm_tables.specs.Sound.{Serves};
-ghost use Rattle.jm_opening.specs.Opened.{AreTables, IsFound};
+ghost use Rattle.jm_opening.specs.Opened.{AreTables, IsFound, opening_of};
 ghost use Rattle.jm_opening.specs.Opening.{IsOpenedFrom, IsRefusal, LeavesOpened};
 
 use crate::found::Found;
@@ -22,6 +22,7 @@ fn find<S: Alter>(alloc: Global, conn: &mut Connection<S>) -> Result<Found, Open
     ensures mode { conn.new.in_transaction ≡ false }
     ensures found { HasCleanDisk (state S.Store conn.new) → IsTrue (state S.Store conn.new).is_open → (state S.Store conn.old).now ≡ (state S.Store conn.old).committed
         → IfOk result (λ found. IsFound found (state S.Store conn.new).now) }
+    ensures number { IfOk result (λ found. 1 ≤ opening_of found) }
     ensures fault { HasCleanDisk (state S.Store conn.new) → IfErr result (IsRefusal (state S.Store conn.old).now) }
     ensures same { HasCleanDisk (state S.Store conn.new) → IsTrue (state S.Store conn.new).is_open → (state S.Store conn.old).now ≡ (state S.Store conn.old).committed
         → ((state S.Store conn.new).now ≡ (state S.Store conn.old).now) × ((state S.Store conn.new).committed ≡ (state S.Store conn.old).committed) }
@@ -44,6 +45,7 @@ pub fn open_settled<S: Alter>(alloc: Global, conn: &mut Connection<S>) -> Result
     requires { conn.old.in_transaction ≡ false }
     ensures mode { conn.new.in_transaction ≡ false }
     ensures opened { HasCleanDisk (state S.Store conn.new) → (state S.Store conn.old).now ≡ (state S.Store conn.old).committed → IfOk result (λ opening. IsOpenedFrom opening (state S.Store conn.old).now (state S.Store conn.new)) }
+    ensures number { IfOk result (λ opening. 1 ≤ opening) }
     ensures serves { HasCleanDisk (state S.Store conn.new) → (state S.Store conn.old).now ≡ (state S.Store conn.old).committed → AreTables (state S.Store conn.old).now → OnOk result (Serves (state S.Store conn.new).now) }
     ensures fault { HasCleanDisk (state S.Store conn.new) → IfErr result (IsRefusal (state S.Store conn.old).now) }
     ensures same { HasCleanDisk (state S.Store conn.new) → IsTrue (state S.Store conn.new).is_open → (state S.Store conn.old).now ≡ (state S.Store conn.old).committed

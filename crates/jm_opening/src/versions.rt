@@ -1,6 +1,6 @@
 //! Which version's tables a database has.
 
-ghost use Rattle.std.specs.Prelude.{◌≡◌, ◌<◌, ◌+◌, ◌⊎◌, Some, IsTrue, IfOk, IfErr};
+ghost use Rattle.std.specs.Prelude.{◌≡◌, ◌<◌, ◌≤◌, ◌+◌, ◌⊎◌, Some, IsTrue, IfOk, IfErr};
 ghost use Rattle.jm_tables.specs.Schema as tables;
 ghost use Rattle.jm_tables.specs.Schema.{no_schema, schema_1_bare, schema_1};
 ghost use Rattle.jm_opening.specs.declared.judged.OpenFault.TheVariants.{Memory, Store};
@@ -82,6 +82,7 @@ pub(crate) fn of_version(
     ensures schema { IfOk result (λ found. schema.now ≡ schema_of found) }
     ensures version { IfOk result (λ found. version_of found ≡ Some (version_number last.is_current)) }
     ensures opening { IfOk result (λ found. opening_of found ≡ last.opening + 1) }
+    ensures number { IfOk result (λ found. 1 ≤ opening_of found) }
     ensures err { IfErr result (λ fault. (fault ≡ Memory) ⊎ (fault ≡ Store)) }
 {
     let opening = last.opening + 1;

@@ -14,6 +14,7 @@ use std::marker::Model;
 
 /// Keeps what is stored in a database that nobody else writes, and counts how often that failed. A database that a fault has
 /// shut stays shut: each write fails then.
+#[derive(Drop)]
 pub struct Store<S: Alter> {
     conn: Connection<S>,
     faults: u64,

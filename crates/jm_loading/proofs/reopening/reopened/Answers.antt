@@ -1,7 +1,12 @@
+use Rattle.std.proofs.Common.{ap}
+use Rattle.jm_machine.specs.Machine.{State}
 use Rattle.jm_loading.proofs.Together.{persisted}
 use Rattle.jm_loading.proofs.reopening.reopened.Goals as goal
 
-pub returns-in-Ok : goal.returns-in-Ok
-returns-in-Ok c =
+pub returns-in-Ok-clause-stored : goal.returns-in-Ok-clause-stored
+returns-in-Ok-clause-stored c =
     let a = c.in_ok-subscriptions in
     persisted c.args.opening c.args.held_limit c.args.stations.items c.args.messages.items c.args.held.now c.args.delays.now a.field-0.subscriptions.items a.field-0.messages.items _ c.law_reopened.ensures a.ensures.ok c.in-Ok.ensures.ok.0
+
+pub returns-in-Ok-clause-opening : goal.returns-in-Ok-clause-opening
+returns-in-Ok-clause-opening c = ap (λ (s : State). s.opening) c.in-Ok.ensures.ok.0

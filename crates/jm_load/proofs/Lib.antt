@@ -1,0 +1,5 @@
+pub mod Finding
+pub mod Standing
+pub mod Keys
+pub mod Stored
+pub mod Loaded

@@ -1,0 +1,45 @@
+//! A core of what a store holds.
+
+ghost use Rattle.std.specs.Prelude.{◌≡◌, false, true, IsTrue, IfOk};
+ghost use Rattle.sqlite.specs.State.{HasCleanDisk, Survives};
+ghost use Rattle.sqlite.specs.Held.{state};
+ghost use Rattle.jm_core.specs.Provider.{may_open, state_of};
+ghost use Rattle.jm_keep.specs.Persisted.{IsPersisted};
+ghost use Rattle.jm_queries.specs.Asked.{IsUndone};
+ghost use Rattle.jm_tables.specs.Rows.{stored_in};
+ghost use Rattle.jm_tables.specs.Sound.{Serves};
+
+use crate::decoding::decode;
+use crate::making::make;
+use crate::reading::read;
+use jm_core::Core;
+use jm_opening::OpenFault;
+use sqlite::{Alter, Connection};
+use std::alloc::Global;
+
+/// Loads what is stored in a database that was opened as a store: a core of that opening, of which that is stored what the tables
+/// hold, and in which a subscription that is not durable may hold so many rows. Nobody is connected, and each stored row waits
+/// with its count. Nothing of the database is changed, whatever is told.
+///
+/// - `Damaged`: a row of station, message, held or delayed is none of a store, or does not fit the others.
+/// - `Memory`: a request for memory was refused.
+/// - `Store`: the database refused a query.
+pub fn load<S: Alter>(
+    alloc: Global,
+    conn: &mut Connection<S>,
+    opening: u32,
+    held_limit: u32,
+) -> Result<Core, OpenFault>
+    requires autocommit { conn.old.in_transaction ≡ false }
+    requires range { may_open opening held_limit ≡ true }
+    ensures mode { conn.new.in_transaction ≡ false }
+    ensures loaded { HasCleanDisk (state S.Store conn.new) → (state S.Store conn.old).now ≡ (state S.Store conn.old).committed → Serves (state S.Store conn.old).now
+        → IfOk result (λ core. IsPersisted (state_of core) (stored_in (state S.Store conn.old).now.trees)) }
+    ensures opening { IfOk result (λ core. (state_of core).opening ≡ opening) }
+    ensures same { HasCleanDisk (state S.Store conn.new) → IsTrue (state S.Store conn.new).is_open → IsUndone (state S.Store conn.old) (state S.Store conn.new) }
+    ensures survives { Survives (state S.Store conn.old) (state S.Store conn.new) (λ _. ⊥) }
+{
+    let rows = read(conn)?;
+    let decoded = decode(alloc, &rows)?;
+    make(alloc, opening, held_limit, decoded)
+}

@@ -1,0 +1,30 @@
+use Rattle.std.proofs.Common.{inr}
+use Rattle.sqlite.specs.Held.{state}
+use Rattle.jm_core.specs.Provider.{state_of}
+use Rattle.jm_store.proofs.Reopening.{ours, still_left, still_opened, still_stored, stands_opened}
+use Rattle.jm_store.proofs.opening.open.Goals as goal
+
+pub over-requires-clause-ours : goal.over-requires-clause-ours
+over-requires-clause-ours g c =
+    let o = c.in-Ok in
+    ours o.opened.opening _ (state g.S.Store o.opened.conn) (state g.S.Store c.load.new.conn) c.load.ensures.survives c.load.ensures.same o.ensures.opened o.ensures.serves
+
+pub returns-in-Ok-load-clause-stored : goal.returns-in-Ok-load-clause-stored
+returns-in-Ok-load-clause-stored g c k =
+    let o = c.in-Ok in
+    rw c.over.ensures (still_stored o.opened.opening _ (state g.S.Store o.opened.conn) (state g.S.Store c.load.new.conn) c.load.ensures.survives c.load.ensures.same o.ensures.opened (rw c.over.ensures at k) (state_of c.in-Ok-load.core) o.ensures.serves c.in-Ok-load.ensures.loaded)
+
+pub returns-in-Ok-load-clause-opened : goal.returns-in-Ok-load-clause-opened
+returns-in-Ok-load-clause-opened g c k =
+    let o = c.in-Ok in
+    rw (c.over.ensures, c.in-Ok-load.ensures.opening) (still_opened o.opened.opening _ (state g.S.Store o.opened.conn) (state g.S.Store c.load.new.conn) c.load.ensures.survives c.load.ensures.same o.ensures.opened (rw c.over.ensures at k))
+
+pub returns-in-Ok-load-clause-durable : goal.returns-in-Ok-load-clause-durable
+returns-in-Ok-load-clause-durable g c k db h =
+    let o = c.in-Ok in
+    rw c.over.ensures (still_left o.opened.opening _ (state g.S.Store o.opened.conn) (state g.S.Store c.load.new.conn) c.load.ensures.survives c.load.ensures.same o.ensures.opened (rw c.over.ensures at k) o.ensures.durable db (rw c.over.ensures at h))
+
+pub returns-in-Err-load-clause-refused : goal.returns-in-Err-load-clause-refused
+returns-in-Err-load-clause-refused g c =
+    let o = c.in-Ok in
+    inr (stands_opened _ (state g.S.Store o.opened.conn) (state g.S.Store c.load.new.conn) o.opened.opening c.load.ensures.survives c.load.ensures.same o.ensures.opened)

@@ -1,0 +1,23 @@
+-- What an opening leaves where it is refused.
+use Rattle.std.specs.Prelude.{◌≡◌, ◌⊎◌, IsTrue}
+use Rattle.sqlite.specs.Effect.{Database}
+use Rattle.sqlite.specs.State.{HasCleanDisk}
+use Rattle.sqlite.specs.Held.{state}
+use Rattle.sqlite_trees.specs.Tree.{Trees}
+use Rattle.sqlite_trees.specs.declared.store.Store.{Ghosts}
+use Rattle.jm_opening.specs.declared.found.Found.{Found}
+use Rattle.jm_opening.specs.declared.judged.OpenFault.{OpenFault}
+use Rattle.jm_opening.specs.declared.outcome.Left.{Left}
+use Rattle.jm_opening.specs.declared.outcome.Left.TheVariants.{Settled, Shut}
+use Rattle.jm_opening.specs.Opened.{IsFound, IsOpened}
+use Rattle.jm_opening.specs.Opening.{IsRefusedAs, Stands}
+
+-- while it is open, it has what was committed, opened, and the next opening is one more
+abbrev pub StandsOpened : {S : Type 0} → Ghosts S → Trees → Left S → Type 0
+StandsOpened g committed (Settled conn) = HasCleanDisk (state g conn) → IsTrue (state g conn).is_open →
+    (before : Database) × (before.trees ≡ committed) × ((found : Found) × IsFound found before × IsOpened found before (state g conn).now)
+StandsOpened g committed (Shut store) = ⊥
+
+-- it was not opened, and stands as it was; or it was opened, and what it holds could not be loaded
+abbrev pub IsLeft : {S : Type 0} → Ghosts S → Trees → OpenFault → Left S → Type 0
+IsLeft g committed fault left = (IsRefusedAs g committed fault left × Stands g committed left) ⊎ StandsOpened g committed left
