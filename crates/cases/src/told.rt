@@ -1,5 +1,6 @@
 use crate::stage::Stage;
-use jm_runner::run_program;
+use jm_runner::{Databases, run_program};
+use sqlite::{Connection, Error, ErrorCode, MemStore};
 use std::alloc::{AllocError, Global};
 use std::process::ExitCode;
 use std::str;
@@ -25,12 +26,21 @@ fn number(code: ExitCode) -> u8 {
         .unwrap_or(u8::MAX)
 }
 
+/// No databases: none can be opened.
+struct NoDatabases;
+
+impl Databases<MemStore> for NoDatabases {
+    fn connect(&self, _name: &str) -> Result<Connection<MemStore>, Error> {
+        Err(Error::SqliteFailure(ErrorCode::CannotOpen))
+    }
+}
+
 impl Told {
     /// What the program ends with on those words, where the text is its standard input and the file of that name.
     pub fn new(alloc: Global, words: &[&str], file: &str, text: &str) -> Told {
         let stage = Stage::new(alloc, words, file, text.as_bytes());
         let mut fault = Vec::new(alloc);
-        let status = number(run_program(&stage, &mut fault));
+        let status = number(run_program(&stage, &NoDatabases, &mut fault));
         let (printed, refused_words) = stage.into_printed();
         Told {
             status,

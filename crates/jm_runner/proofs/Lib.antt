@@ -1,5 +1,2 @@
-pub mod Consumed
-pub mod Faults
-pub mod Limits
 pub mod Told
-pub mod Written
+pub mod Loaded

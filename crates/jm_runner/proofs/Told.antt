@@ -1,5 +1,5 @@
 -- What is told of a key's subscription alone is what a run told its sessions, where the run is isolated.
-use Rattle.std.proofs.Common.{◌≡◌, ◌+◌, ◌++◌, ◌∙◌, ℕ, suc, Bool, true, false, List, [], ◌∷◌, Option, Some, None, Result, Ok, Err, refl, ap, sym, subst, length}
+use Rattle.std.proofs.Common.{◌≡◌, ◌+◌, ◌++◌, ◌∙◌, ℕ, suc, Bool, true, false, List, [], ◌∷◌, Some, None, Result, Ok, Err, refl, ap, sym, subst, length}
 use Rattle.std.proofs.lemmas.List.{append_assoc, length-append}
 use Rattle.std.specs.Prelude.{◌==◌, not, if◌then◌else◌, IfOk}
 use Rattle.jm_base.specs.declared.refusal.Refusal.{Refusal}
@@ -12,13 +12,12 @@ use Rattle.jm_machine.specs.declared.call.ClientCall.{ClientCall}
 use Rattle.jm_machine.specs.declared.call.ClientCall.TheVariants.{Ask, Send, CommitSession}
 use Rattle.jm_machine.specs.declared.call.Request.{Request}
 use Rattle.jm_machine.specs.declared.call.Who.{Who}
-use Rattle.jm_machine.specs.declared.entry.Entry.{Entry}
 use Rattle.jm_machine.specs.declared.entry.Entry.TheVariants.{Asked}
 use Rattle.jm_machine.specs.Entries.{entries_of, is_not_made, sent_entry}
-use Rattle.jm_machine.specs.Isolation.{AreIsolated, alone, answered, is_unshared}
+use Rattle.jm_machine.specs.Isolation.{AreIsolated}
 use Rattle.jm_machine.specs.Lone.{Scope, is_answered, placed, replies_in, scope_of}
 use Rattle.jm_machine.specs.Machine.{State, new_core}
-use Rattle.jm_runner.specs.Lone.{IsOfRun, is_unshared_in, line_at, lines_alone, lines_at, lines_of_key, lines_told, number_at, numbers_from}
+use Rattle.jm_runner.specs.Lone.{IsOfRun, is_unshared_in, lines_alone, lines_at, lines_told, number_at, numbers_from}
 use Rattle.jm_scenario.specs.Lines.{line}
 
 -- the number that stands directly behind others

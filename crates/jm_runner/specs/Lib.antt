@@ -1,9 +1,5 @@
-pub mod Faults
-pub mod Source
-pub mod Sink
-pub mod Ending
-pub mod Play
 pub mod Select
 pub mod Lone
 pub mod Perform
 pub mod Program
+pub mod Stored

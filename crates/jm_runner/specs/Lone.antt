@@ -12,12 +12,12 @@ use Rattle.jm_machine.specs.declared.call.ClientCall.TheVariants.{Ask, Send, Com
 use Rattle.jm_scenario.specs.Key.{key_of_text}
 use Rattle.jm_scenario.specs.Lines.{line}
 use Rattle.jm_scenario.specs.declared.scenario.Scenario.{Scenario}
-use Rattle.jm_runner.specs.Play.{GivesScenario, IsRun, RefusesScenario, held_limit, status_of}
-use Rattle.jm_runner.specs.declared.fault.KeyFault.{KeyFault}
-use Rattle.jm_runner.specs.declared.fault.KeyFault.TheVariants as cause
-use Rattle.jm_runner.specs.declared.fault.Fault.{Fault}
-use Rattle.jm_runner.specs.declared.fault.Fault.TheVariants as fault
-use Rattle.jm_runner.specs.declared.source.Source.{Source}
+use Rattle.jm_play.specs.Play.{GivesScenario, IsRun, RefusesScenario, held_limit, status_of}
+use Rattle.jm_play.specs.declared.fault.KeyFault.{KeyFault}
+use Rattle.jm_play.specs.declared.fault.KeyFault.TheVariants as cause
+use Rattle.jm_play.specs.declared.fault.Fault.{Fault}
+use Rattle.jm_play.specs.declared.fault.Fault.TheVariants as fault
+use Rattle.jm_play.specs.declared.source.Source.{Source}
 
 -- the call leaves an entry in the record of a run in that opening
 abbrev pub leaves_entry : ℕ → ClientCall → Result Answer Refusal → Bool

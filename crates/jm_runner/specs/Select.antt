@@ -18,11 +18,11 @@ use Rattle.jm_lexer.specs.declared.fault.SyntaxFault.{SyntaxFault}
 use Rattle.jm_tree.specs.Parse.{parsed}
 use Rattle.jm_tree.specs.declared.tree.Tree.{Tree}
 use Rattle.jm_base.specs.Shown.{refusal_name}
-use Rattle.jm_runner.specs.Play.{GivesScenario, RefusesScenario}
+use Rattle.jm_play.specs.Play.{GivesScenario, RefusesScenario}
 use Rattle.jm_scenario.specs.declared.scenario.Scenario.{Scenario}
-use Rattle.jm_runner.specs.declared.fault.Fault.{Fault}
-use Rattle.jm_runner.specs.declared.fault.Fault.TheVariants as faults
-use Rattle.jm_runner.specs.declared.source.Source.{Source}
+use Rattle.jm_play.specs.declared.fault.Fault.{Fault}
+use Rattle.jm_play.specs.declared.fault.Fault.TheVariants as faults
+use Rattle.jm_play.specs.declared.source.Source.{Source}
 
 -- how many sends of each session were stamped
 abbrev pub Sent : Type 0

@@ -1,19 +1,20 @@
-ghost use Rattle.std.specs.Prelude.{◌≡◌, IfOk, OnOk, MatchOption};
+ghost use Rattle.std.specs.Prelude.{◌≡◌, IfOk, IfSome, OnOk, MatchOption};
 ghost use Rattle.std.specs.Io.KnownBytes.{Appends};
 ghost use Rattle.std.specs.Process.{exit_status};
-ghost use Rattle.jm_words.specs.Words.{HasLimit};
-ghost use Rattle.jm_runner.specs.Faults.{fault_line};
+ghost use Rattle.jm_words.specs.Words.{HasLimit, IsLimit};
+ghost use Rattle.jm_play.specs.Faults.{fault_line};
 ghost use Rattle.jm_runner.specs.Program as spec;
 
 use crate::command::perform;
-use crate::ending::Ending;
-use crate::fault::Fault;
-use crate::sink::Sink;
-use crate::source::Source;
+use crate::databases::Databases;
+use crate::stored::play_stored;
 use clap::error::ErrorKind;
+use jm_play::{DatabaseFault, Ending, Fault, Sink, Source};
 use jm_words::{Words, WordsFault, not_text, read_words};
+use sqlite::{Alter, Error, ErrorCode};
+use std::alloc::Global;
 use std::env::Env;
-use std::io::Write;
+use std::io::{Read, Write};
 use std::process::ExitCode;
 use std::rt::Files;
 use std::{env, fs, io};
@@ -32,14 +33,58 @@ fn asked(rt: &(impl Env + AllocGlobal)) -> Result<Words, WordsFault>
     read_words(alloc, &words)
 }
 
-/// Does what the words ask for, with the scenario of their file or of standard input.
-fn answer(rt: &(impl Files + Input + Print + AllocGlobal), words: &Words) -> Ending
+/// The program's fault for a database that is not opened.
+fn fault_of(error: &Error) -> Fault
+    ensures { result ≡ spec.fault_of_database error.now }
+{
+    match error {
+        Error::SqliteFailure(ErrorCode::OutOfMemory) => Fault::Memory,
+        _ => Fault::Database(DatabaseFault::Failed),
+    }
+}
+
+/// Runs the scenario of what was opened over the store of that name. A scenario that was not opened is told first, and then
+/// the database is not opened.
+fn answer_over<S: Alter + Drop, D: Databases<S>, R: Read + Drop, W: Write>(
+    alloc: Global,
+    held: Option<u32>,
+    databases: &D,
+    name: &str,
+    opened: io::Result<R>,
+    sink: &mut Sink<W>,
+) -> Ending
+    requires { IfSome held IsLimit }
+{
+    let Ok(reader) = opened else {
+        return Ending::of_fault(Fault::File);
+    };
+    match databases.connect(name) {
+        Ok(conn) => play_stored(alloc, held, conn, &mut Source::new(Ok(reader)), sink).ending,
+        Err(error) => Ending::of_fault(fault_of(&error)),
+    }
+}
+
+/// Does what the words ask for, with the scenario of their file or of standard input. The scenario's file is opened before the
+/// database, and the database before the scenario is read.
+fn answer<S: Alter + Drop, D: Databases<S>>(
+    rt: &(impl Files + Input + Print + AllocGlobal),
+    databases: &D,
+    words: &Words,
+) -> Ending
     requires { HasLimit words.now }
 {
     let alloc = rt.alloc();
     let sink = &mut Sink::new(io::writer(rt));
     match words {
         Words::Input => perform(alloc, words, &mut Source::new(Ok(rt.reader())), sink),
+        Words::Run {
+            file,
+            db: Some(db),
+            held,
+        } => {
+            let opened = fs::open(rt, file.as_str());
+            answer_over(alloc, *held, databases, db.as_str(), opened, sink)
+        }
         Words::Run { file, .. } | Words::Select { file, .. } | Words::Lone { file, .. } => {
             let mut source = Source::new(fs::open(rt, file.as_str()));
             perform(alloc, words, &mut source, sink)
@@ -99,14 +144,15 @@ fn refused<W: Write>(rt: &(impl Print + Eprint), errors: &mut W, fault: &WordsFa
     ExitCode::from(status_of_words(fault))
 }
 
-/// Runs the program: reads its words, does what they ask for, and tells a fault on `errors`, its standard
-/// error. The exit status is that of the ending, or that of words which give nothing to do.
-pub fn run_program<W: Write>(
+/// Runs the program: reads its words, does what they ask for, with the databases of stores that they name, and tells a fault on
+/// `errors`, its standard error. The exit status is that of the ending, or that of words which give nothing to do.
+pub fn run_program<S: Alter + Drop, D: Databases<S>, W: Write>(
     rt: &(impl Env + Files + Input + Print + Eprint + AllocGlobal),
+    databases: &D,
     errors: &mut W,
 ) -> ExitCode {
     match asked(rt) {
-        Ok(words) => closed(errors, &answer(rt, &words)),
+        Ok(words) => closed(errors, &answer(rt, databases, &words)),
         Err(fault) => refused(rt, errors, &fault),
     }
 }

@@ -2,22 +2,17 @@ ghost use Rattle.std.specs.Prelude.{◌≡◌, ◌≤◌, ◌+◌, Ok, string_by
 ghost use Rattle.jm_header.specs.Headers.{stamped};
 ghost use Rattle.jm_session.specs.Sends.{sent_of};
 ghost use Rattle.jm_tree.specs.Parse.{parsed};
-ghost use Rattle.jm_runner.specs.Ending.{Ends, ToldBy};
+ghost use Rattle.jm_play.specs.Ending.{Ends, ToldBy};
 ghost use Rattle.jm_runner.specs.Select as spec;
 ghost use Rattle.jm_runner.specs.Select.{Picks, RefusesPick, RefusesSelector};
-ghost use Rattle.jm_runner.specs.Source.{reads, reads_max};
+ghost use Rattle.jm_play.specs.Source.{reads, reads_max};
 
-use crate::ending::{Ending, Printout, ended};
-use crate::fault::Fault;
-use crate::reading::scenario_of;
-use crate::scenario::OPENING;
-use crate::sink::Sink;
-use crate::source::Source;
 use jm_base::{Cause, Refusal};
 use jm_dest::{Destination, Moment, Number, SessionId};
 use jm_eval::{Truth, condition};
 use jm_header::{Draft, Message, Sender, stamp};
 use jm_machine::ClientCall;
+use jm_play::{Ending, Fault, OPENING, Printout, Sink, Source, ended, scenario_of};
 use jm_session::Sends;
 use jm_syntax::{Tree, parse};
 use std::alloc::{AllocError, Global};

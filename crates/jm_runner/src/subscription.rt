@@ -4,22 +4,20 @@ ghost use Rattle.jm_machine.specs.Isolation.{AreIsolated};
 ghost use Rattle.jm_machine.specs.Machine.{new_core};
 ghost use Rattle.jm_scenario.specs.Key.{key_of_text};
 ghost use Rattle.jm_words.specs.Words.{IsLimit};
-ghost use Rattle.jm_runner.specs.Ending.{Ends, ToldBy};
+ghost use Rattle.jm_play.specs.Ending.{Ends, ToldBy};
 ghost use Rattle.jm_runner.specs.Lone as spec;
 ghost use Rattle.jm_runner.specs.Lone.{IsRunOf, RefusesLone, TellsLone};
-ghost use Rattle.jm_runner.specs.Play.{GivesScenario, RefusesScenario, held_limit as spec_limit};
-ghost use Rattle.jm_runner.specs.Source.{reads, reads_max};
+ghost use Rattle.jm_play.specs.Play.{GivesScenario, RefusesScenario, held_limit as spec_limit};
+ghost use Rattle.jm_play.specs.Source.{reads, reads_max};
 
-use crate::ending::{Ending, Printout, ended};
-use crate::fault::{Fault, KeyFault};
-use crate::reading::scenario_of;
-use crate::scenario::{held_limit, new_core, run, status_of};
-use crate::sink::Sink;
-use crate::source::Source;
 use jm_core::Core;
 use jm_dest::{Key, Number};
 use jm_machine::{ClientCall, Reply};
 use jm_model::{LoneFault, entries, lone_replies};
+use jm_play::{
+    Ending, Fault, KeyFault, Printout, Sink, Source, ended, held_limit, new_core, run, scenario_of,
+    status_of,
+};
 use jm_scenario::{Scenario, read_key, write_reply};
 use std::alloc::{AllocError, Global};
 use std::io::{Read, Write};

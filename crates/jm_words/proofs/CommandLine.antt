@@ -11,7 +11,7 @@ use Rattle.clap.specs.ValueTests.{is_unsigned_in}
 use Rattle.clap.specs.declared.builder.value_parser.ValueParser.TheVariants.{Unsigned}
 use Rattle.clap.proofs.OnLiterals.{clap_on_literals}
 use Rattle.clap.proofs.ValueTestLemmas.{Accepts-accepts, accepts-Accepts}
-use Rattle.jm_words.specs.Words.{held, limit_of, program}
+use Rattle.jm_words.specs.Words.{db, held, limit_of, program}
 
 -- clap says exactly which words this command line takes, and with which matches
 pub program_is_simple : is_simple_and_free program ≡ true
@@ -22,6 +22,18 @@ program_is_simple = refl
 pub unwrap_or-now : (found : Option (Bor (List ℕ))) (other : Bor (List ℕ)) → (unwrap_or found other).now ≡ unwrap_or (option_map (λ text. text.now) found) other.now
 unwrap_or-now None other = refl
 unwrap_or-now (Some text) other = refl
+
+-- the file of the store that is found
+pub db_some : (found : Found) (given : Option (Bor (List ℕ))) (text : Bor (List ℕ)) → option_map (λ text. text.now) given ≡ first_value found (codes "db")
+    → given ≡ Some text → Some text.now ≡ db (rows_of found)
+db_some found given text is some =
+    sym (ap (option_map (λ text. text.now)) some) ∙ is ∙ first_value-rows found (codes "db")
+
+-- none where no text is found
+pub db_none : (found : Found) (given : Option (Bor (List ℕ))) → option_map (λ text. text.now) given ≡ first_value found (codes "db")
+    → given ≡ None → None ≡ db (rows_of found)
+db_none found given is none =
+    sym (ap (option_map (λ text. text.now)) none) ∙ is ∙ first_value-rows found (codes "db")
 
 -- a text that is read as a number within a limit's bounds spells that limit
 pub limit_of_number : {E : Type 0} (text : List ℕ) (parsed : Result ℕ E) (number : ℕ) → ParsesUnsigned 32 10 text parsed → parsed ≡ Ok number

@@ -19,13 +19,17 @@ use Rattle.jm_words.specs.declared.words.WordsFault.TheVariants.{Refused, Memory
 abbrev pub argument : Text → Rule
 argument id = record (new_rule id) { required = true }
 
+-- the option `--db FILE`, whose value is any text
+abbrev pub db_option : Rule
+db_option = record (new_rule (codes "db")) { long = Some (codes "db"); value_names = 1 }
+
 -- the option `--held N`, whose value is a number from 1 to 1,000,000
 abbrev pub held_option : Rule
 held_option = record (new_rule (codes "held")) { long = Some (codes "held"); value_names = 1; parser = Some (Unsigned 1 1000000) }
 
--- the command `run FILE [--held N]`
+-- the command `run FILE [--db FILE] [--held N]`
 abbrev pub run_command : App
-run_command = with_rule (with_rule (new_app (codes "run")) (argument (codes "FILE"))) held_option
+run_command = with_rule (with_rule (with_rule (new_app (codes "run")) (argument (codes "FILE"))) db_option) held_option
 
 -- the command `select SELECTOR FILE`
 abbrev pub select_command : App
@@ -74,6 +78,10 @@ marked words = if has_dashed_selector words then with_mark words else words
 abbrev pub value : Text → List Row → Text
 value id rows = unwrap_or (first_of id rows) []
 
+-- the file of the store that is given, if one is
+abbrev pub db : List Row → Option Text
+db rows = first_of (codes "db") rows
+
 -- the limit that a text spells in decimal digits, where it is from 1 to 1,000,000
 abbrev pub limit_of : Text → Option ℕ
 limit_of text = if is_unsigned_in 1 1000000 text then Some (digits_value 10 (without_leading_plus text)) else None
@@ -85,7 +93,7 @@ held rows = option_and_then limit_of (first_of (codes "held") rows)
 -- what a command asks for, by its name and its matches
 abbrev pub asked : Text → List Row → Words
 asked name rows =
-    if bytes_eq name (codes "run") then Run (value (codes "FILE") rows) (held rows) else
+    if bytes_eq name (codes "run") then Run (value (codes "FILE") rows) (db rows) (held rows) else
     (if bytes_eq name (codes "select") then Select (value (codes "SELECTOR") rows) (value (codes "FILE") rows) else
     (if bytes_eq name (codes "lone") then Lone (value (codes "FILE") rows) (value (codes "KEY") rows) else Input))
 
@@ -108,7 +116,7 @@ IsLimit limit = (1 ≤ limit) × (limit ≤ 1000000)
 
 -- where words give a limit of held rows, it is one
 abbrev pub HasLimit : Words → Type 0
-HasLimit (Run file held) = IfSome held IsLimit
+HasLimit (Run file db held) = IfSome held IsLimit
 HasLimit _ = Unit {0}
 
 -- the fault is one that clap finds, or a want of memory

@@ -16,13 +16,23 @@ const GREATEST_LIMIT: u32 = 1_000_000;
 pub enum Words {
     /// To run the scenario on standard input.
     Input,
-    /// To run the scenario of a file; where `held` is given, each subscription that is not durable holds at most so
-    /// many rows: 1 to 1,000,000.
-    Run { file: Str, held: Option<u32> },
+    /// To run the scenario of a file; where `db` is given, over the store in that file; where `held` is given, each
+    /// subscription that is not durable holds at most so many rows: 1 to 1,000,000.
+    Run {
+        file: Str,
+        db: Option<Str>,
+        held: Option<u32>,
+    },
     /// To print the value of a selector over each send of the scenario of a file.
-    Select { selector: Str, file: Str },
+    Select {
+        selector: Str,
+        file: Str,
+    },
     /// To print what the subscription of that key answers alone, over the scenario of a file.
-    Lone { file: Str, key: Str },
+    Lone {
+        file: Str,
+        key: Str,
+    },
 }
 
 /// Why the words ask for nothing that the program does.
@@ -53,6 +63,16 @@ fn argument<'a>(alloc: Global, id: &'a str, help: &'a str) -> Arg<'a>
     Arg::new(alloc, id).required(true).help(help)
 }
 
+/// The option `--db FILE`, whose value is any text.
+fn db_option<'a>(alloc: Global) -> Arg<'a>
+    ensures rule { rule_of result ≡ spec.db_option }
+    ensures local { result.global ≡ false }
+{
+    Arg::new(alloc, "db").long("db").value_name("FILE").help(
+        "The database of the store: what is persistent outlasts the run",
+    )
+}
+
 /// The option `--held N`, whose value is a whole number from 1 to 1,000,000.
 fn held_option<'a>(alloc: Global) -> Arg<'a>
     ensures rule { rule_of result ≡ spec.held_option }
@@ -65,13 +85,14 @@ fn held_option<'a>(alloc: Global) -> Arg<'a>
         .help("How many rows a subscription holds: in place of the scenario's own limit")
 }
 
-/// The command `run FILE [--held N]`. `AllocError` where a request for memory was refused.
+/// The command `run FILE [--db FILE] [--held N]`. `AllocError` where a request for memory was refused.
 fn run_command<'a>(alloc: Global) -> Result<Command<'a>, AllocError>
     ensures { IfOk result (spec.IsCommand spec.run_command) }
 {
     Command::new(alloc, "run")
         .about("Runs a scenario, and prints the reply of each call")
         .arg(argument(alloc, "FILE", "The scenario: a JSON file"))?
+        .arg(db_option(alloc))?
         .arg(held_option(alloc))
 }
 
@@ -157,6 +178,17 @@ fn value(alloc: Global, matches: &ArgMatches<'_>, id: &str) -> Result<Str, Alloc
     Ok(Str::new(String::from_str(alloc, text)?))
 }
 
+/// The file of the store that is given, if one is. `AllocError` where a request for memory was refused.
+#[tactic(auto, using(crate::proofs::CommandLine::db_none))]
+fn db(alloc: Global, matches: &ArgMatches<'_>) -> Result<Option<Str>, AllocError>
+    ensures { IfOk result (λ db. db ≡ spec.db (rows_of (found_of matches.now))) }
+{
+    match matches.get_str("db") {
+        Some(text) => Ok(Some(Str::new(String::from_str(alloc, text)?))),
+        None => Ok(None),
+    }
+}
+
 /// The limit that the text spells, from 1 to 1,000,000; none where it spells another number, or none.
 #[tactic(auto, using(crate::proofs::CommandLine::limit_of_none))]
 fn limit_of(text: &str) -> Option<u32>
@@ -186,6 +218,7 @@ fn asked(alloc: Global, name: &str, matches: &ArgMatches<'_>) -> Result<Words, A
     match name {
         "run" => Ok(Words::Run {
             file: value(alloc, matches, "FILE")?,
+            db: db(alloc, matches)?,
             held: held(matches),
         }),
         "select" => Ok(Words::Select {

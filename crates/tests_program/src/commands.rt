@@ -2,7 +2,7 @@
 
 use crate::told::{holds, is_text};
 use jm_runner::{Ending, Fault, Sink, Source, lone, perform, pick, play};
-use jm_words::read_words;
+use jm_words::{Words, read_words};
 use std::alloc::{AllocError, Global};
 use std::io::{Read, Write};
 use std::{io, str};
@@ -386,7 +386,12 @@ fn performed(alloc: Global, line: &str, scenario: &str) -> Result<String, AllocE
     };
     let mut written = Vec::new(alloc);
     let mut source = Source::new(Ok(scenario.as_bytes()));
-    let ending = perform(alloc, &words, &mut source, &mut Sink::new(&mut written));
+    let ending = match &words {
+        Words::Run { db: Some(_), .. } => return String::from_str(alloc, "a store"),
+        Words::Input | Words::Run { .. } | Words::Select { .. } | Words::Lone { .. } => {
+            perform(alloc, &words, &mut source, &mut Sink::new(&mut written))
+        }
+    };
     if ending.status != 0 || ending.fault.is_some() {
         return String::from_str(alloc, "a fault");
     }

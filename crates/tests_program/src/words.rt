@@ -29,22 +29,35 @@ fn read(alloc: Global, words: &[&str]) -> Result<String, AllocError> {
 }
 
 /// Words after the program's name, with `|` between them, and what they are read as.
-static WORDS: [(&str, &str); 22] = [
+static WORDS: [(&str, &str); 26] = [
     ("jmsrun", "Input"),
-    ("jmsrun|run|F", "Run { file: \"F\", held: None }"),
-    ("jmsrun|run|--|-F", "Run { file: \"-F\", held: None }"),
+    ("jmsrun|run|F", "Run { file: \"F\", db: None, held: None }"),
+    (
+        "jmsrun|run|--|-F",
+        "Run { file: \"-F\", db: None, held: None }",
+    ),
     (
         "jmsrun|run|F|--held|1",
-        "Run { file: \"F\", held: Some(1) }",
+        "Run { file: \"F\", db: None, held: Some(1) }",
     ),
     (
         "jmsrun|run|--held=1000000|F",
-        "Run { file: \"F\", held: Some(1000000) }",
+        "Run { file: \"F\", db: None, held: Some(1000000) }",
     ),
     (
         "jmsrun|run|F|--held|+7",
-        "Run { file: \"F\", held: Some(7) }",
+        "Run { file: \"F\", db: None, held: Some(7) }",
     ),
+    (
+        "jmsrun|run|F|--db|D",
+        "Run { file: \"F\", db: Some(\"D\"), held: None }",
+    ),
+    (
+        "jmsrun|run|--db=D|--held|7|F",
+        "Run { file: \"F\", db: Some(\"D\"), held: Some(7) }",
+    ),
+    ("jmsrun|run|F|--db", "error 2"),
+    ("jmsrun|select|A|F|--db|D", "error 2"),
     ("jmsrun|run|F|--held|0", "error 2"),
     ("jmsrun|run|F|--held|1000001", "error 2"),
     ("jmsrun|run|F|--held|-1", "error 2"),

@@ -1,0 +1,5 @@
+pub mod Both
+pub mod Consumed
+pub mod Faults
+pub mod Limits
+pub mod Written
