@@ -2,3 +2,4 @@ pub mod Locked
 pub mod Told
 pub mod Sends
 pub mod Wakes
+pub mod Faults

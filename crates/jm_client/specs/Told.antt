@@ -14,6 +14,9 @@ use Rattle.jm_machine.specs.declared.call.Call.TheVariants.{Ask}
 use Rattle.jm_machine.specs.declared.call.Request.{Request}
 use Rattle.jm_machine.specs.declared.call.Request.TheVariants.{Receive, Missed, Take}
 use Rattle.jm_client.specs.declared.overview.Overview.{Overview}
+use Rattle.jm_core.specs.Kept.{IsNumberOfMessages}
+use Rattle.jm_core.specs.Provider.{Provider, state_of}
+use Rattle.jm_stations.specs.Backlogs as backlogs
 use Rattle.jm_machine.specs.Entries.{is_not_made}
 use Rattle.jm_machine.specs.Isolation.{Reached}
 use Rattle.jm_machine.specs.Machine.{State, reply}
@@ -75,10 +78,13 @@ Receives s c result = (now : ℕ) × Told (Session s) (Ask (Receive c now)) (mes
 abbrev pub RefusesNew : (ℕ → Who) → (ℕ → Request) → Refusal → Type 0
 RefusesNew who request r = (r ≡ Exhausted) ⊎ ((n : ℕ) × Told (who n) (Ask (request n)) (Err r))
 
--- so many connections and sessions are open, and there are so many subscriptions, in a state that the provider reaches
+-- so many connections and sessions are open, there are so many subscriptions, and subscriptions and queues hold so
+-- many messages, in a core whose state the provider reaches
 pub record IsOverview (o : Overview) : Type 0 where
-  pub state : State
-  pub reached : Reached state
-  pub connections : o.connections ≡ count_by (λ x. x.is_open) state.life.connections
-  pub sessions : o.sessions ≡ count_by (λ x. x.is_open) state.life.sessions
-  pub subscriptions : o.subscriptions ≡ length state.stations
+  pub core : Provider
+  pub reached : Reached (state_of core)
+  pub connections : o.connections ≡ count_by (λ x. x.is_open) (state_of core).life.connections
+  pub sessions : o.sessions ≡ count_by (λ x. x.is_open) (state_of core).life.sessions
+  pub subscriptions : o.subscriptions ≡ length (state_of core).stations
+  pub held : IsNumberOfMessages o.held (state_of core).stations
+  pub queued : backlogs.IsNumberOfMessages o.queued core.queues.list

@@ -8,6 +8,7 @@ ghost use Rattle.jm_machine.specs.declared.call.Request.TheVariants.{CloseConnec
 ghost use Rattle.jm_machine.specs.declared.call.Who.TheVariants.{Connection as ByConnection, Session as BySession};
 ghost use Rattle.jm_tx.specs.Buffers.{new_buffer};
 
+use crate::error::{Error, passed_on};
 use crate::provider::Provider;
 use crate::session::Session;
 use jm_base::{Mode, Refusal};
@@ -59,19 +60,23 @@ impl<'p, R: Wait + Clock, K: Keep + Drop> Connection<'p, R, K> {
 
     /// Starts the delivery of messages to the connection's consumers (Jakarta Messaging 3.1, section 6.1.4). `IllegalState`
     /// where it is closed. Takes no memory.
-    pub fn start(&self) -> Result<(), Refusal>
+    pub fn start(&self) -> Result<(), Error>
         ensures { Answers (ByConnection self.now) Start result }
     {
-        self.provider
-            .ask_plain(Who::Connection(self.id), Request::Start)
+        passed_on(
+            self.provider
+                .ask_plain(Who::Connection(self.id), Request::Start),
+        )
     }
 
     /// Stops the delivery of messages to the connection's consumers. `IllegalState` where it is closed. Takes no memory.
-    pub fn stop(&self) -> Result<(), Refusal>
+    pub fn stop(&self) -> Result<(), Error>
         ensures { Answers (ByConnection self.now) Stop result }
     {
-        self.provider
-            .ask_plain(Who::Connection(self.id), Request::Stop)
+        passed_on(
+            self.provider
+                .ask_plain(Who::Connection(self.id), Request::Stop),
+        )
     }
 
     /// Opens a session in that mode, for one thread (Jakarta Messaging 3.1, section 6.2). A refusal opens none:
@@ -79,7 +84,7 @@ impl<'p, R: Wait + Clock, K: Keep + Drop> Connection<'p, R, K> {
     /// - `IllegalState`: the connection is closed.
     /// - `Exhausted`: 4,294,967,295 sessions were asked for already, of all connections of the provider.
     /// - `Memory`: a request for memory was refused.
-    pub fn create_session(&self, mode: Mode) -> Result<Session<'p, R, K>, Refusal>
+    pub fn create_session(&self, mode: Mode) -> Result<Session<'p, R, K>, Error>
         ensures mode { IfOk result (λ s. s ≡ new_buffer s.sender mode 0) }
         ensures sender { IfOk result (λ s. s.sender.session.connection ≡ self.now) }
         ensures ok { IfOk result (λ s. Told (BySession s.sender.session) (Ask (CreateSession mode)) (Ok Done)) }
@@ -100,10 +105,10 @@ impl<'p, R: Wait + Clock, K: Keep + Drop> Connection<'p, R, K> {
     /// published (Jakarta Messaging 3.1, section 6.1.8). Where it is refused the connection stays open, and nobody has it.
     ///
     /// - `Store`: the keeper failed.
-    pub fn close(self) -> Result<(), Refusal>
+    pub fn close(self) -> Result<(), Error>
         ensures { Answers (ByConnection self.entry) CloseConnection result }
     {
         let Connection { provider, id } = self;
-        end(provider, id)
+        passed_on(end(provider, id))
     }
 }

@@ -8,6 +8,7 @@ ghost use Rattle.jm_machine.specs.declared.call.Call.TheVariants.{Ask};
 ghost use Rattle.jm_machine.specs.declared.call.Request.TheVariants.{CloseConsumer, Missed};
 ghost use Rattle.jm_machine.specs.declared.call.Who.TheVariants.{Session as BySession};
 
+use crate::error::{Error, passed_on};
 use crate::provider::Provider;
 use crate::time::Timer;
 use jm_base::Refusal;
@@ -99,7 +100,7 @@ impl<'p, R: Wait + Clock, K: Keep + Drop> Consumer<'p, R, K> {
     /// - `OutOfRange`: the clock is not read.
     /// - `Memory`: a request for memory was refused.
     /// - `Store`: the keeper failed.
-    pub fn receive(&self, timeout: Duration) -> Result<Option<Delivery>, Refusal>
+    pub fn receive(&self, timeout: Duration) -> Result<Option<Delivery>, Error>
         ensures { (result ≡ Err OutOfRange) ⊎ Receives self.now.0 self.now.1 result }
     {
         let provider = self.provider;
@@ -122,22 +123,23 @@ impl<'p, R: Wait + Clock, K: Keep + Drop> Consumer<'p, R, K> {
     }
 
     /// The next message, or none where none is there now. A message and a refusal are as `receive` says.
-    pub fn receive_no_wait(&self) -> Result<Option<Delivery>, Refusal>
+    pub fn receive_no_wait(&self) -> Result<Option<Delivery>, Error>
         ensures { (result ≡ Err OutOfRange) ⊎ Receives self.now.0 self.now.1 result }
     {
         let provider = self.provider;
         let now = provider.now()?;
-        provider
+        let reply = provider
             .shared
             .lock(provider.rt)
-            .receive(self.session, self.id, now)
+            .receive(self.session, self.id, now);
+        passed_on(reply)
     }
 
     /// How many publications the consumer's subscription missed, since it was at its limit; at 18,446,744,073,709,551,615 it
     /// stays (ours). Of a queue, which has no limit, 0. Takes no memory.
     ///
     /// - `IllegalState`: the consumer, its session or its connection is closed.
-    pub fn missed(&self) -> Result<u64, Refusal>
+    pub fn missed(&self) -> Result<u64, Error>
         ensures { Told (BySession self.now.0) (Ask (Missed self.now.1)) (missed_reply result) }
     {
         let request = Request::Missed { consumer: self.id };
@@ -151,7 +153,7 @@ impl<'p, R: Wait + Clock, K: Keep + Drop> Consumer<'p, R, K> {
     ///
     /// - `IllegalState`: its session is not known any more (ours).
     /// - `Store`: the keeper failed.
-    pub fn close(self) -> Result<(), Refusal>
+    pub fn close(self) -> Result<(), Error>
         ensures { Answers (BySession self.entry.0) (CloseConsumer self.entry.1) result }
     {
         let Consumer {
@@ -159,6 +161,6 @@ impl<'p, R: Wait + Clock, K: Keep + Drop> Consumer<'p, R, K> {
             session,
             id,
         } = self;
-        end(provider, session, id)
+        passed_on(end(provider, session, id))
     }
 }

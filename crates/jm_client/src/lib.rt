@@ -4,6 +4,7 @@
 
 mod connection;
 mod consumer;
+mod error;
 mod overview;
 mod provider;
 mod session;
@@ -14,7 +15,8 @@ mod wakes;
 
 pub use connection::Connection;
 pub use consumer::Consumer;
-pub use jm_base::{Mode, Refusal};
+pub use error::Error;
+pub use jm_base::{MessageFault, Mode, Refusal};
 pub use jm_dest::Destination;
 pub use jm_header::{Body, DeliveryMode, Draft, Message};
 pub use jm_machine::Delivery;

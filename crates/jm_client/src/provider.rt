@@ -11,6 +11,7 @@ ghost use Rattle.jm_machine.specs.declared.call.Request.TheVariants.{Open};
 ghost use Rattle.jm_machine.specs.declared.call.Who.TheVariants.{Connection as ByConnection, Session as BySession};
 
 use crate::connection::Connection;
+use crate::error::Error;
 use crate::overview::Overview;
 use crate::shared::Shared;
 use crate::texts::client_named;
@@ -64,7 +65,9 @@ fn committed(alloc: Global, call: Call) -> Vec<Message>
 impl<'r, R: Wait + Clock> Provider<'r, R, NoKeep> {
     /// A new provider that keeps nothing beyond the process. A subscription that is not durable may hold 100,000 messages.
     /// Takes no memory.
-    pub fn in_memory(rt: &'r R, alloc: Global) -> Provider<'r, R, NoKeep> {
+    pub fn in_memory(rt: &'r R, alloc: Global) -> Provider<'r, R, NoKeep>
+        ensures { result.opening ≡ 1 }
+    {
         let Ok(core) = Core::new(alloc, OPENING, HELD_LIMIT) else {
             unreachable!();
         };
@@ -77,6 +80,7 @@ impl<'r, R: Wait + Clock, K: Keep + Drop> Provider<'r, R, K> {
     /// Connections that the core knows stay as they are, and nobody has them. Takes no memory.
     pub fn over(rt: &'r R, alloc: Global, core: Core, keeper: K) -> Provider<'r, R, K>
         requires { IsTrue (K.is_clean keeper) → IsPersisted (state_of core) (K.stored keeper) }
+        ensures { result.opening ≡ (state_of core).opening }
     {
         Provider {
             rt,
@@ -97,7 +101,7 @@ impl<'r, R: Wait + Clock, K: Keep + Drop> Provider<'r, R, K> {
     pub fn create_connection<'p>(
         &'p self,
         client: Option<&str>,
-    ) -> Result<Connection<'p, R, K>, Refusal>
+    ) -> Result<Connection<'p, R, K>, Error>
         ensures ok { IfOk result (λ c. Told (ByConnection c) (Ask (Open (option_copied client.entry))) (Ok Done)) }
         ensures refused { IfErr result (λ refusal. (refusal ≡ Refusal.BadName)
             ⊎ RefusesNew (λ n. ByConnection n) (λ n. Open (option_copied client.entry)) refusal) }

@@ -15,6 +15,7 @@ ghost use Rattle.jm_machine.specs.declared.call.Who.TheVariants.{Session as BySe
 ghost use Rattle.jm_tx.specs.Buffers.{new_buffer};
 
 use crate::consumer::Consumer;
+use crate::error::{Error, passed_on};
 use crate::provider::{NotCommitted, Provider};
 use crate::texts::{copied_text, subscription_named};
 use jm_base::{Mode, Refusal};
@@ -74,6 +75,7 @@ impl<'p, R: Wait + Clock, K: Keep + Drop> Session<'p, R, K> {
         id: &SessionId,
         mode: Mode,
     ) -> Session<'p, R, K>
+        ensures opening { result.sender.opening ≡ provider.now.opening }
         ensures session { result.sender.session ≡ id.now }
         ensures buffer { result ≡ new_buffer result.sender mode 0 }
     {
@@ -91,19 +93,19 @@ impl<'p, R: Wait + Clock, K: Keep + Drop> Session<'p, R, K> {
 
     /// The topic of that name. `BadName` where the text is no name: 1 to 255 bytes, none below 0x20 and none 0x7F; else
     /// `Memory` where a request for memory was refused.
-    pub fn create_topic(&self, name: &str) -> Result<Destination, Refusal>
+    pub fn create_topic(&self, name: &str) -> Result<Destination, Error>
         ensures ok { IfOk result (λ destination. (destination ≡ Destination.Topic name.now) × IsTrue (is_name name.now)) }
         ensures err { IfErr result (λ refusal. refusal ≡ (if is_name name.now then Memory else BadName)) }
     {
-        Destination::topic(self.provider.alloc, name)
+        passed_on(Destination::topic(self.provider.alloc, name))
     }
 
     /// The queue of that name, with the same refusals.
-    pub fn create_queue(&self, name: &str) -> Result<Destination, Refusal>
+    pub fn create_queue(&self, name: &str) -> Result<Destination, Error>
         ensures ok { IfOk result (λ destination. (destination ≡ Destination.Queue name.now) × IsTrue (is_name name.now)) }
         ensures err { IfErr result (λ refusal. refusal ≡ (if is_name name.now then Memory else BadName)) }
     {
-        Destination::queue(self.provider.alloc, name)
+        passed_on(Destination::queue(self.provider.alloc, name))
     }
 
     /// A message to be sent, without a body: PERSISTENT, of priority 4, which does not expire and is not delayed. Takes no
@@ -115,7 +117,7 @@ impl<'p, R: Wait + Clock, K: Keep + Drop> Session<'p, R, K> {
     }
 
     /// The same with that text. `Memory` where a request for memory was refused.
-    pub fn create_text_message(&self, text: &str) -> Result<Draft, Refusal>
+    pub fn create_text_message(&self, text: &str) -> Result<Draft, Error>
         ensures { MatchResult result
             (λ draft. draft ≡ record defaults { body = Text text.now })
             (λ refusal. refusal ≡ Memory) }
@@ -126,7 +128,7 @@ impl<'p, R: Wait + Clock, K: Keep + Drop> Session<'p, R, K> {
     }
 
     /// The same with those bytes. `Memory` where a request for memory was refused.
-    pub fn create_bytes_message(&self, bytes: &[u8]) -> Result<Draft, Refusal>
+    pub fn create_bytes_message(&self, bytes: &[u8]) -> Result<Draft, Error>
         ensures { MatchResult result
             (λ draft. draft ≡ record defaults { body = Bytes bytes.now })
             (λ refusal. refusal ≡ Memory) }
@@ -149,7 +151,7 @@ impl<'p, R: Wait + Clock, K: Keep + Drop> Session<'p, R, K> {
         destination: &Destination,
         selector: Option<&str>,
         no_local: bool,
-    ) -> Result<Consumer<'p, R, K>, Refusal>
+    ) -> Result<Consumer<'p, R, K>, Error>
         ensures ok { IfOk result (λ c. (c.0 ≡ self.now.sender.session)
             × Told (BySession c.0) (Ask (CreateConsumer c.1 destination.now (option_copied selector.entry) no_local)) (Ok Done)) }
         ensures refused { IfErr result (RefusesNew (λ n. BySession self.now.sender.session)
@@ -186,7 +188,7 @@ impl<'p, R: Wait + Clock, K: Keep + Drop> Session<'p, R, K> {
         name: &str,
         selector: Option<&str>,
         no_local: bool,
-    ) -> Result<Consumer<'p, R, K>, Refusal>
+    ) -> Result<Consumer<'p, R, K>, Error>
         ensures ok { IfOk result (λ c. (c.0 ≡ self.now.sender.session)
             × Told (BySession c.0) (Ask (CreateDurable c.1 destination.now name.now (option_copied selector.entry) no_local)) (Ok Done)) }
         ensures refused { IfErr result (λ refusal. (refusal ≡ BadName) ⊎ RefusesNew (λ n. BySession self.now.sender.session)
@@ -218,7 +220,7 @@ impl<'p, R: Wait + Clock, K: Keep + Drop> Session<'p, R, K> {
         destination: &Destination,
         name: &str,
         selector: Option<&str>,
-    ) -> Result<Consumer<'p, R, K>, Refusal>
+    ) -> Result<Consumer<'p, R, K>, Error>
         ensures ok { IfOk result (λ c. (c.0 ≡ self.now.sender.session)
             × Told (BySession c.0) (Ask (CreateShared c.1 destination.now name.now (option_copied selector.entry))) (Ok Done)) }
         ensures refused { IfErr result (λ refusal. (refusal ≡ BadName) ⊎ RefusesNew (λ n. BySession self.now.sender.session)
@@ -251,7 +253,7 @@ impl<'p, R: Wait + Clock, K: Keep + Drop> Session<'p, R, K> {
         destination: &Destination,
         name: &str,
         selector: Option<&str>,
-    ) -> Result<Consumer<'p, R, K>, Refusal>
+    ) -> Result<Consumer<'p, R, K>, Error>
         ensures ok { IfOk result (λ c. (c.0 ≡ self.now.sender.session)
             × Told (BySession c.0) (Ask (CreateSharedDurable c.1 destination.now name.now (option_copied selector.entry))) (Ok Done)) }
         ensures refused { IfErr result (λ refusal. (refusal ≡ BadName) ⊎ RefusesNew (λ n. BySession self.now.sender.session)
@@ -279,12 +281,14 @@ impl<'p, R: Wait + Clock, K: Keep + Drop> Session<'p, R, K> {
     /// - `InvalidDestination`: there is no such subscription.
     /// - `SubscriptionInUse`: a consumer of it is open, or a message of it is out.
     /// - `Memory`: a request for memory was refused. `Store`: the keeper failed.
-    pub fn unsubscribe(&self, name: &str) -> Result<(), Refusal>
+    pub fn unsubscribe(&self, name: &str) -> Result<(), Error>
         ensures { (result ≡ Err BadName) ⊎ Answers (BySession self.now.sender.session) (Unsubscribe name.now) result }
     {
         let name = subscription_named(self.provider.alloc, name)?;
-        self.provider
-            .ask_plain(Who::Session(self.id), Request::Unsubscribe { name })
+        passed_on(
+            self.provider
+                .ask_plain(Who::Session(self.id), Request::Unsubscribe { name }),
+        )
     }
 
     /// Sends the draft to the destination, and gives the message's number among the session's sends, from 1. In a transacted
@@ -299,15 +303,15 @@ impl<'p, R: Wait + Clock, K: Keep + Drop> Session<'p, R, K> {
     ///   stamped already.
     /// - `IllegalState`: the session is closed. One that is transacted tells that at its commit. The number is used.
     /// - `Store`: the keeper failed. The number is used.
-    pub fn send(&mut self, destination: &Destination, draft: Draft) -> Result<u64, Refusal>
+    pub fn send(&mut self, destination: &Destination, draft: Draft) -> Result<u64, Error>
         ensures { Sends self.old draft destination.now result self.new }
     {
         let destination = destination.copy()?;
         let now = self.provider.now()?;
         match self.half.send(draft, destination, now) {
             Ok(Sent::Kept(number)) => Ok(number),
-            Ok(Sent::Publish(message)) => self.provider.publish(&self.id, message),
-            Err(refusal) => Err(refusal),
+            Ok(Sent::Publish(message)) => passed_on(self.provider.publish(&self.id, message)),
+            Err(refusal) => Err(Error::of(refusal)),
         }
     }
 
@@ -319,7 +323,7 @@ impl<'p, R: Wait + Clock, K: Keep + Drop> Session<'p, R, K> {
     /// - `Exhausted`: places run out before all messages have one.
     /// - `Memory`: a request for memory was refused.
     /// - `Store`: the keeper failed.
-    pub fn commit(&mut self) -> Result<(), Refusal>
+    pub fn commit(&mut self) -> Result<(), Error>
         ensures told { Told (BySession self.old.sender.session) (Commit self.old.messages) (done_reply result) }
         ensures ok { OnOk result (self.new ≡ record self.old { messages = [] }) }
         ensures err { OnErr result (self.new ≡ self.old) }
@@ -330,7 +334,7 @@ impl<'p, R: Wait + Clock, K: Keep + Drop> Session<'p, R, K> {
             Err(back) => {
                 let NotCommitted { refusal, messages } = back;
                 self.half.put_back(messages);
-                Err(refusal)
+                Err(Error::of(refusal))
             }
         }
     }
@@ -341,7 +345,7 @@ impl<'p, R: Wait + Clock, K: Keep + Drop> Session<'p, R, K> {
     ///
     /// - `IllegalState`: the session is closed, or it is not transacted.
     /// - `Store`: the keeper failed.
-    pub fn rollback(&mut self) -> Result<(), Refusal>
+    pub fn rollback(&mut self) -> Result<(), Error>
         ensures told { Answers (BySession self.old.sender.session) Rollback result }
         ensures ok { OnOk result (self.new ≡ record self.old { messages = [] }) }
         ensures err { OnErr result (self.new ≡ self.old) }
@@ -357,11 +361,13 @@ impl<'p, R: Wait + Clock, K: Keep + Drop> Session<'p, R, K> {
     ///
     /// - `IllegalState`: the session is closed.
     /// - `Store`: the keeper failed.
-    pub fn acknowledge(&self) -> Result<(), Refusal>
+    pub fn acknowledge(&self) -> Result<(), Error>
         ensures { Answers (BySession self.now.sender.session) Acknowledge result }
     {
-        self.provider
-            .ask_plain(Who::Session(self.id), Request::Acknowledge)
+        passed_on(
+            self.provider
+                .ask_plain(Who::Session(self.id), Request::Acknowledge),
+        )
     }
 
     /// Lets all that is out to the session wait again, in its order (Jakarta Messaging 3.1, section 6.2.10). A refusal leaves
@@ -369,18 +375,20 @@ impl<'p, R: Wait + Clock, K: Keep + Drop> Session<'p, R, K> {
     ///
     /// - `IllegalState`: the session is closed, or it is transacted.
     /// - `Store`: the keeper failed.
-    pub fn recover(&self) -> Result<(), Refusal>
+    pub fn recover(&self) -> Result<(), Error>
         ensures { Answers (BySession self.now.sender.session) Recover result }
     {
-        self.provider
-            .ask_plain(Who::Session(self.id), Request::Recover)
+        passed_on(
+            self.provider
+                .ask_plain(Who::Session(self.id), Request::Recover),
+        )
     }
 
     /// Closes the session with its consumers: what is out to it waits again, and what waits for its commit is never published
     /// (Jakarta Messaging 3.1, section 6.2.15). Where it is refused the session stays open, and nobody has it.
     ///
     /// - `Store`: the keeper failed.
-    pub fn close(self) -> Result<(), Refusal>
+    pub fn close(self) -> Result<(), Error>
         ensures { Answers (BySession self.entry.sender.session) CloseSession result }
     {
         let Session {
@@ -388,6 +396,6 @@ impl<'p, R: Wait + Clock, K: Keep + Drop> Session<'p, R, K> {
             id,
             half: _half,
         } = self;
-        end(provider, id)
+        passed_on(end(provider, id))
     }
 }

@@ -2,12 +2,14 @@
 
 ghost use Rattle.std.specs.Prelude.{◌≡◌, ◌+◌, ◌-◌, ◌^◌, false, true, count_by, length, IsTrue, IsErrOf, MatchResult};
 ghost use Rattle.jm_client.specs.Told.{IsOverview, Receives, Told, is_receipt, message_answer};
+ghost use Rattle.jm_core.specs.Kept.{IsNumberOfMessages};
 ghost use Rattle.jm_core.specs.Provider.{state_of};
 ghost use Rattle.jm_core.specs.Steps.{StepFits};
 ghost use Rattle.jm_keep.specs.Persisted.{IsPersisted};
 ghost use Rattle.jm_keep.specs.Stored.{HasRisen};
 ghost use Rattle.jm_kept.specs.Kept.{KeptFits};
 ghost use Rattle.jm_machine.specs.Isolation.{Reached};
+ghost use Rattle.jm_stations.specs.Backlogs as backlogs;
 
 use crate::overview::Overview;
 use jm_base::Refusal;
@@ -197,6 +199,8 @@ impl<K: Keep + Drop> Shared<K> {
         ensures connections { result.connections ≡ count_by (λ x. x.is_open) (state_of self.now.core).life.connections }
         ensures sessions { result.sessions ≡ count_by (λ x. x.is_open) (state_of self.now.core).life.sessions }
         ensures subscriptions { result.subscriptions ≡ length (state_of self.now.core).stations }
+        ensures held { IsNumberOfMessages result.held (state_of self.now.core).stations }
+        ensures queued { backlogs.IsNumberOfMessages result.queued self.now.core.queues.list }
     {
         let core = &self.core;
         Overview {

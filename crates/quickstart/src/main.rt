@@ -1,9 +1,9 @@
 //! The first ten lines: a durable subscription, a message in a transaction, and its second delivery.
 #![tactic(auto)]
 
-use jm_client::{Body, Delivery, Mode, Provider, Refusal};
+use anyhow::Result;
+use jm_client::{Body, Delivery, Mode, Provider};
 use std::alloc::Global;
-use std::io;
 use std::sync::Wait;
 use std::time::{Clock, Duration};
 
@@ -19,7 +19,7 @@ fn show(rt: &impl Print, delivery: Option<Delivery>) {
 }
 
 /// Bills each order once, even where the first try fails.
-fn bill<R: Wait + Clock + Print>(rt: &R, alloc: Global) -> Result<(), Refusal> {
+fn bill<R: Wait + Clock + Print>(rt: &R, alloc: Global) -> Result<()> {
     let provider = Provider::in_memory(rt, alloc);
     let connection = provider.create_connection(Some("billing"))?;
     connection.start()?;
@@ -36,12 +36,10 @@ fn bill<R: Wait + Clock + Print>(rt: &R, alloc: Global) -> Result<(), Refusal> {
     show(rt, invoices.receive_no_wait()?);
     invoices.close()?;
     session.close()?;
-    connection.close()
+    connection.close()?;
+    Ok(())
 }
 
-fn main(rt: HostRuntime) -> io::Result<()> {
-    match bill(&rt, rt.alloc()) {
-        Ok(()) => Ok(()),
-        Err(refusal) => println!(&rt; "refused {refusal}"),
-    }
+fn main(rt: HostRuntime) -> Result<()> {
+    bill(&rt, rt.alloc())
 }

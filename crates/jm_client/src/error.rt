@@ -1,0 +1,149 @@
+//! What a client is told of a call that is refused.
+
+ghost use Rattle.std.specs.Prelude.{◌≡◌};
+ghost use Rattle.jm_client.specs.Faults as spec;
+
+use jm_base::{MessageFault, Refusal};
+use std::alloc::{AllocError, AllocFailed};
+use std::marker::Model;
+use std::{error, fmt};
+
+/// Why a call is refused, with a text that says what to do. It is an `Error`, so `?` passes it on, as that of a program too.
+/// Contracts see its refusal.
+#[derive(Clone, Copy, Debug, PartialEq, Eq)]
+pub struct Error {
+    refusal: Refusal,
+}
+
+impl Model for Error {
+    ghost use Rattle.jm_base.specs.declared.refusal.Refusal.{Refusal};
+
+    ghost Value = { Refusal };
+
+    ghost view = { λ e. e.refusal };
+
+    ghost inverse = { λ r. record { refusal = r } };
+}
+
+impl Error {
+    /// The error of that refusal.
+    pub(crate) fn of(refusal: Refusal) -> Error
+        ensures { result ≡ refusal }
+    {
+        Error { refusal }
+    }
+
+    /// The refusal, to be matched on.
+    pub fn refusal(&self) -> Refusal
+        ensures { result ≡ self.now }
+    {
+        self.refusal
+    }
+}
+
+/// The refusal that a fault of a message comes nearest to (ours): one that is read-only is in no state for a write, and a
+/// property that is not there is of no type. The others have their names.
+fn refusal_of(fault: MessageFault) -> Refusal
+    ensures { result ≡ spec.refusal_of fault }
+{
+    match fault {
+        MessageFault::NotWriteable => Refusal::IllegalState,
+        MessageFault::Unset | MessageFault::MessageFormat => Refusal::MessageFormat,
+        MessageFault::BadName => Refusal::BadName,
+        MessageFault::OutOfRange => Refusal::OutOfRange,
+        MessageFault::Memory => Refusal::Memory,
+    }
+}
+
+/// A reply that is passed on.
+pub(crate) fn passed_on<T>(reply: Result<T, Refusal>) -> Result<T, Error>
+    ensures { result ≡ reply }
+{
+    match reply {
+        Ok(value) => Ok(value),
+        Err(refusal) => Err(Error { refusal }),
+    }
+}
+
+impl From<Refusal> for Error {
+    ghost use Rattle.std.specs.Prelude.{◌≡◌};
+
+    ghost from_gives = { λ refusal error. error ≡ refusal };
+
+    fn from(refusal: Refusal) -> Error {
+        Error { refusal }
+    }
+}
+
+impl From<MessageFault> for Error {
+    ghost use Rattle.std.specs.Prelude.{◌≡◌};
+    ghost use Rattle.jm_client.specs.Faults.{refusal_of};
+
+    ghost from_gives = { λ fault error. error ≡ refusal_of fault };
+
+    fn from(fault: MessageFault) -> Error {
+        Error {
+            refusal: refusal_of(fault),
+        }
+    }
+}
+
+impl From<AllocError> for Error {
+    ghost use Rattle.std.specs.Prelude.{◌≡◌};
+    ghost use Rattle.jm_base.specs.declared.refusal.Refusal.TheVariants.{Memory};
+
+    ghost from_gives = { λ _ error. error ≡ Memory };
+
+    fn from(_: AllocError) -> Error {
+        Error {
+            refusal: Refusal::Memory,
+        }
+    }
+}
+
+impl<T: Drop> From<AllocFailed<T>> for Error {
+    ghost use Rattle.std.specs.Prelude.{◌≡◌};
+    ghost use Rattle.jm_base.specs.declared.refusal.Refusal.TheVariants.{Memory};
+
+    ghost from_gives = { λ _ error. error ≡ Memory };
+
+    fn from(_failed: AllocFailed<T>) -> Error {
+        Error {
+            refusal: Refusal::Memory,
+        }
+    }
+}
+
+/// What to do after the refusal.
+fn advice(refusal: &Refusal) -> &'static str {
+    match refusal {
+        Refusal::IllegalState => {
+            "it is closed, or not in a mode or a state for the call; make it anew, or call another"
+        }
+        Refusal::BadName => {
+            "take a name of 1 to 255 bytes without control characters, of a property an identifier"
+        }
+        Refusal::OutOfRange => "set the clock, or take a number or a moment within its range",
+        Refusal::MessageFormat => "read the property as the type that it was set with",
+        Refusal::InvalidDestination => { "name a topic, or a durable subscription that there is" }
+        Refusal::InvalidSelector { .. } => "mend the selector at that byte",
+        Refusal::InvalidClientId => {
+            "close the connection that has the client identifier, or take another"
+        }
+        Refusal::SubscriptionInUse => {
+            "close its consumers and settle what is out of it, or take another name"
+        }
+        Refusal::Exhausted => "no number is left; make a new provider",
+        Refusal::Memory => "nothing was changed; let memory go, and call again",
+        Refusal::Store => "nothing was changed; mend the store, and call again",
+    }
+}
+
+impl fmt::Display for Error {
+    /// The refusal, and what to do.
+    fn fmt<W: fmt::Write>(&self, f: &mut fmt::Formatter<W>) -> fmt::Result {
+        write!(f, "{}: {}", self.refusal, advice(&self.refusal))
+    }
+}
+
+impl error::Error for Error {}
