@@ -2,7 +2,7 @@
 
 ghost use Rattle.std.specs.Prelude.{◌≡◌};
 
-use crate::steps::{Lock, Made, Row, are_made, holds, is_mismatch, new_lock};
+use crate::steps::{Lock, Row, are_made, holds, is_mismatch, new_lock};
 use jm_base::Refusal;
 use jm_broker::Pass;
 use std::alloc::Global;
@@ -11,11 +11,11 @@ use std::sync::Wait;
 use std::sync::ledger::{Blank, Ledger};
 use tests_calls::Op;
 
-static FIRST: [Row; 1] = [(Made::Ask(Op::Open(1)), "ok")];
+static FIRST: [Row; 1] = [(Op::Open(1), "ok")];
 
-static SECOND: [Row; 1] = [(Made::Ask(Op::Start(1)), "ok")];
+static SECOND: [Row; 1] = [(Op::Start(1), "ok")];
 
-static THIRD: [Row; 1] = [(Made::Ask(Op::Stop(1)), "ok")];
+static THIRD: [Row; 1] = [(Op::Stop(1), "ok")];
 
 /// Whether three calls are made, the second with the second pass.
 fn calls_thrice<L: Ledger, R: Wait>(

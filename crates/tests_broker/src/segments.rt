@@ -2,7 +2,7 @@
 
 ghost use Rattle.std.specs.Prelude.{◌≡◌};
 
-use crate::steps::{Lock, Made, Row, are_made, holds, is_mismatch, new_lock};
+use crate::steps::{Lock, Row, are_made, holds, is_mismatch, new_lock};
 use jm_base::Mode;
 use jm_broker::{Pass, Trace};
 use jm_core::Core;
@@ -13,12 +13,12 @@ use std::sync::ledger::{Blank, Ledger};
 use tests_calls::Op;
 
 static FIRST: [Row; 3] = [
-    (Made::Ask(Op::Open(1)), "ok"),
-    (Made::Ask(Op::Session((1, 1), Mode::Auto)), "ok"),
-    (Made::Ask(Op::Consumer((1, 1), 1, None)), "ok"),
+    (Op::Open(1), "ok"),
+    (Op::Session((1, 1), Mode::Auto), "ok"),
+    (Op::Consumer((1, 1), 1, None), "ok"),
 ];
 
-static SECOND: [Row; 1] = [(Made::Ask(Op::Start(1)), "ok")];
+static SECOND: [Row; 1] = [(Op::Start(1), "ok")];
 
 /// Whether its only connection is open and stopped.
 fn is_stopped(core: &Core) -> bool {
