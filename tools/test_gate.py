@@ -10,13 +10,20 @@ import unittest
 GATE = f"{os.path.dirname(os.path.abspath(__file__))}/gate"
 
 
-def said(ci: str, *words: str) -> tuple[list[str], int]:
-    """Returns the lines that the gate prints in a repository with no crate's edits, where rt is that script, and its status."""
+# A script for rt ci that builds a runner.
+BUILDS = "mkdir -p crates/jmsrun/out; touch crates/jmsrun/out/jmsrun; echo '3 passed, 0 failed'"
+
+
+def said(ci: str, *words: str, **files: str) -> tuple[list[str], int]:
+    """Returns the lines that the gate prints in a repository with no crate's edits, where rt is that script and tools/ has
+    those files, and its status."""
     with tempfile.TemporaryDirectory() as top:
         os.makedirs(f"{top}/crates/low/src")
         os.makedirs(f"{top}/crates/low/out")
         os.mkdir(f"{top}/bin")
-        for path, text in {"crates.txt": "low:\n", "crates/low/src/lib.rt": "", "bin/rt": f"#!/bin/sh\n{ci}\n"}.items():
+        texts = {"crates.txt": "low:\n", "crates/low/src/lib.rt": "", "bin/rt": f"#!/bin/sh\n{ci}\n"}
+        for path, text in {**texts, **{f"tools/{name}": text for name, text in files.items()}}.items():
+            os.makedirs(os.path.dirname(f"{top}/{path}"), exist_ok=True)
             with open(f"{top}/{path}", "w", encoding="utf-8") as it:
                 it.write(text)
         os.chmod(f"{top}/bin/rt", 0o755)
@@ -52,6 +59,27 @@ class Gate(unittest.TestCase):
         lines, _ = said("echo '3 passed, 0 failed'")
         self.assertEqual([it for it in lines if it.startswith("3 ")], ["3 passed, 0 failed"])
         self.assertEqual(lines.index("3 passed, 0 failed"), len(lines) - 1)
+
+    def test_the_runner_that_was_built_is_killed(self) -> None:
+        lines, status = said(BUILDS, kills="import sys; print(*sys.argv[1:]); print('50 passed, 0 failed')")
+        self.assertEqual((lines[-1], status), ("53 passed, 0 failed", 0))
+        self.assertRegex("\n".join(lines), r"(?m)^50 .*/crates/jmsrun/out/jmsrun$")
+
+    def test_a_kill_that_fails_is_counted_and_said_at_the_end(self) -> None:
+        tool = "print('kill 7 of --seed 5: a message is gone'); print('7 passed, 1 failed'); raise SystemExit(1)"
+        lines, status = said(BUILDS, kills=tool)
+        self.assertEqual(status, 1)
+        self.assertEqual(lines[-2:], ["gate: failed: kill 7 of --seed 5: a message is gone", "10 passed, 1 failed"])
+
+    def test_without_a_runner_nothing_is_killed(self) -> None:
+        lines, status = said("echo '3 passed, 0 failed'", kills="raise SystemExit(1)")
+        self.assertEqual((lines[-1], status), ("3 passed, 0 failed", 0))
+        self.assertIn("gate: tools/kills: skipped, as there is no crates/jmsrun/out/jmsrun", lines)
+
+    def test_without_the_tool_nothing_is_killed(self) -> None:
+        lines, status = said(BUILDS)
+        self.assertEqual((lines[-1], status), ("3 passed, 0 failed", 0))
+        self.assertIn("gate: tools/kills: skipped, as there is no tools/kills", lines)
 
     def test_what_earlier_runs_kept_is_not_read(self) -> None:
         lines, _ = said("ls crates/low; ls -d .git; echo '1 passed, 0 failed'")
