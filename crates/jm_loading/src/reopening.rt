@@ -26,6 +26,7 @@ pub fn reopened(
     requires { may_open opening held_limit ≡ true }
     ensures stored { IfOk result (λ core. IsPersisted (state_of core) (said stations.items messages.items held.now delays.now)) }
     ensures opening { IfOk result (λ core. (state_of core).opening ≡ opening) }
+    ensures limit { IfOk result (λ core. (state_of core).limit ≡ held_limit) }
 {
     let Assembled {
         subscriptions,

@@ -10,3 +10,6 @@ returns-in-Ok-clause-stored c =
 
 pub returns-in-Ok-clause-opening : goal.returns-in-Ok-clause-opening
 returns-in-Ok-clause-opening c = ap (λ (s : State). s.opening) c.in-Ok.ensures.ok.0
+
+pub returns-in-Ok-clause-limit : goal.returns-in-Ok-clause-limit
+returns-in-Ok-clause-limit c = ap (λ (s : State). s.limit) c.in-Ok.ensures.ok.0
