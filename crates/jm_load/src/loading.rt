@@ -36,6 +36,7 @@ pub fn load<S: Alter>(
     ensures loaded { HasCleanDisk (state S.Store conn.new) → (state S.Store conn.old).now ≡ (state S.Store conn.old).committed → Serves (state S.Store conn.old).now
         → IfOk result (λ core. IsPersisted (state_of core) (stored_in (state S.Store conn.old).now.trees)) }
     ensures opening { IfOk result (λ core. (state_of core).opening ≡ opening) }
+    ensures limit { IfOk result (λ core. (state_of core).limit ≡ held_limit) }
     ensures same { HasCleanDisk (state S.Store conn.new) → IsTrue (state S.Store conn.new).is_open → IsUndone (state S.Store conn.old) (state S.Store conn.new) }
     ensures survives { Survives (state S.Store conn.old) (state S.Store conn.new) (λ _. ⊥) }
 {

@@ -36,6 +36,7 @@ pub(crate) fn make(
     ensures whole { OnOk result (decoded.damaged ≡ None) }
     ensures stored { IfOk result (λ core. IsPersisted (state_of core) (said decoded.stations.items decoded.messages.items decoded.held.items decoded.delays.items)) }
     ensures opening { IfOk result (λ core. (state_of core).opening ≡ opening) }
+    ensures limit { IfOk result (λ core. (state_of core).limit ≡ held_limit) }
 {
     let Decoded {
         stations,
