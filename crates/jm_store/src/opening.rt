@@ -39,6 +39,7 @@ pub fn open<S: Alter + Drop>(
     ensures stored { IfOk result (λ r. IsTrue ((state S.Store r.store.0).is_clean && (state S.Store r.store.0).is_open) → IsPersisted (state_of r.core) (stored_in (state S.Store r.store.0).now.trees)) }
     ensures opened { IfOk result (λ r. IsTrue ((state S.Store r.store.0).is_clean && (state S.Store r.store.0).is_open) → IsOpenedAgain (state_of r.core).opening (state S.Store conn).committed.trees (state S.Store r.store.0)) }
     ensures durable { IfOk result (λ r. IsTrue ((state S.Store r.store.0).is_clean && (state S.Store r.store.0).is_open) → (db : Trees) → (state S.Store r.store.0).may_leave db → db ≡ (state S.Store r.store.0).now.trees) }
+    ensures limit { IfOk result (λ r. (state_of r.core).limit ≡ held_limit) }
     ensures faults { IfOk result (λ r. r.store.1 ≡ 0) }
     ensures left { IfErr result (λ u. IsInNoTransaction u.left) }
     ensures refused { IfErr result (λ u. IsLeft S.Store (state S.Store conn).committed.trees u.fault u.left) }
