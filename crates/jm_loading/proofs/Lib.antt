@@ -1,8 +1,15 @@
+pub mod Unfit
+pub mod Lookups
 pub mod Keys
 pub mod Placed
+pub mod Paired
 pub mod More
 pub mod Taken
 pub mod Due
 pub mod Sorted
 pub mod Together
 pub mod Search
+pub mod Holding
+pub mod Fitting
+pub mod Told
+pub mod Kept

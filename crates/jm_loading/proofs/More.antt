@@ -63,7 +63,7 @@ abbrev mine : ℕ → ℕ → ℕ → Option ℕ
 mine index c i = cond (index == i) (Some c) None
 
 -- a key that is not that of the first is further behind
-apart_at : (a : Key) (ss : List StoredSubscription) (i : ℕ) (d : StoredSubscription) → AllByRecursion (λ b. key_eq a b ≡ false) (map (λ (s : StoredSubscription). s.key) ss) → i < length ss → key_eq a (get_or ss i d).key ≡ false
+pub apart_at : (a : Key) (ss : List StoredSubscription) (i : ℕ) (d : StoredSubscription) → AllByRecursion (λ b. key_eq a b ≡ false) (map (λ (s : StoredSubscription). s.key) ss) → i < length ss → key_eq a (get_or ss i d).key ≡ false
 apart_at a [] i d h l = absurd (omega (arith, l))
 apart_at a (s ∷ ss) zero d h l = h.0
 apart_at a (s ∷ ss) (suc i) d h l = apart_at a ss i d h.1 (omega (arith, l))
@@ -122,7 +122,7 @@ unheld_rise (holders.Queue c) h = tt
 unheld_rise (holders.Subscriptions rows) h = subst (AreRising 0) (sym h) tt
 
 -- the message was sent to the queue
-sent_count : (name n : List ℕ) (c : ℕ) (persistent : Bool) (dest : Destination) → sent_to name persistent dest ≡ true → count_at n dest (holders.Queue c) ≡ cond (text_eq name n) (Some c) None
+pub sent_count : (name n : List ℕ) (c : ℕ) (persistent : Bool) (dest : Destination) → sent_to name persistent dest ≡ true → count_at n dest (holders.Queue c) ≡ cond (text_eq name n) (Some c) None
 sent_count name n c persistent (destination.Queue q) h = ap (λ (x : List ℕ). cond (text_eq x n) (Some c) None) (text_same q name (second persistent (text_eq q name) h))
 sent_count name n c persistent (destination.Topic t) h = cc
 
@@ -198,7 +198,7 @@ not_queue (Own s c) n h = cc
 not_queue (SharedOwn c m) n h = cc
 not_queue (Durable c m) n h = refl
 
-not_own : (key : Key) (k : Key) → is_durable key ≡ true → is_durable k ≡ false → key_eq key k ≡ false
+pub not_own : (key : Key) (k : Key) → is_durable key ≡ true → is_durable k ≡ false → key_eq key k ≡ false
 not_own (Queue m) k h o = cc
 not_own (Own s c) k h o = cc
 not_own (SharedOwn c m) k h o = cc

@@ -1,29 +1,14 @@
 -- Messages by place.
-use Rattle.std.proofs.Common.{◌≡◌, ◌+◌, ◌<◌, ◌≤◌, ◌==◌, ◌∙◌, ℕ, zero, suc, Bool, true, false, cond, List, [], ◌∷◌, ◌++◌, ap, sym, subst, refl, length, get_or, set, arith, Option, Some, None}
+use Rattle.std.proofs.Common.{◌≡◌, ◌+◌, ◌<◌, ◌≤◌, ◌==◌, ◌∙◌, ℕ, zero, suc, Bool, true, false, cond, List, [], ◌∷◌, ap, sym, subst, refl, length, get_or, set, arith, Option, Some}
 use Rattle.std.specs.Prelude.{IfSome, option_map}
-use Rattle.std.specs.Option.{option_or}
 use Rattle.std.specs.List.{All}
 use Rattle.std.proofs.lemmas.Bool.{eq-eqb, eqb-true}
 use Rattle.std.proofs.lemmas.Bool.Decides.{nat_tests}
-use Rattle.std.proofs.lemmas.List.Elements.{All-head, All-nil, All-push, All-tail}
-use Rattle.std.proofs.lemmas.List.Folds.{find-append}
-use Rattle.jm_header.specs.declared.content.Content.{Content}
-use Rattle.jm_machine.specs.Machine.{places_end}
+use Rattle.std.proofs.lemmas.List.Elements.{All-head, All-tail}
 use Rattle.jm_core.specs.declared.stored.StoredMessage.{StoredMessage}
-use Rattle.jm_core.specs.Stored.{ArePlaced, place_after}
+use Rattle.jm_core.specs.Stored.{ArePlaced}
 use Rattle.jm_reopened.specs.Given.{given_at}
-use Rattle.jm_decoding.specs.declared.message.MessageRow.{MessageRow}
-use Rattle.jm_loading.specs.Messages.{ArePlacedAs, IsUnheld, content_at, content_said}
-use Rattle.jm_loading.specs.Said.{message_said}
-
--- one more message behind
-pub placed_push : (from : ℕ) (ms : List StoredMessage) (m : StoredMessage) → ArePlaced from ms → place_after from ms ≤ m.place → m.place < places_end → ArePlaced from (ms ++ m ∷ [])
-placed_push from [] m h low high = (low, high, tt)
-placed_push from (x ∷ ms) m h low high = (h.0, h.1, placed_push (x.place + 1) ms m h.2 low high)
-
-pub after_push : (from : ℕ) (ms : List StoredMessage) (m : StoredMessage) → place_after from (ms ++ m ∷ []) ≡ m.place + 1
-after_push from [] m = refl
-after_push from (x ∷ ms) m = after_push (x.place + 1) ms m
+use Rattle.jm_loading.specs.Messages.{content_at}
 
 -- what holds of each message holds of the one at a place
 pub of_given : (P : StoredMessage → Type 0) (p : ℕ) (ms : List StoredMessage) → All P ms → IfSome (given_at p ms) P
@@ -92,31 +77,3 @@ content_set from p at ms n d h l e same = ap (option_map (λ (m : StoredMessage)
     go : (b : Bool) → (n.place == p) ≡ b → option_map (λ (m : StoredMessage). m.message) (cond b (Some n) (given_at p ms)) ≡ content_at p ms
     go true t = ap Some same ∙ sym (ap (option_map (λ (m : StoredMessage). m.message)) (given_old from p at ms n d h l e t))
     go false t = refl
-
--- one more message behind, that of one more row
-content_push : (p : ℕ) (ms : List StoredMessage) (m : StoredMessage) → content_at p (ms ++ m ∷ []) ≡ option_or (content_at p ms) (cond (m.place == p) (Some m.message) None)
-content_push p ms m = ap (option_map (λ (x : StoredMessage). x.message)) (find-append (λ (x : StoredMessage). x.place == p) ms (m ∷ [])) ∙ go (given_at p ms) (m.place == p)
-  where
-    go : (o : Option StoredMessage) (b : Bool) → option_map (λ (x : StoredMessage). x.message) (option_or o (cond b (Some m) None)) ≡ option_or (option_map (λ (x : StoredMessage). x.message) o) (cond b (Some m.message) None)
-    go (Some x) b = refl
-    go None true = refl
-    go None false = refl
-
-said_push : (p : ℕ) (rows : List MessageRow) (r : MessageRow) → content_said p (rows ++ r ∷ []) ≡ option_or (content_said p rows) (cond (r.place == p) (Some r.message) None)
-said_push p rows r = ap (option_map (λ (x : MessageRow). x.message)) (find-append (λ (x : MessageRow). x.place == p) rows (r ∷ [])) ∙ go (message_said p rows) (r.place == p)
-  where
-    go : (o : Option MessageRow) (b : Bool) → option_map (λ (x : MessageRow). x.message) (option_or o (cond b (Some r) None)) ≡ option_or (option_map (λ (x : MessageRow). x.message) o) (cond b (Some r.message) None)
-    go (Some x) b = refl
-    go None true = refl
-    go None false = refl
-
-pub placed_more : (rows : List MessageRow) (ms : List StoredMessage) (r : MessageRow) (m : StoredMessage) → ArePlacedAs rows ms → place_after 1 ms ≤ m.place → m.place < places_end → m.place ≡ r.place → m.message ≡ r.message → IsUnheld m.holders → ArePlacedAs (rows ++ r ∷ []) (ms ++ m ∷ [])
-placed_more rows ms r m h low high at same none = record {
-  placed = placed_push 1 ms m h.placed low high;
-  same = λ p. content_push p ms m ∙ ap (λ (o : Option Content). option_or o (cond (m.place == p) (Some m.message) None)) (h.same p)
-      ∙ ap (λ (x : ℕ). option_or (content_said p rows) (cond (x == p) (Some m.message) None)) at ∙ ap (λ (x : Content). option_or (content_said p rows) (cond (r.place == p) (Some x) None)) same ∙ sym (said_push p rows r);
-  unheld = All-push (λ (x : StoredMessage). IsUnheld x.holders) ms m h.unheld none;
-}
-
-pub none_placed : ArePlacedAs [] []
-none_placed = record { placed = tt; same = λ p. refl; unheld = All-nil (λ (x : StoredMessage). IsUnheld x.holders) }

@@ -15,16 +15,19 @@ use Rattle.jm_reopened.specs.Given.{count_given, count_of_key, given_at}
 use Rattle.jm_decoding.specs.declared.held.HeldRow.{HeldRow}
 use Rattle.jm_decoding.specs.declared.message.MessageRow.{MessageRow}
 use Rattle.jm_loading.specs.Holding.{AreHeldAs, DoRise, IsHeldMore, TakesRow}
-use Rattle.jm_loading.specs.Messages.{ArePlacedAs, IsUnheld}
+use Rattle.jm_loading.specs.Messages.{ArePlacedAs, IsUnheld, given_pair}
 use Rattle.jm_loading.specs.Said.{count_said, is_held_at}
 use Rattle.jm_loading.proofs.Placed.{content_set, given_old, given_set, of_given, placed_set}
+use Rattle.std.proofs.Math.Seq.{map-set_same}
+use Rattle.jm_loading.proofs.Paired.{same_content}
 use Rattle.jm_loading.proofs.More.{or_none, unheld_count, unheld_may, unheld_rise}
 
 -- before the first row nobody holds a message
 pub unheld_as : (rows : List MessageRow) (ss : List StoredSubscription) (ms : List StoredMessage) → ArePlacedAs rows ms → AreHeldAs rows ss [] ms
 unheld_as rows ss ms h = record {
   placed = h.placed;
-  same = h.same;
+  pairs = h.pairs;
+  same = same_content rows ms h.pairs;
   may = λ k d l. unheld_may ss (get_or ms k d).message (get_or ms k d).holders (h.unheld k d l);
   rise = λ k d l. unheld_rise (get_or ms k d).holders (h.unheld k d l);
   counts = λ key place. go key (given_at place ms) (of_given (λ (m : StoredMessage). IsUnheld m.holders) place ms h.unheld);
@@ -72,6 +75,7 @@ taken rows ss held h old new was t =
     subst (AreHeldAs rows ss (held ++ h ∷ [])) (sym t.new_is)
     (record {
       placed = placed_set 1 t.at old t.message d was.placed l more.place;
+      pairs = map-set_same given_pair old t.at t.message d (λ i. (more.place i, more.message i)) ∙ was.pairs;
       same = λ p. content_set 1 p t.at old t.message d was.placed l more.place more.message ∙ was.same p;
       may = All-set (λ (m : StoredMessage). AreHolders ss m.message m.holders) old t.at t.message (more.may (was.rise t.at d l) (was.may t.at d l)) was.may;
       rise = All-set (λ (m : StoredMessage). DoRise m.holders) old t.at t.message (more.rise (was.rise t.at d l)) was.rise;
@@ -105,3 +109,6 @@ pub put_back : {X : Type 0} (n : ℕ) (xs ys : List X) → length xs ≡ length 
 put_back n xs ys same whole =
     let all : n ≡ length xs = whole ∙ sym same in
     rw all (take-append_seam xs (drop (length xs) ys))
+
+pub held_back : (rows : List MessageRow) (ss : List StoredSubscription) (held : List HeldRow) (old new ms : List StoredMessage) (n : ℕ) → length new ≡ length old → n ≡ length old → ms ≡ take n (new ++ drop (length new) old) → AreHeldAs rows ss held new → AreHeldAs rows ss held ms
+held_back rows ss held old new ms n same whole is h = subst (AreHeldAs rows ss held) (sym (is ∙ put_back n new old same whole)) h

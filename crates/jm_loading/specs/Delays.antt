@@ -3,6 +3,7 @@ use Rattle.std.specs.Prelude.{◌≡◌, ◌<◌, ℕ, true, List, length, slice
 use Rattle.jm_header.specs.declared.content.Content.{Content}
 use Rattle.jm_header.specs.Headers.{is_delayed}
 use Rattle.jm_core.specs.declared.stored.StoredMessage.{StoredMessage}
+use Rattle.jm_reopened.specs.Given.{AreSome}
 use Rattle.jm_decoding.specs.declared.delay.DelayRow.{DelayRow}
 
 -- the message is delayed, and becomes due then
@@ -29,3 +30,8 @@ pub record IsDelayAt (delays : List DelayRow) (place at : ℕ) : Type 0 where
 -- where the message is delayed, it has a row of delayed
 abbrev pub HasItsDelay : List DelayRow → StoredMessage → Type 0
 HasItsDelay delays m = is_delayed m.message ≡ true → (at : ℕ) × IsDelayAt delays m.place at
+
+-- somebody holds the message, and where it is delayed, it has a row of delayed
+pub record IsHeldInTime (delays : List DelayRow) (m : StoredMessage) : Type 0 where
+  pub held : AreSome m.holders
+  pub delayed : HasItsDelay delays m

@@ -1,7 +1,10 @@
 -- A message is held by one more.
 use Rattle.std.specs.Prelude.{◌≡◌, ◌≤◌, ◌<◌, ◌+◌, ◌++◌, ℕ, true, List, [], ◌∷◌, All, length, slice_index_or, slice_set, Some, None, if◌then◌else◌, ⊤}
 use Rattle.std.specs.Option.{option_or}
+use Rattle.std.specs.List.{list_any}
 use Rattle.jm_dest.specs.declared.key.Key.{Key}
+use Rattle.jm_dest.specs.declared.key.Key.TheVariants.{Queue, Own, SharedOwn, Durable}
+use Rattle.jm_dest.specs.Names.{text_eq}
 use Rattle.jm_dest.specs.Keys.{key_eq}
 use Rattle.jm_machine.specs.declared.state.Definition.{Definition}
 use Rattle.jm_machine.specs.Rows.{greatest_count}
@@ -14,7 +17,7 @@ use Rattle.jm_core.specs.Stored.{AreHolders, ArePlaced, admits, queue_admits}
 use Rattle.jm_reopened.specs.Given.{count_given, count_of_key, given_at}
 use Rattle.jm_decoding.specs.declared.held.HeldRow.{HeldRow}
 use Rattle.jm_decoding.specs.declared.message.MessageRow.{MessageRow}
-use Rattle.jm_loading.specs.Messages.{IsUnheld, content_at, content_said}
+use Rattle.jm_loading.specs.Messages.{ArePairs, IsUnheld, content_at, content_said}
 use Rattle.jm_loading.specs.Said.{count_said}
 
 -- rows stand by the indexes of their subscriptions, from that one on, each under another
@@ -71,9 +74,48 @@ pub record TakesRow (subscriptions : List StoredSubscription) (h : HeldRow) (old
   pub more : (d : StoredMessage) → IsHeldMore subscriptions h.key h.count (slice_index_or old at d) message
   pub new_is : new ≡ slice_set old at message
 
+-- no row is under a subscription with that index or a later one, and no queue holds the message
+abbrev pub EndsBefore : ℕ → Holders → Type 0
+EndsBefore index (holders.Queue count) = ⊥
+EndsBefore index (holders.Subscriptions rows) = end_of 0 rows.items ≤ index
+
+-- the queue stands and may hold the message after so many deliveries, and nobody holds it yet
+pub record CanHoldInQueue (queues : List (List ℕ)) (name : List ℕ) (count : ℕ) (m : StoredMessage) : Type 0 where
+  pub stands : list_any (λ queue. text_eq queue name) queues ≡ true
+  pub admitted : queue_admits name m.message ≡ true
+  pub counted : count ≤ greatest_count
+  pub unheld : IsUnheld m.holders
+
+-- the subscription of the key stands and may hold it, and neither it nor a later one holds it yet
+pub record CanHoldUnder (subscriptions : List StoredSubscription) (key : Key) (count : ℕ) (m : StoredMessage) : Type 0 where
+  pub at : ℕ
+  pub within : at < length subscriptions
+  pub subscription : StoredSubscription
+  pub subscription_is : (d : StoredSubscription) → slice_index_or subscriptions at d ≡ subscription
+  pub named : key_eq subscription.key key ≡ true
+  pub admitted : admits subscription.definition m.message ≡ true
+  pub counted : count ≤ greatest_count
+  pub before : EndsBefore at m.holders
+
+abbrev pub CanHold : List (List ℕ) → List StoredSubscription → Key → ℕ → StoredMessage → Type 0
+CanHold queues subscriptions (Queue name) count m = CanHoldInQueue queues name count m
+CanHold queues subscriptions (Own s c) count m = CanHoldUnder subscriptions (Own s c) count m
+CanHold queues subscriptions (SharedOwn client name) count m = CanHoldUnder subscriptions (SharedOwn client name) count m
+CanHold queues subscriptions (Durable client name) count m = CanHoldUnder subscriptions (Durable client name) count m
+
+-- the message of the row stands, and can be held as the row says
+pub record CanTake (queues : List (List ℕ)) (subscriptions : List StoredSubscription) (h : HeldRow) (messages : List StoredMessage) : Type 0 where
+  pub at : ℕ
+  pub within : at < length messages
+  pub message : StoredMessage
+  pub message_is : (d : StoredMessage) → slice_index_or messages at d ≡ message
+  pub there : message.place ≡ h.place
+  pub can : CanHold queues subscriptions h.key h.count message
+
 -- the messages are those of the rows, by place, and who holds them may hold them: those whom rows of held say
 pub record AreHeldAs (rows : List MessageRow) (subscriptions : List StoredSubscription) (held : List HeldRow) (messages : List StoredMessage) : Type 0 where
   pub placed : ArePlaced 1 messages
+  pub pairs : ArePairs rows messages
   pub same : (place : ℕ) → content_at place messages ≡ content_said place rows
   pub may : All (λ (m : StoredMessage). AreHolders subscriptions m.message m.holders) messages
   pub rise : All (λ (m : StoredMessage). DoRise m.holders) messages

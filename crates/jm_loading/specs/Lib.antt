@@ -5,3 +5,5 @@ pub mod Messages
 pub mod Holding
 pub mod Delays
 pub mod Faults
+pub mod Unfit
+pub mod Fitting

@@ -1,5 +1,5 @@
 -- The messages, by place.
-use Rattle.std.specs.Prelude.{◌≡◌, ℕ, List, [], All, option_map, Option}
+use Rattle.std.specs.Prelude.{◌≡◌, ℕ, List, [], All, map, option_map, Option}
 use Rattle.jm_header.specs.declared.content.Content.{Content}
 use Rattle.jm_core.specs.declared.stored.Holders.{Holders}
 use Rattle.jm_core.specs.declared.stored.Holders.TheVariants as holders
@@ -22,8 +22,20 @@ content_at place messages = option_map (λ (m : StoredMessage). m.message) (give
 abbrev pub content_said : ℕ → List MessageRow → Option Content
 content_said place rows = option_map (λ (m : MessageRow). m.message) (message_said place rows)
 
+-- a message and its place, as it is given, and as the row has them
+abbrev pub given_pair : StoredMessage → ℕ × Content
+given_pair m = (m.place, m.message)
+
+abbrev pub said_pair : MessageRow → ℕ × Content
+said_pair m = (m.place, m.message)
+
+-- each is that of the row with its index, at its place
+abbrev pub ArePairs : List MessageRow → List StoredMessage → Type 0
+ArePairs rows messages = map given_pair messages ≡ map said_pair rows
+
 -- the messages stand by place, those of the rows, and nobody holds one
 pub record ArePlacedAs (rows : List MessageRow) (messages : List StoredMessage) : Type 0 where
   pub placed : ArePlaced 1 messages
+  pub pairs : ArePairs rows messages
   pub same : (place : ℕ) → content_at place messages ≡ content_said place rows
   pub unheld : All (λ (m : StoredMessage). IsUnheld m.holders) messages

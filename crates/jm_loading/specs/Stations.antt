@@ -1,7 +1,9 @@
 -- The queues and the durable subscriptions of the rows of station.
-use Rattle.std.specs.Prelude.{◌≡◌, ◌+◌, ◌<◌, ◌++◌, ℕ, true, List, [], ◌∷◌, All, length, map, slice_index_or, Option, Some, None}
+use Rattle.std.specs.Prelude.{◌≡◌, ◌++◌, ℕ, true, List, [], ◌∷◌, All, map, Option, Some, None}
+use Rattle.std.specs.Cmp.Lexicographic.{slice_cmp}
 use Rattle.std.specs.List.{IsDistinct}
-use Rattle.std.specs.declared.cmp.Ordering.TheVariants.{Less}
+use Rattle.std.specs.List.Sorted.{IsStrictlySortedBy}
+use Rattle.std.specs.Ordering.{nat_cmp}
 use Rattle.jm_dest.specs.declared.key.Key.{Key}
 use Rattle.jm_dest.specs.declared.key.Key.TheVariants.{Queue, Durable}
 use Rattle.jm_dest.specs.Keys.{key_eq}
@@ -19,10 +21,6 @@ IsKnownAs _ _ = ⊥
 
 abbrev pub IsKnown : StationRow → Type 0
 IsKnown s = IsKnownAs s.key s.definition
-
--- the key of each is above that of the one before
-abbrev pub AreRising : List StationRow → Type 0
-AreRising rows = (k : ℕ) (d : StationRow) → k + 1 < length rows → key_cmp (slice_index_or rows k d).key (slice_index_or rows (k + 1) d).key ≡ Less
 
 -- the queue of that name, where nothing is asked for
 abbrev pub queue_named : Key → Option Definition → List (List ℕ)
@@ -55,3 +53,14 @@ subscriptions_in (s ∷ rows) = subscriptions_of s ++ subscriptions_in rows
 pub record AreSubscriptions (subscriptions : List StoredSubscription) : Type 0 where
   pub durable : All (λ (s : StoredSubscription). is_durable s.key ≡ true) subscriptions
   pub once : IsDistinct key_eq (map (λ (s : StoredSubscription). s.key) subscriptions)
+
+-- names of queues and keys of subscriptions rise, so that they may be searched
+pub record AreSearchable (queues : List (List ℕ)) (subscriptions : List StoredSubscription) : Type 0 where
+  pub queues_rise : IsStrictlySortedBy (slice_cmp nat_cmp) queues
+  pub subscriptions_rise : IsStrictlySortedBy key_cmp (map (λ (s : StoredSubscription). s.key) subscriptions)
+
+-- they are those of the rows, which fit
+pub record AreStationsOf (rows : List StationRow) (queues : List (List ℕ)) (subscriptions : List StoredSubscription) : Type 0 where
+  pub known : All IsKnown rows
+  pub queues_are : queues ≡ queues_in rows
+  pub subscriptions_are : subscriptions ≡ subscriptions_in rows

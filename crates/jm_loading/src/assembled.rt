@@ -1,12 +1,13 @@
 //! All four tables together.
 
-ghost use Rattle.std.specs.Prelude.{IfOk};
+ghost use Rattle.std.specs.Prelude.{IfOk, IfErr, OnOk};
+ghost use Rattle.jm_loading.specs.Fitting.{AreAllFit, IsFirstFault};
 ghost use Rattle.jm_loading.specs.Said.{AreSaid};
 
 use crate::delays::{check_delays, check_kept};
 use crate::messages::messages_of;
 use crate::stations::{Stations, stations_of};
-use crate::walk::take_all;
+use crate::taking::take_all;
 use jm_core::{StoredMessage, StoredSubscription};
 use jm_decoding::{DelayRow, HeldRow, MessageRow, StationRow};
 use jm_opening::OpenFault;
@@ -33,6 +34,8 @@ pub fn assemble(
     delays: &[DelayRow],
 ) -> Result<Assembled, OpenFault>
     ensures ok { IfOk result (λ a. AreSaid stations.items messages.items held.now delays.now a.subscriptions.items a.messages.items) }
+    ensures fit { OnOk result (AreAllFit stations.items messages.items held.now delays.now) }
+    ensures err { IfErr result (IsFirstFault stations.items messages.items held.now delays.now) }
 {
     let stations = stations_of(alloc, stations)?;
     let mut messages = messages_of(alloc, messages)?;

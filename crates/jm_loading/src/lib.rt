@@ -9,7 +9,7 @@ mod messages;
 mod order;
 mod reopening;
 mod stations;
-mod walk;
+mod taking;
 
 pub use assembled::{Assembled, assemble};
 pub use reopening::reopened;

@@ -1,8 +1,9 @@
 //! A core of what the rows say.
 
-ghost use Rattle.std.specs.Prelude.{◌≡◌, true, IfOk};
+ghost use Rattle.std.specs.Prelude.{◌≡◌, true, IfOk, IfErr};
 ghost use Rattle.jm_core.specs.Provider.{may_open, state_of};
 ghost use Rattle.jm_keep.specs.Persisted.{IsPersisted};
+ghost use Rattle.jm_loading.specs.Fitting.{IsFirstFault};
 ghost use Rattle.jm_loading.specs.Said.{said};
 
 use crate::assembled::{Assembled, assemble};
@@ -25,6 +26,7 @@ pub fn reopened(
 ) -> Result<Core, OpenFault>
     requires { may_open opening held_limit ≡ true }
     ensures stored { IfOk result (λ core. IsPersisted (state_of core) (said stations.items messages.items held.now delays.now)) }
+    ensures err { IfErr result (IsFirstFault stations.items messages.items held.now delays.now) }
     ensures opening { IfOk result (λ core. (state_of core).opening ≡ opening) }
     ensures limit { IfOk result (λ core. (state_of core).limit ≡ held_limit) }
 {

@@ -1,10 +1,12 @@
 //! The queues and the durable subscriptions.
 
-ghost use Rattle.std.specs.Prelude.{◌≡◌, ◌++◌, All, IsTrue, IfOk, IfErr, OnOk};
-ghost use Rattle.jm_loading.specs.Faults.{IsFaultOf};
-ghost use Rattle.jm_loading.specs.Stations.{AreRising, AreSubscriptions, IsKnown, queues_in, queues_of, subscriptions_in, subscriptions_of};
+ghost use Rattle.std.specs.Prelude.{◌≡◌, ◌<◌, ◌++◌, length, Decides, IfOk, IfErr, OnOk};
+ghost use Rattle.jm_loading.specs.Faults.{IsFaultAt};
+ghost use Rattle.jm_loading.specs.Fitting.{FitStations, station_cmp};
+ghost use Rattle.jm_loading.specs.Stations.{AreSearchable, AreSubscriptions, IsKnown, queues_in, queues_of, subscriptions_in, subscriptions_of};
+ghost use Rattle.jm_loading.specs.Unfit.{IsFirstUnfit, IsNext};
 
-use crate::order::key_cmp;
+use crate::order::is_behind;
 use jm_core::StoredSubscription;
 use jm_decoding::StationRow;
 use jm_dest::{Key, Name};
@@ -20,23 +22,31 @@ pub(crate) struct Stations {
 
 /// Whether the row is that of a queue, or of a durable subscription.
 fn is_known(row: &StationRow) -> bool
-    ensures { IsTrue result → IsKnown row.now }
+    ensures { Decides result (IsKnown row.now) }
 {
-    match (&row.key, &row.definition) {
-        (Key::Queue(_), None) | (Key::Durable(_, _), Some(_)) => true,
-        _ => false,
+    match &row.key {
+        Key::Queue(_) => row.definition.is_none(),
+        Key::Durable(_, _) => row.definition.is_some(),
+        Key::Own(_, _) | Key::SharedOwn(_, _) => false,
     }
 }
 
-/// Tests that the keys rise, and that each row is that of a queue or of a durable subscription.
-fn check(rows: &[StationRow]) -> Result<(), OpenFault>
-    ensures rising { OnOk result (AreRising rows.now) }
-    ensures known { OnOk result (All IsKnown rows.now) }
-    ensures err { IfErr result (IsFaultOf TableName.Station) }
+/// Whether the row with that index stands behind the one before, and is that of a queue or of a durable subscription.
+fn fits(rows: &[StationRow], at: usize) -> bool
+    requires { at < length rows.now }
+    ensures { Decides result (IsNext station_cmp IsKnown rows.now at) }
 {
-    for (at, row) in rows.iter().enumerate() {
-        let rises = at == 0 || key_cmp(&rows[at - 1].key, &row.key).is_lt();
-        if !rises || !is_known(row) {
+    is_behind(rows, at) && is_known(&rows[at])
+}
+
+/// Tests that the keys rise, and that each row is that of a queue or of a durable subscription. Damaged at the first of which that
+/// is not so.
+fn check(rows: &[StationRow]) -> Result<(), OpenFault>
+    ensures fit { OnOk result (FitStations rows.now) }
+    ensures err { IfErr result (IsFaultAt TableName.Station (IsFirstUnfit station_cmp IsKnown rows.now)) }
+{
+    for at in 0..rows.len() {
+        if !fits(rows, at) {
             return Err(OpenFault::Damaged(TableName::Station, at as u64));
         }
     }
@@ -81,9 +91,10 @@ fn sorted(alloc: Global, rows: Vec<StationRow>) -> Result<Stations, AllocError>
 pub(crate) fn stations_of(alloc: Global, rows: Vec<StationRow>) -> Result<Stations, OpenFault>
     ensures queues { IfOk result (λ s. s.queues.items ≡ queues_in rows.items) }
     ensures subscriptions { IfOk result (λ s. s.subscriptions.items ≡ subscriptions_in rows.items) }
-    ensures known { OnOk result (All IsKnown rows.items) }
+    ensures fit { OnOk result (FitStations rows.items) }
     ensures durable { IfOk result (λ s. AreSubscriptions s.subscriptions.items) }
-    ensures err { IfErr result (IsFaultOf TableName.Station) }
+    ensures sorted { IfOk result (λ s. AreSearchable s.queues.items s.subscriptions.items) }
+    ensures err { IfErr result (IsFaultAt TableName.Station (IsFirstUnfit station_cmp IsKnown rows.items)) }
 {
     check(&rows)?;
     Ok(sorted(alloc, rows)?)

@@ -1,11 +1,7 @@
 use Rattle.std.proofs.Common.{◌<◌, ℕ, get_or}
 use Rattle.jm_core.specs.declared.stored.StoredMessage.{StoredMessage}
-use Rattle.jm_reopened.specs.Given.{AreSome}
-use Rattle.jm_loading.specs.Delays.{HasItsDelay}
+use Rattle.jm_loading.specs.Delays.{IsHeldInTime}
 use Rattle.jm_loading.proofs.delays.check_kept.Given as goal
 
 abbrev pub invariant-loop-at : goal.invariant-loop-at
-invariant-loop-at l = record {
-  held : (k : ℕ) (d : StoredMessage) → k < l.at → AreSome (get_or l.messages k d).holders;
-  delayed : (k : ℕ) (d : StoredMessage) → k < l.at → HasItsDelay l.delays (get_or l.messages k d);
-}
+invariant-loop-at l = (k : ℕ) (d : StoredMessage) → k < l.at → IsHeldInTime l.delays (get_or l.messages k d)
