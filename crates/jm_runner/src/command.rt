@@ -1,33 +1,86 @@
-ghost use Rattle.std.specs.Prelude.{◌≤◌, ◌+◌};
-ghost use Rattle.jm_words.specs.Words.{HasLimit};
-ghost use Rattle.jm_play.specs.Ending.{Ends};
-ghost use Rattle.jm_runner.specs.Perform.{HasNoStore, Performs, Refuses};
-ghost use Rattle.jm_play.specs.Source.{reads, reads_max};
+//! What the words of the command line ask for, done with a scenario.
 
+ghost use Rattle.std.specs.Prelude.{◌≡◌, ◌≤◌, ◌+◌, IfSome};
+ghost use Rattle.jm_words.specs.Words.{HasLimit, IsLimit};
+ghost use Rattle.jm_play.specs.Source.{reads, reads_max};
+ghost use Rattle.jm_runner.specs.Perform.{EndsOver, Performs, RunEnds};
+ghost use Rattle.jm_runner.specs.Program as spec;
+
+use crate::databases::Databases;
 use crate::select::pick;
+use crate::stored::play_stored;
 use crate::subscription::lone;
-use jm_play::{Ending, Sink, Source, play};
+use jm_base::Str;
+use jm_play::{DatabaseFault, Ending, Fault, Sink, Source, play};
 use jm_words::Words;
+use sqlite::{Alter, Error, ErrorCode};
 use std::alloc::Global;
 use std::io::{Read, Write};
 
-/// Does what the words ask for, which name no store, with the scenario that the source gives, in at most 16,777,217 reads.
-/// Over a store a scenario is run by `play_stored`.
-pub fn perform<R: Read, W: Write>(
+/// The program's fault for a database that is not opened.
+fn fault_of(error: &Error) -> Fault
+    ensures { result ≡ spec.fault_of_database error.now }
+{
+    match error {
+        Error::SqliteFailure(ErrorCode::OutOfMemory) => Fault::Memory,
+        _ => Fault::Database(DatabaseFault::Failed),
+    }
+}
+
+/// Runs the scenario over the store in the database of that name, which is opened before the scenario is read.
+fn run_over<S: Alter + Drop, D: Databases<S>, R: Read, W: Write>(
     alloc: Global,
-    words: &Words,
+    name: &str,
+    held: Option<u32>,
+    databases: &D,
     source: &mut Source<R>,
     sink: &mut Sink<W>,
 ) -> Ending
-    requires limit { HasLimit words.now }
-    requires store { HasNoStore words.now }
-    ensures ends { Ends (Performs R.remaining words.now source.old source.new) (Refuses R.remaining words.now source.old source.new)
-        W.contents sink.old sink.new result }
+    requires { IfSome held IsLimit }
+    ensures ends { EndsOver S.Store R.remaining W.contents source.old source.new sink.old sink.new result }
+    ensures reads { reads source.new ≤ reads source.old + reads_max }
+{
+    match databases.connect(name) {
+        Ok(conn) => play_stored(alloc, held, conn, source, sink).ending,
+        Err(error) => Ending::of_fault(fault_of(&error)),
+    }
+}
+
+/// Runs the scenario: over a store, where one is named, and else on a new provider.
+fn run<S: Alter + Drop, D: Databases<S>, R: Read, W: Write>(
+    alloc: Global,
+    db: &Option<Str>,
+    held: Option<u32>,
+    databases: &D,
+    source: &mut Source<R>,
+    sink: &mut Sink<W>,
+) -> Ending
+    requires { IfSome held IsLimit }
+    ensures ends { RunEnds S.Store R.remaining W.contents db.now held source.old source.new sink.old sink.new result }
+    ensures reads { reads source.new ≤ reads source.old + reads_max }
+{
+    match db {
+        Some(name) => run_over(alloc, name.as_str(), held, databases, source, sink),
+        None => play(alloc, held, source, sink),
+    }
+}
+
+/// Does what the words ask for with the scenario that the source gives, in at most 16,777,217 reads. Where they name a store,
+/// it is that in the database of that name, which is opened before the scenario is read.
+pub fn perform<S: Alter + Drop, D: Databases<S>, R: Read, W: Write>(
+    alloc: Global,
+    words: &Words,
+    databases: &D,
+    source: &mut Source<R>,
+    sink: &mut Sink<W>,
+) -> Ending
+    requires { HasLimit words.now }
+    ensures ends { Performs S.Store R.remaining W.contents words.now source.old source.new sink.old sink.new result }
     ensures reads { reads source.new ≤ reads source.old + reads_max }
 {
     match words {
         Words::Input => play(alloc, None, source, sink),
-        Words::Run { held, .. } => play(alloc, *held, source, sink),
+        Words::Run { db, held, .. } => run(alloc, db, *held, databases, source, sink),
         Words::Select { selector, .. } => pick(alloc, selector.as_str(), source, sink),
         Words::Lone { key, .. } => lone(alloc, source, key.as_str(), sink),
     }

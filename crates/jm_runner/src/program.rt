@@ -1,20 +1,18 @@
-ghost use Rattle.std.specs.Prelude.{◌≡◌, IfOk, IfSome, OnOk, MatchOption};
+ghost use Rattle.std.specs.Prelude.{◌≡◌, IfOk, OnOk, MatchOption};
 ghost use Rattle.std.specs.Io.KnownBytes.{Appends};
 ghost use Rattle.std.specs.Process.{exit_status};
-ghost use Rattle.jm_words.specs.Words.{HasLimit, IsLimit};
+ghost use Rattle.jm_words.specs.Words.{HasLimit};
 ghost use Rattle.jm_play.specs.Faults.{fault_line};
 ghost use Rattle.jm_runner.specs.Program as spec;
 
 use crate::command::perform;
 use crate::databases::Databases;
-use crate::stored::play_stored;
 use clap::error::ErrorKind;
-use jm_play::{DatabaseFault, Ending, Fault, Sink, Source};
+use jm_play::{Ending, Fault, Sink, Source};
 use jm_words::{Words, WordsFault, not_text, read_words};
-use sqlite::{Alter, Error, ErrorCode};
-use std::alloc::Global;
+use sqlite::Alter;
 use std::env::Env;
-use std::io::{Read, Write};
+use std::io::Write;
 use std::process::ExitCode;
 use std::rt::Files;
 use std::{env, fs, io};
@@ -33,39 +31,8 @@ fn asked(rt: &(impl Env + AllocGlobal)) -> Result<Words, WordsFault>
     read_words(alloc, &words)
 }
 
-/// The program's fault for a database that is not opened.
-fn fault_of(error: &Error) -> Fault
-    ensures { result ≡ spec.fault_of_database error.now }
-{
-    match error {
-        Error::SqliteFailure(ErrorCode::OutOfMemory) => Fault::Memory,
-        _ => Fault::Database(DatabaseFault::Failed),
-    }
-}
-
-/// Runs the scenario of what was opened over the store of that name. A scenario that was not opened is told first, and then
-/// the database is not opened.
-fn answer_over<S: Alter + Drop, D: Databases<S>, R: Read + Drop, W: Write>(
-    alloc: Global,
-    held: Option<u32>,
-    databases: &D,
-    name: &str,
-    opened: io::Result<R>,
-    sink: &mut Sink<W>,
-) -> Ending
-    requires { IfSome held IsLimit }
-{
-    let Ok(reader) = opened else {
-        return Ending::of_fault(Fault::File);
-    };
-    match databases.connect(name) {
-        Ok(conn) => play_stored(alloc, held, conn, &mut Source::new(Ok(reader)), sink).ending,
-        Err(error) => Ending::of_fault(fault_of(&error)),
-    }
-}
-
 /// Does what the words ask for, with the scenario of their file or of standard input. The scenario's file is opened before the
-/// database, and the database before the scenario is read.
+/// database, which is not opened where that fails.
 fn answer<S: Alter + Drop, D: Databases<S>>(
     rt: &(impl Files + Input + Print + AllocGlobal),
     databases: &D,
@@ -76,18 +43,21 @@ fn answer<S: Alter + Drop, D: Databases<S>>(
     let alloc = rt.alloc();
     let sink = &mut Sink::new(io::writer(rt));
     match words {
-        Words::Input => perform(alloc, words, &mut Source::new(Ok(rt.reader())), sink),
+        Words::Input => {
+            let mut source = Source::new(Ok(rt.reader()));
+            perform(alloc, words, databases, &mut source, sink)
+        }
         Words::Run {
             file,
-            db: Some(db),
-            held,
-        } => {
-            let opened = fs::open(rt, file.as_str());
-            answer_over(alloc, *held, databases, db.as_str(), opened, sink)
-        }
+            db: Some(_),
+            ..
+        } => match fs::open(rt, file.as_str()) {
+            Ok(reader) => perform(alloc, words, databases, &mut Source::new(Ok(reader)), sink),
+            Err(_) => Ending::of_fault(Fault::File),
+        },
         Words::Run { file, .. } | Words::Select { file, .. } | Words::Lone { file, .. } => {
             let mut source = Source::new(fs::open(rt, file.as_str()));
-            perform(alloc, words, &mut source, sink)
+            perform(alloc, words, databases, &mut source, sink)
         }
     }
 }

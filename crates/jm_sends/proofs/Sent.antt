@@ -55,92 +55,92 @@ use Rattle.jm_core.specs.contracts.queues.Queues as Queues
 use Rattle.jm_core.specs.contracts.state.CoreState as CoreState
 use Rattle.jm_core.specs.contracts.provider.Core as Core
 
-Key_send : IsSend Key.the_row
+pub Key_send : IsSend Key.the_row
 Key_send = search (sendable, crosses, maps.crosses) depth 60 fits 20000
 
-Name_send : IsSend Name.the_row
+pub Name_send : IsSend Name.the_row
 Name_send = search (sendable, crosses, maps.crosses) depth 60 fits 20000
 
-Str_send : IsSend Str.the_row
+pub Str_send : IsSend Str.the_row
 Str_send = search (sendable, crosses, maps.crosses) depth 60 fits 20000
 
-Tree_send : IsSend Tree.the_row
+pub Tree_send : IsSend Tree.the_row
 Tree_send = first_of (
   search (maps.crosses, crosses, tree.crosses_both, sendable) depth 60 fits 20000,
   search (option.the_send, memory.the_send, boxed.the_send, list.the_send, str_.the_send, field.the_send, identifier.the_send, items.the_send, pattern.the_send, segment.the_send, texts.the_send, additive.the_send, comparison.the_send, multiplicative.the_send, box_.the_send, string_.the_send, vec_.the_send, set_.the_send, map_.the_send, global_.the_send, tree.crosses, sendable) depth 60 fits 20000,
   search (option.the_send, memory.the_send, boxed.the_send, list.the_send, str_.the_send, field.the_send, identifier.the_send, items.the_send, pattern.the_send, segment.the_send, texts.the_send, additive.the_send, comparison.the_send, multiplicative.the_send, box_.the_send, string_.the_send, vec_.the_send, set_.the_send, map_.the_send, global_.the_send, tree.crosses_both, sendable) depth 60 fits 20000,
 )
 
-Selector_send : IsSend Selector.the_row
+pub Selector_send : IsSend Selector.the_row
 Selector_send = search (sendable, crosses, Str_send, Tree_send) depth 60 fits 20000
 
-Attached_send : IsSend Attached.the_row
+pub Attached_send : IsSend Attached.the_row
 Attached_send = search (sendable, crosses, maps.crosses, Key_send) depth 60 fits 20000
 
-ConnectionState_send : IsSend ConnectionState.the_row
+pub ConnectionState_send : IsSend ConnectionState.the_row
 ConnectionState_send = search (sendable, crosses, maps.crosses) depth 60 fits 20000
 
-SessionState_send : IsSend SessionState.the_row
+pub SessionState_send : IsSend SessionState.the_row
 SessionState_send = search (sendable, crosses, maps.crosses) depth 60 fits 20000
 
-Consumer_send : IsSend Consumer.the_row
+pub Consumer_send : IsSend Consumer.the_row
 Consumer_send = search (sendable, crosses, maps.crosses, Key_send, Selector_send) depth 60 fits 20000
 
-Definition_send : IsSend Definition.the_row
+pub Definition_send : IsSend Definition.the_row
 Definition_send = search (sendable, crosses, maps.crosses, Name_send, Selector_send) depth 60 fits 20000
 
-ConsumerNumber_send : IsSend ConsumerNumber.the_row
+pub ConsumerNumber_send : IsSend ConsumerNumber.the_row
 ConsumerNumber_send = search (sendable, crosses, maps.crosses) depth 60 fits 20000
 
-Clients_send : IsSend Clients.the_row
+pub Clients_send : IsSend Clients.the_row
 Clients_send = search (sendable, crosses, maps.crosses) depth 60 fits 20000
 
-Roster_send : IsSend Roster.the_row
+pub Roster_send : IsSend Roster.the_row
 Roster_send = search (sendable, crosses, maps.crosses, Consumer_send, Attached_send, ConsumerNumber_send) depth 60 fits 20000
 
-Topics_send : IsSend Topics.the_row
+pub Topics_send : IsSend Topics.the_row
 Topics_send = search (sendable, crosses, index_map.the_send, linked.the_send, Name_send, Key_send) depth 60 fits 20000
 
-Row_send : IsSend Row.the_row
+pub Row_send : IsSend Row.the_row
 Row_send = search (sendable, crosses, maps.crosses) depth 60 fits 20000
 
-Lane_send : IsSend Lane.the_row
+pub Lane_send : IsSend Lane.the_row
 Lane_send = search (sendable, crosses, maps.crosses, Row_send) depth 60 fits 20000
 
-Held_send : IsSend Held.the_row
+pub Held_send : IsSend Held.the_row
 Held_send = search (sendable, crosses, maps.crosses, Lane_send) depth 60 fits 20000
 
-Properties_send : IsSend Properties.the_row
+pub Properties_send : IsSend Properties.the_row
 Properties_send = search (sendable, crosses, maps.crosses) depth 60 fits 20000
 
-Message_send : IsSend Message.the_row
+pub Message_send : IsSend Message.the_row
 Message_send = search (sendable, crosses, maps.crosses, Properties_send) depth 60 fits 20000
 
-Stored_send : IsSend Stored.the_row
+pub Stored_send : IsSend Stored.the_row
 Stored_send = search (sendable, crosses, maps.crosses, Message_send) depth 60 fits 20000
 
-Table_send : IsSend Table.the_row
+pub Table_send : IsSend Table.the_row
 Table_send = search (sendable, crosses, maps.crosses, Stored_send) depth 60 fits 20000
 
-Backlogs_send : IsSend Backlogs.the_row
+pub Backlogs_send : IsSend Backlogs.the_row
 Backlogs_send = search (sendable, crosses, maps.crosses, Held_send, Table_send) depth 60 fits 20000
 
-Stations_send : IsSend Stations.the_row
+pub Stations_send : IsSend Stations.the_row
 Stations_send = search (sendable, crosses, maps.crosses, Key_send, Backlogs_send) depth 60 fits 20000
 
-Queues_send : IsSend Queues.the_row
+pub Queues_send : IsSend Queues.the_row
 Queues_send = search (sendable, crosses, maps.crosses, Stations_send) depth 60 fits 20000
 
-Sessions_send : IsSend Sessions.the_row
+pub Sessions_send : IsSend Sessions.the_row
 Sessions_send = search (sendable, crosses, maps.crosses, ConnectionState_send, SessionState_send, Clients_send, Roster_send) depth 60 fits 20000
 
-Topics_field : IsSend (Topics.the_field).row
+pub Topics_field : IsSend (Topics.the_field).row
 Topics_field = search (sendable, crosses, index_map.the_send, linked.the_send, Name_send, Key_send) depth 60 fits 20000
 
-Subs_send : IsSend Subs.the_row
+pub Subs_send : IsSend Subs.the_row
 Subs_send = search (sendable, crosses, maps.crosses, linked.the_send, index_map.the_send, Key_send, Name_send, Definition_send, Topics_send, Topics_field) depth 60 fits 20000
 
-CoreState_send : IsSend CoreState.the_row
+pub CoreState_send : IsSend CoreState.the_row
 CoreState_send = search (sendable, crosses, Sessions_send, Subs_send, Stations_send, Queues_send) depth 60 fits 20000
 
 -- a core may cross threads

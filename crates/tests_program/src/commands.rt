@@ -1,8 +1,9 @@
 //! The commands over readers and writers, also such as fail.
 
 use crate::told::{holds, is_text};
-use jm_runner::{Ending, Fault, Sink, Source, lone, perform, pick, play};
-use jm_words::{Words, read_words};
+use jm_runner::{Databases, Ending, Fault, Sink, Source, lone, perform, pick, play};
+use jm_words::read_words;
+use sqlite::{Connection, Error, ErrorCode, MemStore};
 use std::alloc::{AllocError, Global};
 use std::io::{Read, Write};
 use std::{io, str};
@@ -341,9 +342,10 @@ const LIMITED: &str = r#"{"held": 1, "calls": [
 ]}"#;
 
 /// Words with `|` between them, the scenario, and the lines that are printed.
-static PERFORMED: [(&str, &str, &str); 14] = [
+static PERFORMED: [(&str, &str, &str); 15] = [
     ("jmsrun", SCENARIO, LINES),
     ("jmsrun|run|f", SCENARIO, LINES),
+    ("jmsrun|run|f|--db|d", SCENARIO, "a fault"),
     ("jmsrun|select|x = 1|f", SCENARIO, "5 TRUE\n"),
     ("jmsrun|lone|f|{\"own\":[1,1,1]}", SCENARIO, LINES_ALONE),
     (
@@ -378,6 +380,15 @@ static PERFORMED: [(&str, &str, &str); 14] = [
     ("jmsrun|lone|f|{\"durable\":[\"k\",\"n\"]}", SCENARIO, ""),
 ];
 
+/// No databases: none can be opened.
+struct NoDatabases;
+
+impl Databases<MemStore> for NoDatabases {
+    fn connect(&self, _name: &str) -> Result<Connection<MemStore>, Error> {
+        Err(Error::SqliteFailure(ErrorCode::CannotOpen))
+    }
+}
+
 /// What is printed for the words that stand between the marks; of words that are refused, and of a fault, so much.
 fn performed(alloc: Global, line: &str, scenario: &str) -> Result<String, AllocError> {
     let words: Vec<&str> = line.split('|').collect(alloc)?;
@@ -386,11 +397,9 @@ fn performed(alloc: Global, line: &str, scenario: &str) -> Result<String, AllocE
     };
     let mut written = Vec::new(alloc);
     let mut source = Source::new(Ok(scenario.as_bytes()));
-    let ending = match &words {
-        Words::Run { db: Some(_), .. } => return String::from_str(alloc, "a store"),
-        Words::Input | Words::Run { .. } | Words::Select { .. } | Words::Lone { .. } => {
-            perform(alloc, &words, &mut source, &mut Sink::new(&mut written))
-        }
+    let ending = {
+        let mut sink = Sink::new(&mut written);
+        perform(alloc, &words, &NoDatabases, &mut source, &mut sink)
     };
     if ending.status != 0 || ending.fault.is_some() {
         return String::from_str(alloc, "a fault");
