@@ -22,6 +22,7 @@ struct Bare {
     session: SessionId,
     consumer: ConsumerId,
     now: Moment,
+    topic: Destination,
     half: SessionHalf,
     sum: u64,
 }
@@ -35,6 +36,7 @@ impl Bare {
             opening: Number::new(1)?,
             session,
         };
+        let topic = Destination::topic(alloc, "t")?;
         let core = Core::new(alloc, 1, HELD_LIMIT)?;
         Ok(Bare {
             alloc,
@@ -42,6 +44,7 @@ impl Bare {
             session,
             consumer,
             now,
+            topic,
             half: SessionHalf::new(alloc, sender, mode, 0),
             sum: 0,
         })
@@ -59,7 +62,7 @@ impl Bare {
     fn subscribe(&mut self) -> Result<(), Refusal> {
         let request = Request::CreateConsumer {
             consumer: self.consumer,
-            destination: Destination::topic(self.alloc, "t")?,
+            destination: self.topic.copy()?,
             selector: None,
             no_local: false,
         };
@@ -95,6 +98,16 @@ impl Bare {
         messages.push_reserved(message);
         self.make(Call::Publish(List::new(messages)))
     }
+
+    /// Sends a message there.
+    fn send_to(&mut self, topic: Destination) -> Result<(), Refusal> {
+        let draft = draft(self.alloc)?;
+        match self.half.send(draft, topic, self.now) {
+            Ok(Sent::Publish(message)) => self.publish(message),
+            Ok(Sent::Kept(_)) => Ok(()),
+            Err(refusal) => Err(refusal),
+        }
+    }
 }
 
 fn draft(alloc: Global) -> Result<Draft, Refusal> {
@@ -107,13 +120,9 @@ fn draft(alloc: Global) -> Result<Draft, Refusal> {
 
 impl Client for Bare {
     fn send(&mut self) -> Result<(), Refusal> {
-        match (Destination::topic(self.alloc, "t"), draft(self.alloc)) {
-            (Ok(topic), Ok(draft)) => match self.half.send(draft, topic, self.now) {
-                Ok(Sent::Publish(message)) => self.publish(message),
-                Ok(Sent::Kept(_)) => Ok(()),
-                Err(refusal) => Err(refusal),
-            },
-            (Err(refusal), _) | (_, Err(refusal)) => Err(refusal),
+        match self.topic.copy() {
+            Ok(topic) => self.send_to(topic),
+            Err(_) => Err(Refusal::Memory),
         }
     }
 
