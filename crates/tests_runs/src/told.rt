@@ -1,0 +1,8 @@
+//! What a test asserts of what it is told.
+
+use std::process::Abort;
+
+/// Asserts that this holds of the row.
+pub(crate) fn holds(rt: &impl Abort, row: &str, holds: bool) {
+    assert!(rt; holds, "{row}");
+}
