@@ -1,0 +1,5 @@
+use Rattle.tests_threads.proofs.listeners.jobs_that_do_not_wait.Given as goal
+
+-- the ledger of the blank that was just made
+abbrev pub ghosts-is_served : goal.ghosts-is_served
+ghosts-is_served g a = record { name = a.blank.name; parts = a.blank.parts }
