@@ -5,7 +5,7 @@ ghost use Rattle.std.specs.Prelude.{◌≡◌, ◌≤◌};
 use jm_base::{List, Mode, Refusal};
 use jm_broker::{Broker, Clock, Pass};
 use jm_core::{Call, ClientCall, Core, Reply, Step, Who};
-use jm_dest::{Moment, Number};
+use jm_dest::{ConsumerId, Moment, Number};
 use jm_header::{Message, Sender};
 use jm_keep::NoKeep;
 use jm_tx::{Sent, SessionHalf};
@@ -103,6 +103,26 @@ pub(crate) fn are_made<L: Ledger, R: Wait>(
         }
     }
     true
+}
+
+/// Receives for consumer 1 of the session, up to 1,000 times; whether that is told so.
+pub(crate) fn is_received<L: Ledger, R: Wait>(
+    rt: &R,
+    heap: Global,
+    lock: &Lock<L>,
+    pass: &mut Pass<L>,
+    numbers: Numbers,
+    wanted: &str,
+) -> bool {
+    let (Ok(session), Ok(consumer), Ok(clock)) = (
+        session_of(numbers),
+        ConsumerId::new(1),
+        still_clock(),
+    ) else {
+        return false;
+    };
+    let reply = lock.receive(rt, pass, &session, consumer, &clock, 1000);
+    is_told(heap, &reply, wanted)
 }
 
 fn sender_of(numbers: Numbers) -> Result<Sender, Refusal> {

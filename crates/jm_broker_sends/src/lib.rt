@@ -1,0 +1,24 @@
+//! That one lock may be shared by threads, since it owns all that it holds: `Broker_sync` of `proofs/Sent.antt`, which whoever
+//! starts threads cites. A search for it finds no end.
+#![tactic(auto)]
+
+ghost use Rattle.std.specs.Prelude.{◌≡◌};
+
+use jm_broker::Broker;
+use jm_core::Core;
+use jm_keep::NoKeep;
+use std::sync::ledger::Ledger;
+
+/// The value itself, in whatever thread it is looked at.
+fn looked_at<T: Sync>(value: &T) -> &T
+    ensures { result.now ≡ value.now }
+{
+    value
+}
+
+/// The lock itself: whoever has it may lend it to other threads.
+pub fn shared<L: Ledger>(lock: &Broker<Core, NoKeep, L>) -> &Broker<Core, NoKeep, L>
+    ensures { result.now ≡ lock.now }
+{
+    looked_at(lock)
+}
