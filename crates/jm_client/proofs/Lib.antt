@@ -1,3 +1,4 @@
 -- Lemmas of this crate.
 mod Replies
 mod Sending
+mod Causes

@@ -1,9 +1,10 @@
 -- What a client is told of a request, by what the machine may answer to it.
 use Rattle.std.proofs.Common.{◌≡◌, ◌⊎◌, ℕ, Bool, true, false, true≢false, refl, ap, sym, subst, ◌∙◌, inl, inr, List, Option, Some, None, Result, Ok, Err}
-use Rattle.std.specs.Prelude.{MatchBool}
+use Rattle.std.specs.Prelude.{IfOk, IfErr}
 use Rattle.jm_base.specs.declared.refusal.Refusal.{Refusal}
 use Rattle.jm_base.specs.declared.refusal.Refusal.TheVariants.{BadName, Exhausted, Memory}
 use Rattle.jm_dest.specs.declared.session.SessionId.{SessionId}
+use Rattle.jm_error.specs.Refused.{Refused, bare, bare_reply}
 use Rattle.jm_machine.specs.declared.answer.Answer.{Answer}
 use Rattle.jm_machine.specs.declared.answer.Answer.TheVariants.{Done}
 use Rattle.jm_machine.specs.declared.state.Consumer.{Consumer}
@@ -11,26 +12,14 @@ use Rattle.jm_machine.specs.declared.state.Row.{Row}
 use Rattle.jm_machine.specs.declared.call.Who.{Who}
 use Rattle.jm_machine.specs.declared.call.Who.TheVariants.{Connection, Session}
 use Rattle.jm_machine.specs.declared.call.Call.{Call}
-use Rattle.jm_machine.specs.declared.call.Call.TheVariants.{Ask, Publish, Commit}
+use Rattle.jm_machine.specs.declared.call.Call.TheVariants.{Ask, Commit}
 use Rattle.jm_machine.specs.declared.call.Request.{Request}
 use Rattle.jm_machine.specs.declared.call.Request.TheVariants.{Receive, Missed, Take}
-use Rattle.jm_machine.specs.Entries.{is_not_made}
-use Rattle.jm_machine.specs.Isolation.{Reached}
 use Rattle.jm_machine.specs.Isolation.Reached.{New}
 use Rattle.jm_machine.specs.Life.{Life}
-use Rattle.jm_machine.specs.Machine.{State, Holding, answer, commit_refusal, delivered, delivery, held, new_core, refusal, replied, reply, step}
+use Rattle.jm_machine.specs.Machine.{State, Holding, answer, commit_refusal, delivered, delivery, held, new_core, refusal, replied, reply}
 use Rattle.jm_machine.specs.Rows.{live, next}
-use Rattle.jm_kept.specs.Kept.{KeptFits}
 use Rattle.jm_client.specs.Told.{Told, RefusesNew, is_plain, is_receipt, is_missed}
-
-first_of_two : (b : Bool) (P Q R : Type 0) → MatchBool b P (Q × R) → MatchBool b (Unit {0}) Q
-first_of_two true P Q R f = tt
-first_of_two false P Q R f = f.0
-
--- a client is told what a step over a keeper answers
-pub told_kept : (old new : State) (who : Who) (call : Call) (r : Result Answer Refusal) → Reached old → KeptFits old who call r new → Told who call r
-told_kept old new who call r h f =
-    record { state = old; reached = h; fits = first_of_two (is_not_made r) (new ≡ old) (r ≡ reply old who call) (new ≡ step old who call) f }
 
 replied_is : (o : Option Refusal) (a b : Answer) → Ok b ≡ replied o a → b ≡ a
 replied_is None a b h = cc
@@ -90,24 +79,33 @@ pub told_commit : (who : Who) (messages : _) (a : Answer) → Told who (Commit m
 told_commit who messages a t = subst (λ b. Told who (Commit messages) (Ok b)) (committed_reply t.state who messages a t.fits) t
 
 -- memory may be wanted before a call is made
-pub told_memory : (who : Who) (call : Call) → Told who call (Err Memory)
-told_memory who call = record { state = new_core 1 1; reached = New 1 1; fits = tt }
+pub told_memory : (who : Who) (call : Call) → Told who call (Err (bare Memory))
+told_memory who call = record { state = new_core 1 1; reached = New 1 1; fits = refl }
 
-pub no_memory : (who : ℕ → Who) (request : ℕ → Request) → RefusesNew who request Memory
+pub no_memory : (who : ℕ → Who) (request : ℕ → Request) → RefusesNew who request (bare Memory)
 no_memory who request = inr (0, told_memory (who 0) (Ask (request 0)))
 
-pub no_number : (who : ℕ → Who) (request : ℕ → Request) → RefusesNew who request Exhausted
+pub no_number : (who : ℕ → Who) (request : ℕ → Request) → RefusesNew who request (bare Exhausted)
 no_number who request = inl refl
 
 -- a name that is none, or memory that is wanted before the call
-pub bad_or_memory : (who : ℕ → Who) (request : ℕ → Request) (r : Refusal) → (r ≡ BadName) ⊎ (r ≡ Memory) → (r ≡ BadName) ⊎ RefusesNew who request r
-bad_or_memory who request r h = elim h as (λ _. (r ≡ BadName) ⊎ RefusesNew who request r) [
-  | inl b ↦ inl b
-  | inr m ↦ inr (subst (λ q. RefusesNew who request q) (sym m) (no_memory who request))
+pub bad_or_memory : (who : ℕ → Who) (request : ℕ → Request) (r : Refusal) → (r ≡ BadName) ⊎ (r ≡ Memory) → (bare r ≡ bare BadName) ⊎ RefusesNew who request (bare r)
+bad_or_memory who request r h = elim h as (λ _. (bare r ≡ bare BadName) ⊎ RefusesNew who request (bare r)) [
+  | inl b ↦ inl (ap bare b)
+  | inr m ↦ inr (subst (λ q. RefusesNew who request (bare q)) (sym m) (no_memory who request))
 ]
 
-pub bad_or_wanted_reply : (who : Who) (call : Call) (r : Refusal) → (r ≡ BadName) ⊎ (r ≡ Memory) → (let e : Result (Unit {0}) Refusal = Err r in e ≡ Err BadName) ⊎ Told who call (Err r)
-bad_or_wanted_reply who call r h = elim h as (λ _. (let e : Result (Unit {0}) Refusal = Err r in e ≡ Err BadName) ⊎ Told who call (Err r)) [
-  | inl b ↦ inl (ap (λ q. Err q) b)
-  | inr m ↦ inr (subst (λ q. Told who call (Err q)) (sym m) (told_memory who call))
+pub bad_or_wanted_reply : (who : Who) (call : Call) (r : Refusal) → (r ≡ BadName) ⊎ (r ≡ Memory) → (let e : Result (Unit {0}) Refused = Err (bare r) in e ≡ Err (bare BadName)) ⊎ Told who call (Err (bare r))
+bad_or_wanted_reply who call r h = elim h as (λ _. (let e : Result (Unit {0}) Refused = Err (bare r) in e ≡ Err (bare BadName)) ⊎ Told who call (Err (bare r))) [
+  | inl b ↦ inl (ap (λ q. Err (bare q)) b)
+  | inr m ↦ inr (subst (λ q. Told who call (Err (bare q))) (sym m) (told_memory who call))
 ]
+
+-- a reply that is passed on without a cause
+pub ok_passed : {T : Type 0} (r : Result T Refusal) (P : T → Type 0) → IfOk r P → IfOk (bare_reply r) P
+ok_passed (Ok t) P h = h
+ok_passed (Err q) P h = tt
+
+pub err_passed : {T : Type 0} (r : Result T Refusal) (q : Refusal) → IfErr r (λ e. e ≡ q) → IfErr (bare_reply r) (λ e. e ≡ bare q)
+err_passed (Ok t) q h = tt
+err_passed (Err e) q h = ap bare h

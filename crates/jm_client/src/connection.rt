@@ -8,12 +8,12 @@ ghost use Rattle.jm_machine.specs.declared.call.Request.TheVariants.{CloseConnec
 ghost use Rattle.jm_machine.specs.declared.call.Who.TheVariants.{Connection as ByConnection, Session as BySession};
 ghost use Rattle.jm_tx.specs.Buffers.{new_buffer};
 
-use crate::error::{Error, passed_on};
 use crate::provider::Provider;
 use crate::session::Session;
-use jm_base::{Mode, Refusal};
+use jm_base::Mode;
 use jm_core::{Request, Who};
 use jm_dest::{ConnectionId, SessionId};
+use jm_error::Error;
 use jm_keep::Keep;
 use std::marker::Model;
 use std::sync::Wait;
@@ -37,7 +37,7 @@ impl<'p, R: Wait + Clock, K: Keep + Drop> Model for Connection<'p, R, K> {
 fn end<R: Wait + Clock, K: Keep + Drop>(
     provider: &Provider<'_, R, K>,
     id: ConnectionId,
-) -> Result<(), Refusal>
+) -> Result<(), Error>
     ensures { Answers (ByConnection id) CloseConnection result }
 {
     provider.ask_plain(Who::Connection(id), Request::CloseConnection)
@@ -63,20 +63,16 @@ impl<'p, R: Wait + Clock, K: Keep + Drop> Connection<'p, R, K> {
     pub fn start(&self) -> Result<(), Error>
         ensures { Answers (ByConnection self.now) Start result }
     {
-        passed_on(
-            self.provider
-                .ask_plain(Who::Connection(self.id), Request::Start),
-        )
+        self.provider
+            .ask_plain(Who::Connection(self.id), Request::Start)
     }
 
     /// Stops the delivery of messages to the connection's consumers. `IllegalState` where it is closed. Takes no memory.
     pub fn stop(&self) -> Result<(), Error>
         ensures { Answers (ByConnection self.now) Stop result }
     {
-        passed_on(
-            self.provider
-                .ask_plain(Who::Connection(self.id), Request::Stop),
-        )
+        self.provider
+            .ask_plain(Who::Connection(self.id), Request::Stop)
     }
 
     /// Opens a session in that mode, for one thread (Jakarta Messaging 3.1, section 6.2). A refusal opens none:
@@ -109,6 +105,6 @@ impl<'p, R: Wait + Clock, K: Keep + Drop> Connection<'p, R, K> {
         ensures { Answers (ByConnection self.entry) CloseConnection result }
     {
         let Connection { provider, id } = self;
-        passed_on(end(provider, id))
+        end(provider, id)
     }
 }

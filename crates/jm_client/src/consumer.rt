@@ -3,17 +3,17 @@
 ghost use Rattle.std.specs.Prelude.{◌≡◌, ◌⊎◌, Err, true};
 ghost use Rattle.jm_base.specs.declared.refusal.Refusal.TheVariants.{OutOfRange};
 ghost use Rattle.jm_client.specs.Told.{Answers, Receives, Told, is_missed, missed_reply};
+ghost use Rattle.jm_error.specs.Refused.{bare};
 ghost use Rattle.jm_machine.specs.declared.answer.Answer.TheVariants.{Missed as MissedSoFar};
 ghost use Rattle.jm_machine.specs.declared.call.Call.TheVariants.{Ask};
 ghost use Rattle.jm_machine.specs.declared.call.Request.TheVariants.{CloseConsumer, Missed};
 ghost use Rattle.jm_machine.specs.declared.call.Who.TheVariants.{Session as BySession};
 
-use crate::error::{Error, passed_on};
 use crate::provider::Provider;
 use crate::time::Timer;
-use jm_base::Refusal;
 use jm_core::{Answer, Delivery, Request, Who};
 use jm_dest::{ConsumerId, SessionId};
+use jm_error::Error;
 use jm_keep::Keep;
 use std::marker::Model;
 use std::sync::{CondvarTimeouts, Wait, WaitMethods};
@@ -44,7 +44,7 @@ fn end<R: Wait + Clock, K: Keep + Drop>(
     provider: &Provider<'_, R, K>,
     session: SessionId,
     id: ConsumerId,
-) -> Result<(), Refusal>
+) -> Result<(), Error>
     ensures { Answers (BySession session) (CloseConsumer id) result }
 {
     provider.ask_plain(
@@ -101,7 +101,7 @@ impl<'p, R: Wait + Clock, K: Keep + Drop> Consumer<'p, R, K> {
     /// - `Memory`: a request for memory was refused.
     /// - `Store`: the keeper failed.
     pub fn receive(&self, timeout: Duration) -> Result<Option<Delivery>, Error>
-        ensures { (result ≡ Err OutOfRange) ⊎ Receives self.now.0 self.now.1 result }
+        ensures { (result ≡ Err (bare OutOfRange)) ⊎ Receives self.now.0 self.now.1 result }
     {
         let provider = self.provider;
         let timer = Timer::new(provider.rt, timeout)?;
@@ -124,15 +124,14 @@ impl<'p, R: Wait + Clock, K: Keep + Drop> Consumer<'p, R, K> {
 
     /// The next message, or none where none is there now. A message and a refusal are as `receive` says.
     pub fn receive_no_wait(&self) -> Result<Option<Delivery>, Error>
-        ensures { (result ≡ Err OutOfRange) ⊎ Receives self.now.0 self.now.1 result }
+        ensures { (result ≡ Err (bare OutOfRange)) ⊎ Receives self.now.0 self.now.1 result }
     {
         let provider = self.provider;
         let now = provider.now()?;
-        let reply = provider
+        provider
             .shared
             .lock(provider.rt)
-            .receive(self.session, self.id, now);
-        passed_on(reply)
+            .receive(self.session, self.id, now)
     }
 
     /// How many publications the consumer's subscription missed, since it was at its limit; at 18,446,744,073,709,551,615 it
@@ -161,6 +160,6 @@ impl<'p, R: Wait + Clock, K: Keep + Drop> Consumer<'p, R, K> {
             session,
             id,
         } = self;
-        passed_on(end(provider, session, id))
+        end(provider, session, id)
     }
 }

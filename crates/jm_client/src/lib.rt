@@ -4,7 +4,6 @@
 
 mod connection;
 mod consumer;
-mod error;
 mod overview;
 mod provider;
 mod session;
@@ -15,11 +14,12 @@ mod wakes;
 
 pub use connection::Connection;
 pub use consumer::Consumer;
-pub use error::Error;
 pub use jm_base::{MessageFault, Mode, Refusal};
 pub use jm_dest::Destination;
+pub use jm_error::Error;
 pub use jm_header::{Body, DeliveryMode, Draft, Message};
 pub use jm_machine::Delivery;
+pub use jm_why::Why;
 pub use overview::Overview;
 pub use provider::Provider;
 pub use session::Session;

@@ -4,6 +4,7 @@ ghost use Rattle.std.specs.Prelude.{◌≡◌, ◌⊎◌, true, Err, IfOk, IfErr
 ghost use Rattle.std.specs.Option.{option_copied};
 ghost use Rattle.jm_client.specs.Told.{Answers, IsOverview, RefusesNew, Told, is_plain};
 ghost use Rattle.jm_core.specs.Provider.{state_of};
+ghost use Rattle.jm_error.specs.Refused.{bare};
 ghost use Rattle.jm_keep.specs.Persisted.{IsPersisted};
 ghost use Rattle.jm_machine.specs.declared.answer.Answer.TheVariants.{Done};
 ghost use Rattle.jm_machine.specs.declared.call.Call.TheVariants.{Ask, Commit};
@@ -11,7 +12,6 @@ ghost use Rattle.jm_machine.specs.declared.call.Request.TheVariants.{Open};
 ghost use Rattle.jm_machine.specs.declared.call.Who.TheVariants.{Connection as ByConnection, Session as BySession};
 
 use crate::connection::Connection;
-use crate::error::Error;
 use crate::overview::Overview;
 use crate::shared::Shared;
 use crate::texts::client_named;
@@ -20,6 +20,7 @@ use crate::wakes::wakes;
 use jm_base::{List, Refusal};
 use jm_core::{Answer, Call, Core, Request, Step, Who};
 use jm_dest::{ConsumerId, Moment, Number, SessionId};
+use jm_error::Error;
 use jm_header::Message;
 use jm_keep::{Keep, NoKeep};
 use std::alloc::Global;
@@ -48,7 +49,7 @@ pub struct Provider<'r, R: Wait + Clock, K: Keep + Drop> {
 /// What a commit hands back that was refused.
 #[derive(Drop)]
 pub(crate) struct NotCommitted {
-    pub refusal: Refusal,
+    pub error: Error,
     pub messages: Vec<Message>,
 }
 
@@ -103,8 +104,8 @@ impl<'r, R: Wait + Clock, K: Keep + Drop> Provider<'r, R, K> {
         client: Option<&str>,
     ) -> Result<Connection<'p, R, K>, Error>
         ensures ok { IfOk result (λ c. Told (ByConnection c) (Ask (Open (option_copied client.entry))) (Ok Done)) }
-        ensures refused { IfErr result (λ refusal. (refusal ≡ Refusal.BadName)
-            ⊎ RefusesNew (λ n. ByConnection n) (λ n. Open (option_copied client.entry)) refusal) }
+        ensures refused { IfErr result (λ r. (r ≡ bare Refusal.BadName)
+            ⊎ RefusesNew (λ n. ByConnection n) (λ n. Open (option_copied client.entry)) r) }
     {
         let client = client_named(self.alloc, client)?;
         let given = self.shared.lock(self.rt).give_connection();
@@ -122,7 +123,7 @@ impl<'r, R: Wait + Clock, K: Keep + Drop> Provider<'r, R, K> {
     }
 
     /// One step in one hold of the lock. What it may bring to those that wait for a message wakes them.
-    pub(crate) fn apply(&self, step: &Step) -> Result<Answer, Refusal>
+    pub(crate) fn apply(&self, step: &Step) -> Result<Answer, Error>
         ensures { Told step.now.who step.now.call result }
     {
         let reply = self.shared.lock(self.rt).tell(step);
@@ -133,7 +134,7 @@ impl<'r, R: Wait + Clock, K: Keep + Drop> Provider<'r, R, K> {
     }
 
     /// A call that carries no messages.
-    pub(crate) fn ask(&self, who: Who, request: Request) -> Result<Answer, Refusal>
+    pub(crate) fn ask(&self, who: Who, request: Request) -> Result<Answer, Error>
         ensures { Told who (Ask request) result }
     {
         let step = Step {
@@ -145,18 +146,18 @@ impl<'r, R: Wait + Clock, K: Keep + Drop> Provider<'r, R, K> {
 
     /// The same, where nothing is handed out.
     #[tactic(auto, using(crate::proofs::Replies::told_done))]
-    pub(crate) fn ask_plain(&self, who: Who, request: Request) -> Result<(), Refusal>
+    pub(crate) fn ask_plain(&self, who: Who, request: Request) -> Result<(), Error>
         requires { is_plain request ≡ true }
         ensures { Answers who request result }
     {
         match self.ask(who, request) {
             Ok(_) => Ok(()),
-            Err(refusal) => Err(refusal),
+            Err(error) => Err(error),
         }
     }
 
     /// Publishes a message that the session stamped, and gives its number.
-    pub(crate) fn publish(&self, session: &SessionId, message: Message) -> Result<u64, Refusal>
+    pub(crate) fn publish(&self, session: &SessionId, message: Message) -> Result<u64, Error>
         ensures { IfOk result (λ number. number ≡ message.number) }
     {
         let number = message.number();
@@ -168,7 +169,7 @@ impl<'r, R: Wait + Clock, K: Keep + Drop> Provider<'r, R, K> {
         };
         match self.apply(&step) {
             Ok(_) => Ok(number),
-            Err(refusal) => Err(refusal),
+            Err(error) => Err(error),
         }
     }
 
@@ -180,7 +181,7 @@ impl<'r, R: Wait + Clock, K: Keep + Drop> Provider<'r, R, K> {
         messages: Vec<Message>,
     ) -> Result<(), NotCommitted>
         ensures ok { OnOk result (Told (BySession session.now) (Commit messages.items) (Ok Done)) }
-        ensures err { IfErr result (λ back. Told (BySession session.now) (Commit messages.items) (Err back.refusal)) }
+        ensures err { IfErr result (λ back. Told (BySession session.now) (Commit messages.items) (Err back.error)) }
         ensures back { IfErr result (λ back. back.messages.items ≡ messages.items) }
     {
         let step = Step {
@@ -191,7 +192,7 @@ impl<'r, R: Wait + Clock, K: Keep + Drop> Provider<'r, R, K> {
         let messages = committed(self.alloc, step.call);
         match reply {
             Ok(_) => Ok(()),
-            Err(refusal) => Err(NotCommitted { refusal, messages }),
+            Err(error) => Err(NotCommitted { error, messages }),
         }
     }
 

@@ -6,6 +6,7 @@ ghost use Rattle.jm_base.specs.declared.refusal.Refusal.TheVariants.{BadName, Me
 ghost use Rattle.jm_client.specs.Told.{Answers, RefusesNew, Told, done_reply};
 ghost use Rattle.jm_client.specs.Sends.{Sends};
 ghost use Rattle.jm_dest.specs.Names.{is_name};
+ghost use Rattle.jm_error.specs.Refused.{bare};
 ghost use Rattle.jm_header.specs.declared.body.Body.TheVariants.{Bytes, Text};
 ghost use Rattle.jm_header.specs.Headers.{defaults};
 ghost use Rattle.jm_machine.specs.declared.answer.Answer.TheVariants.{Done};
@@ -15,12 +16,12 @@ ghost use Rattle.jm_machine.specs.declared.call.Who.TheVariants.{Session as BySe
 ghost use Rattle.jm_tx.specs.Buffers.{new_buffer};
 
 use crate::consumer::Consumer;
-use crate::error::{Error, passed_on};
 use crate::provider::{NotCommitted, Provider};
 use crate::texts::{copied_text, subscription_named};
-use jm_base::{Mode, Refusal};
+use jm_base::Mode;
 use jm_core::{Request, Who};
 use jm_dest::{Destination, SessionId};
+use jm_error::{Error, passed_on};
 use jm_header::{Draft, Sender};
 use jm_keep::Keep;
 use jm_tx::{Sent, SessionHalf};
@@ -51,7 +52,7 @@ impl<'p, R: Wait + Clock, K: Keep + Drop> Model for Session<'p, R, K> {
 fn end<R: Wait + Clock, K: Keep + Drop>(
     provider: &Provider<'_, R, K>,
     id: SessionId,
-) -> Result<(), Refusal>
+) -> Result<(), Error>
     ensures { Answers (BySession id) CloseSession result }
 {
     provider.ask_plain(Who::Session(id), Request::CloseSession)
@@ -95,7 +96,7 @@ impl<'p, R: Wait + Clock, K: Keep + Drop> Session<'p, R, K> {
     /// `Memory` where a request for memory was refused.
     pub fn create_topic(&self, name: &str) -> Result<Destination, Error>
         ensures ok { IfOk result (λ destination. (destination ≡ Destination.Topic name.now) × IsTrue (is_name name.now)) }
-        ensures err { IfErr result (λ refusal. refusal ≡ (if is_name name.now then Memory else BadName)) }
+        ensures err { IfErr result (λ r. r ≡ bare (if is_name name.now then Memory else BadName)) }
     {
         passed_on(Destination::topic(self.provider.alloc, name))
     }
@@ -103,7 +104,7 @@ impl<'p, R: Wait + Clock, K: Keep + Drop> Session<'p, R, K> {
     /// The queue of that name, with the same refusals.
     pub fn create_queue(&self, name: &str) -> Result<Destination, Error>
         ensures ok { IfOk result (λ destination. (destination ≡ Destination.Queue name.now) × IsTrue (is_name name.now)) }
-        ensures err { IfErr result (λ refusal. refusal ≡ (if is_name name.now then Memory else BadName)) }
+        ensures err { IfErr result (λ r. r ≡ bare (if is_name name.now then Memory else BadName)) }
     {
         passed_on(Destination::queue(self.provider.alloc, name))
     }
@@ -120,7 +121,7 @@ impl<'p, R: Wait + Clock, K: Keep + Drop> Session<'p, R, K> {
     pub fn create_text_message(&self, text: &str) -> Result<Draft, Error>
         ensures { MatchResult result
             (λ draft. draft ≡ record defaults { body = Text text.now })
-            (λ refusal. refusal ≡ Memory) }
+            (λ r. r ≡ bare Memory) }
     {
         let mut draft = self.create_message();
         draft.set_text(text)?;
@@ -131,7 +132,7 @@ impl<'p, R: Wait + Clock, K: Keep + Drop> Session<'p, R, K> {
     pub fn create_bytes_message(&self, bytes: &[u8]) -> Result<Draft, Error>
         ensures { MatchResult result
             (λ draft. draft ≡ record defaults { body = Bytes bytes.now })
-            (λ refusal. refusal ≡ Memory) }
+            (λ r. r ≡ bare Memory) }
     {
         let mut draft = self.create_message();
         draft.set_bytes(bytes)?;
@@ -191,8 +192,8 @@ impl<'p, R: Wait + Clock, K: Keep + Drop> Session<'p, R, K> {
     ) -> Result<Consumer<'p, R, K>, Error>
         ensures ok { IfOk result (λ c. (c.0 ≡ self.now.sender.session)
             × Told (BySession c.0) (Ask (CreateDurable c.1 destination.now name.now (option_copied selector.entry) no_local)) (Ok Done)) }
-        ensures refused { IfErr result (λ refusal. (refusal ≡ BadName) ⊎ RefusesNew (λ n. BySession self.now.sender.session)
-            (λ n. CreateDurable n destination.now name.now (option_copied selector.entry) no_local) refusal) }
+        ensures refused { IfErr result (λ r. (r ≡ bare BadName) ⊎ RefusesNew (λ n. BySession self.now.sender.session)
+            (λ n. CreateDurable n destination.now name.now (option_copied selector.entry) no_local) r) }
     {
         let destination = destination.copy()?;
         let name = subscription_named(self.provider.alloc, name)?;
@@ -223,8 +224,8 @@ impl<'p, R: Wait + Clock, K: Keep + Drop> Session<'p, R, K> {
     ) -> Result<Consumer<'p, R, K>, Error>
         ensures ok { IfOk result (λ c. (c.0 ≡ self.now.sender.session)
             × Told (BySession c.0) (Ask (CreateShared c.1 destination.now name.now (option_copied selector.entry))) (Ok Done)) }
-        ensures refused { IfErr result (λ refusal. (refusal ≡ BadName) ⊎ RefusesNew (λ n. BySession self.now.sender.session)
-            (λ n. CreateShared n destination.now name.now (option_copied selector.entry)) refusal) }
+        ensures refused { IfErr result (λ r. (r ≡ bare BadName) ⊎ RefusesNew (λ n. BySession self.now.sender.session)
+            (λ n. CreateShared n destination.now name.now (option_copied selector.entry)) r) }
     {
         let destination = destination.copy()?;
         let name = subscription_named(self.provider.alloc, name)?;
@@ -256,8 +257,8 @@ impl<'p, R: Wait + Clock, K: Keep + Drop> Session<'p, R, K> {
     ) -> Result<Consumer<'p, R, K>, Error>
         ensures ok { IfOk result (λ c. (c.0 ≡ self.now.sender.session)
             × Told (BySession c.0) (Ask (CreateSharedDurable c.1 destination.now name.now (option_copied selector.entry))) (Ok Done)) }
-        ensures refused { IfErr result (λ refusal. (refusal ≡ BadName) ⊎ RefusesNew (λ n. BySession self.now.sender.session)
-            (λ n. CreateSharedDurable n destination.now name.now (option_copied selector.entry)) refusal) }
+        ensures refused { IfErr result (λ r. (r ≡ bare BadName) ⊎ RefusesNew (λ n. BySession self.now.sender.session)
+            (λ n. CreateSharedDurable n destination.now name.now (option_copied selector.entry)) r) }
     {
         let destination = destination.copy()?;
         let name = subscription_named(self.provider.alloc, name)?;
@@ -282,13 +283,11 @@ impl<'p, R: Wait + Clock, K: Keep + Drop> Session<'p, R, K> {
     /// - `SubscriptionInUse`: a consumer of it is open, or a message of it is out.
     /// - `Memory`: a request for memory was refused. `Store`: the keeper failed.
     pub fn unsubscribe(&self, name: &str) -> Result<(), Error>
-        ensures { (result ≡ Err BadName) ⊎ Answers (BySession self.now.sender.session) (Unsubscribe name.now) result }
+        ensures { (result ≡ Err (bare BadName)) ⊎ Answers (BySession self.now.sender.session) (Unsubscribe name.now) result }
     {
         let name = subscription_named(self.provider.alloc, name)?;
-        passed_on(
-            self.provider
-                .ask_plain(Who::Session(self.id), Request::Unsubscribe { name }),
-        )
+        self.provider
+            .ask_plain(Who::Session(self.id), Request::Unsubscribe { name })
     }
 
     /// Sends the draft to the destination, and gives the message's number among the session's sends, from 1. In a transacted
@@ -310,8 +309,8 @@ impl<'p, R: Wait + Clock, K: Keep + Drop> Session<'p, R, K> {
         let now = self.provider.now()?;
         match self.half.send(draft, destination, now) {
             Ok(Sent::Kept(number)) => Ok(number),
-            Ok(Sent::Publish(message)) => passed_on(self.provider.publish(&self.id, message)),
-            Err(refusal) => Err(Error::of(refusal)),
+            Ok(Sent::Publish(message)) => self.provider.publish(&self.id, message),
+            Err(refusal) => Err(Error::new(refusal, None)),
         }
     }
 
@@ -332,9 +331,9 @@ impl<'p, R: Wait + Clock, K: Keep + Drop> Session<'p, R, K> {
         match self.provider.commit(&self.id, messages) {
             Ok(()) => Ok(()),
             Err(back) => {
-                let NotCommitted { refusal, messages } = back;
+                let NotCommitted { error, messages } = back;
                 self.half.put_back(messages);
-                Err(Error::of(refusal))
+                Err(error)
             }
         }
     }
@@ -364,10 +363,8 @@ impl<'p, R: Wait + Clock, K: Keep + Drop> Session<'p, R, K> {
     pub fn acknowledge(&self) -> Result<(), Error>
         ensures { Answers (BySession self.now.sender.session) Acknowledge result }
     {
-        passed_on(
-            self.provider
-                .ask_plain(Who::Session(self.id), Request::Acknowledge),
-        )
+        self.provider
+            .ask_plain(Who::Session(self.id), Request::Acknowledge)
     }
 
     /// Lets all that is out to the session wait again, in its order (Jakarta Messaging 3.1, section 6.2.10). A refusal leaves
@@ -378,10 +375,8 @@ impl<'p, R: Wait + Clock, K: Keep + Drop> Session<'p, R, K> {
     pub fn recover(&self) -> Result<(), Error>
         ensures { Answers (BySession self.now.sender.session) Recover result }
     {
-        passed_on(
-            self.provider
-                .ask_plain(Who::Session(self.id), Request::Recover),
-        )
+        self.provider
+            .ask_plain(Who::Session(self.id), Request::Recover)
     }
 
     /// Closes the session with its consumers: what is out to it waits again, and what waits for its commit is never published
@@ -396,6 +391,6 @@ impl<'p, R: Wait + Clock, K: Keep + Drop> Session<'p, R, K> {
             id,
             half: _half,
         } = self;
-        passed_on(end(provider, id))
+        end(provider, id)
     }
 }

@@ -1,21 +1,26 @@
 //! What lies under the lock.
 
-ghost use Rattle.std.specs.Prelude.{◌≡◌, ◌+◌, ◌-◌, ◌^◌, false, true, count_by, length, IsTrue, IsErrOf, MatchResult};
-ghost use Rattle.jm_client.specs.Told.{IsOverview, Receives, Told, is_receipt, message_answer};
+ghost use Rattle.std.specs.Prelude.{◌≡◌, ◌+◌, ◌-◌, ◌^◌, false, true, count_by, length, IsTrue, IsErrOf, Err, IfErr, MatchResult};
+ghost use Rattle.jm_client.specs.Told as spec;
+ghost use Rattle.jm_client.specs.Told.{IsOverview, IsRefusedIn, IsToldIn, Receives, Told, is_receipt, message_answer};
 ghost use Rattle.jm_core.specs.Kept.{IsNumberOfMessages};
 ghost use Rattle.jm_core.specs.Provider.{state_of};
 ghost use Rattle.jm_core.specs.Steps.{StepFits};
+ghost use Rattle.jm_error.specs.Refused.{without_cause};
 ghost use Rattle.jm_keep.specs.Persisted.{IsPersisted};
 ghost use Rattle.jm_keep.specs.Stored.{HasRisen};
 ghost use Rattle.jm_kept.specs.Kept.{KeptFits};
 ghost use Rattle.jm_machine.specs.Isolation.{Reached};
 ghost use Rattle.jm_stations.specs.Backlogs as backlogs;
+ghost use Rattle.jm_why.specs.Why.{why};
 
 use crate::overview::Overview;
 use jm_base::Refusal;
 use jm_core::{Answer, Call, Core, Delivery, Request, Step, Who, law_core_reached};
 use jm_dest::{ConnectionId, ConsumerId, Moment, Number, SessionId};
+use jm_error::Error;
 use jm_keep::Keep;
+use jm_why::law_explained;
 use std::alloc::Global;
 use std::marker::Model;
 
@@ -69,6 +74,47 @@ fn last_connection(core: &Core) -> u32 {
     last
 }
 
+/// Whether a cause stands behind the refusal.
+fn has_cause(refusal: &Refusal) -> bool
+    ensures { result ≡ spec.has_cause refusal.now }
+{
+    matches!(refusal, Refusal::IllegalState | Refusal::SubscriptionInUse)
+}
+
+/// The error of a step that was refused so by the core, which stands as it met it: with the cause of it, or without one where
+/// memory was wanted to find it.
+fn error_of(alloc: Global, core: &Core, step: &Step, refusal: Refusal) -> Error
+    requires { IsRefusedIn (state_of core.now) step.now.who step.now.call refusal }
+    ensures same { result.refusal ≡ refusal }
+    ensures told { IsToldIn (state_of core.now) step.now.who step.now.call (Err result) }
+{
+    law_explained();
+    if !has_cause(&refusal) {
+        return Error::new(refusal, None);
+    }
+    match jm_explain::why(alloc, core, step) {
+        Ok(cause) => Error::new(refusal, cause),
+        Err(_) => Error::new(refusal, None),
+    }
+}
+
+/// The reply to a step, where it is refused with its cause. Then the core stands as the step met it.
+fn with_cause(
+    alloc: Global,
+    core: &Core,
+    step: &Step,
+    reply: Result<Answer, Refusal>,
+) -> Result<Answer, Error>
+    requires { IfErr reply (λ r. IsRefusedIn (state_of core.now) step.now.who step.now.call r) }
+    ensures same { without_cause result ≡ reply }
+    ensures told { IfErr result (λ r. IsToldIn (state_of core.now) step.now.who step.now.call (Err r)) }
+{
+    match reply {
+        Ok(answer) => Ok(answer),
+        Err(refusal) => Err(error_of(alloc, core, step, refusal)),
+    }
+}
+
 /// What a receive hands out that was answered so.
 fn handed_out(answer: Answer) -> Option<Delivery>
     requires { is_receipt answer ≡ true }
@@ -107,13 +153,15 @@ impl<K: Keep + Drop> Shared<K> {
         law_core_reached(&self.core);
     }
 
-    /// One step, as `jm_kept::step` makes it, with its refusals. The numbers stay.
-    pub(crate) fn apply(&mut self, step: &Step) -> Result<Answer, Refusal>
-        ensures fits { KeptFits (state_of self.old.core) step.now.who step.now.call result (state_of self.new.core) }
+    /// One step, as `jm_kept::step` makes it, with its refusals, each told with its cause in the state that the step met. The
+    /// numbers stay.
+    pub(crate) fn apply(&mut self, step: &Step) -> Result<Answer, Error>
+        ensures fits { KeptFits (state_of self.old.core) step.now.who step.now.call (without_cause result) (state_of self.new.core) }
+        ensures told { IsToldIn (state_of self.old.core) step.now.who step.now.call result }
         ensures without { K.is_keeping self.old.keeper ≡ false →
-            StepFits (state_of self.old.core) step.now.who step.now.call result (state_of self.new.core) }
+            StepFits (state_of self.old.core) step.now.who step.now.call (without_cause result) (state_of self.new.core) }
         ensures alone { K.is_keeping self.old.keeper ≡ false → self.new.keeper ≡ self.old.keeper }
-        ensures store { IsErrOf result Refusal.Store → HasRisen (K.faults self.old.keeper) (K.faults self.new.keeper) }
+        ensures store { IsErrOf (without_cause result) Refusal.Store → HasRisen (K.faults self.old.keeper) (K.faults self.new.keeper) }
         ensures clean { IsTrue (K.is_clean self.new.keeper) → IsTrue (K.is_clean self.old.keeper) }
         ensures kept { IsTrue (K.is_clean self.new.keeper) → IsPersisted (state_of self.old.core) (K.stored self.old.keeper) →
             IsPersisted (state_of self.new.core) (K.stored self.new.keeper) }
@@ -127,11 +175,12 @@ impl<K: Keep + Drop> Shared<K> {
             sessions: _,
             consumers: _,
         } = self;
-        jm_kept::step(*alloc, core, keeper, step)
+        let reply = jm_kept::step(*alloc, core, keeper, step);
+        with_cause(*alloc, core, step, reply)
     }
 
     /// The same, and what a client may know of it.
-    pub(crate) fn tell(&mut self, step: &Step) -> Result<Answer, Refusal>
+    pub(crate) fn tell(&mut self, step: &Step) -> Result<Answer, Error>
         ensures { Told step.now.who step.now.call result }
     {
         self.law_reached();
@@ -144,7 +193,7 @@ impl<K: Keep + Drop> Shared<K> {
         session: SessionId,
         consumer: ConsumerId,
         now: Moment,
-    ) -> Result<Option<Delivery>, Refusal>
+    ) -> Result<Option<Delivery>, Error>
         ensures { Receives session consumer result }
     {
         let step = Step {

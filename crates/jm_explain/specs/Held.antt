@@ -1,5 +1,6 @@
 -- What is held of a key that has a name, as far as a cause looks at it.
-use Rattle.std.specs.Prelude.{◌&&◌, Bool, true, false, List, Option}
+use Rattle.std.specs.Prelude.{◌≢◌, ◌&&◌, Bool, true, false, List, Option, Some, option_map}
+use Rattle.jm_base.specs.declared.refusal.Refusal.TheVariants.{IllegalState}
 use Rattle.std.specs.List.{list_any}
 use Rattle.jm_dest.specs.declared.key.Key.{Key}
 use Rattle.jm_dest.specs.Keys.{key_eq}
@@ -12,7 +13,7 @@ use Rattle.jm_machine.specs.Rows.{is_out}
 use Rattle.jm_sub.specs.declared.sharing.Sharing.{Sharing}
 use Rattle.jm_sub.specs.declared.sharing.Sharing.TheVariants.{Unshared, SharedDurable, Shared}
 use Rattle.jm_why.specs.declared.cause.Why.{Why}
-use Rattle.jm_why.specs.Why.{join_why, resume_why, share_why}
+use Rattle.jm_why.specs.Why.{join_why, refusal_of, resume_why, share_why}
 
 -- the consumer receives from the key, and is active
 abbrev pub is_active_at : Key → Consumer → Bool
@@ -39,3 +40,7 @@ names_none (CreateShared c destination name selector) = false
 names_none (CreateSharedDurable c destination name selector) = false
 names_none (Unsubscribe name) = false
 names_none request = true
+
+-- there is no cause, or one that stands behind no IllegalState
+abbrev pub IsNoState : Option Why → Type 0
+IsNoState why = option_map refusal_of why ≢ Some IllegalState

@@ -1,8 +1,8 @@
 //! Causes of calls.
 
-ghost use Rattle.std.specs.Prelude.{◌≡◌, true, IfOk};
+ghost use Rattle.std.specs.Prelude.{◌≡◌, true, IfOk, OnErr};
 ghost use Rattle.jm_core.specs.Provider.{state_of};
-ghost use Rattle.jm_explain.specs.Held.{names_none};
+ghost use Rattle.jm_explain.specs.Held.{IsNoState, names_none};
 ghost use Rattle.jm_machine.specs.Machine as machine;
 ghost use Rattle.jm_machine.specs.Machine.{Holding};
 ghost use Rattle.jm_why.specs.Why as spec;
@@ -50,8 +50,10 @@ fn durable_why(
     selector: &Option<Str>,
     no_local: bool,
 ) -> Result<Option<Why>, AllocError>
-    ensures { IfOk result (λ why. why ≡ spec.why (state_of core.now) (Who.Session session.now)
+    ensures ok { IfOk result (λ why. why ≡ spec.why (state_of core.now) (Who.Session session.now)
         (Call.Ask (Request.CreateDurable id destination.now name.now selector.now no_local))) }
+    ensures memory { OnErr result (IsNoState (spec.why (state_of core.now) (Who.Session session.now)
+        (Call.Ask (Request.CreateDurable id destination.now name.now selector.now no_local)))) }
 {
     if let Some(why) = begin_why(core, session, id) {
         return Ok(Some(why));
@@ -83,8 +85,10 @@ fn shared_why(
     name: &SubscriptionName,
     selector: &Option<Str>,
 ) -> Result<Option<Why>, AllocError>
-    ensures { IfOk result (λ why. why ≡ spec.why (state_of core.now) (Who.Session session.now)
+    ensures ok { IfOk result (λ why. why ≡ spec.why (state_of core.now) (Who.Session session.now)
         (Call.Ask (Request.CreateShared id destination.now name.now selector.now))) }
+    ensures memory { OnErr result (IsNoState (spec.why (state_of core.now) (Who.Session session.now)
+        (Call.Ask (Request.CreateShared id destination.now name.now selector.now)))) }
 {
     if let Some(why) = begin_why(core, session, id) {
         return Ok(Some(why));
@@ -113,8 +117,10 @@ fn shared_durable_why(
     name: &SubscriptionName,
     selector: &Option<Str>,
 ) -> Result<Option<Why>, AllocError>
-    ensures { IfOk result (λ why. why ≡ spec.why (state_of core.now) (Who.Session session.now)
+    ensures ok { IfOk result (λ why. why ≡ spec.why (state_of core.now) (Who.Session session.now)
         (Call.Ask (Request.CreateSharedDurable id destination.now name.now selector.now))) }
+    ensures memory { OnErr result (IsNoState (spec.why (state_of core.now) (Who.Session session.now)
+        (Call.Ask (Request.CreateSharedDurable id destination.now name.now selector.now)))) }
 {
     if let Some(why) = begin_why(core, session, id) {
         return Ok(Some(why));
@@ -139,8 +145,10 @@ fn unsubscribe_why(
     session: &SessionId,
     name: &SubscriptionName,
 ) -> Result<Option<Why>, AllocError>
-    ensures { IfOk result (λ why. why ≡ spec.why (state_of core.now) (Who.Session session.now)
+    ensures ok { IfOk result (λ why. why ≡ spec.why (state_of core.now) (Who.Session session.now)
         (Call.Ask (Request.Unsubscribe name.now))) }
+    ensures memory { OnErr result (IsNoState (spec.why (state_of core.now) (Who.Session session.now)
+        (Call.Ask (Request.Unsubscribe name.now)))) }
 {
     if let Some(why) = session_why(core, session) {
         return Ok(Some(why));
@@ -180,7 +188,8 @@ fn of_session(
     session: &SessionId,
     request: &Request,
 ) -> Result<Option<Why>, AllocError>
-    ensures { IfOk result (λ why. why ≡ spec.why (state_of core.now) (Who.Session session.now) (Call.Ask request.now)) }
+    ensures ok { IfOk result (λ why. why ≡ spec.why (state_of core.now) (Who.Session session.now) (Call.Ask request.now)) }
+    ensures memory { OnErr result (IsNoState (spec.why (state_of core.now) (Who.Session session.now) (Call.Ask request.now))) }
 {
     match request {
         Request::CreateDurable {
@@ -265,7 +274,8 @@ fn request_why(
     who: &Who,
     request: &Request,
 ) -> Result<Option<Why>, AllocError>
-    ensures { IfOk result (λ why. why ≡ spec.why (state_of core.now) who.now (Call.Ask request.now)) }
+    ensures ok { IfOk result (λ why. why ≡ spec.why (state_of core.now) who.now (Call.Ask request.now)) }
+    ensures memory { OnErr result (IsNoState (spec.why (state_of core.now) who.now (Call.Ask request.now))) }
 {
     match who {
         Who::Connection(id) => Ok(of_connection(core, *id, request)),
@@ -275,9 +285,11 @@ fn request_why(
 
 /// Why the core refuses the step as `IllegalState`, or as `SubscriptionInUse`: the first cause that stands; none where it is
 /// not refused so. It looks only, and changes nothing; where the step names a subscription it goes over all consumers that
-/// were ever made, and over the rows of the subscription. `AllocError` where a request for memory was refused.
+/// were ever made, and over the rows of the subscription. `AllocError` where a request for memory was refused, which comes
+/// only where the subscription is looked at: never of a step that is refused as `IllegalState`.
 pub fn why(alloc: Global, core: &Core, step: &Step) -> Result<Option<Why>, AllocError>
-    ensures { IfOk result (λ why. why ≡ spec.why (state_of core.now) step.now.who step.now.call) }
+    ensures ok { IfOk result (λ why. why ≡ spec.why (state_of core.now) step.now.who step.now.call) }
+    ensures memory { OnErr result (IsNoState (spec.why (state_of core.now) step.now.who step.now.call)) }
 {
     match &step.call {
         Call::Ask(request) => request_why(alloc, core, &step.who, request),

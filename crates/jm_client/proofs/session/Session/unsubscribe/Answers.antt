@@ -1,4 +1,3 @@
-use Rattle.std.proofs.Common.{◌⊎◌, inl, inr, ap, subst, sym, ◌≡◌, Err}
 use Rattle.std.proofs.lemmas.Result.{err_from_is_err_and}
 use Rattle.jm_client.proofs.Replies.{bad_or_wanted_reply}
 use Rattle.jm_client.proofs.session.Session.unsubscribe.Goals as goal

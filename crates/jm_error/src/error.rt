@@ -1,43 +1,64 @@
 //! What a client is told of a call that is refused.
 
-ghost use Rattle.std.specs.Prelude.{◌≡◌};
-ghost use Rattle.jm_client.specs.Faults as spec;
+ghost use Rattle.std.specs.Prelude.{◌≡◌, None};
+ghost use Rattle.jm_error.specs.Faults as spec;
+ghost use Rattle.jm_error.specs.Refused.{bare_reply};
 
 use jm_base::{MessageFault, Refusal};
+use jm_why::Why;
 use std::alloc::{AllocError, AllocFailed};
 use std::marker::Model;
 use std::{error, fmt};
 
 /// Why a call is refused, with a text that says what to do. It is an `Error`, so `?` passes it on, as that of a program too.
-/// Contracts see its refusal.
+/// Contracts see its refusal, and its cause, where one is told.
 #[derive(Clone, Copy, Debug, PartialEq, Eq)]
 pub struct Error {
     refusal: Refusal,
+    cause: Option<Why>,
 }
 
 impl Model for Error {
-    ghost use Rattle.jm_base.specs.declared.refusal.Refusal.{Refusal};
+    ghost use Rattle.jm_error.specs.Refused.{Refused};
 
-    ghost Value = { Refusal };
+    ghost Value = { Refused };
 
-    ghost view = { λ e. e.refusal };
+    ghost view = { λ e. record { refusal = e.refusal; cause = e.cause } };
 
-    ghost inverse = { λ r. record { refusal = r } };
+    ghost inverse = { λ r. record { refusal = r.refusal; cause = r.cause } };
 }
 
 impl Error {
-    /// The error of that refusal.
-    pub(crate) fn of(refusal: Refusal) -> Error
-        ensures { result ≡ refusal }
+    /// The error of that refusal, with its cause, where one is told.
+    pub fn new(refusal: Refusal, cause: Option<Why>) -> Error
+        ensures { result ≡ record { refusal = refusal; cause = cause } }
     {
-        Error { refusal }
+        Error { refusal, cause }
     }
 
     /// The refusal, to be matched on.
     pub fn refusal(&self) -> Refusal
-        ensures { result ≡ self.now }
+        ensures { result ≡ self.now.refusal }
     {
         self.refusal
+    }
+
+    /// The cause behind an `IllegalState` or a `SubscriptionInUse`, to be matched on; none of another refusal, and none where
+    /// memory was wanted to find it (ours).
+    pub fn cause(&self) -> Option<Why>
+        ensures { result ≡ self.now.cause }
+    {
+        self.cause
+    }
+}
+
+/// The error of that refusal, without a cause.
+fn bare(refusal: Refusal) -> Error
+    ensures { result ≡ record { refusal = refusal; cause = None } }
+{
+    Error {
+        refusal,
+        cause: None,
     }
 }
 
@@ -55,62 +76,60 @@ fn refusal_of(fault: MessageFault) -> Refusal
     }
 }
 
-/// A reply that is passed on.
-pub(crate) fn passed_on<T>(reply: Result<T, Refusal>) -> Result<T, Error>
-    ensures { result ≡ reply }
+/// A reply that is passed on, its refusal without a cause.
+pub fn passed_on<T>(reply: Result<T, Refusal>) -> Result<T, Error>
+    ensures { result ≡ bare_reply reply }
 {
     match reply {
         Ok(value) => Ok(value),
-        Err(refusal) => Err(Error { refusal }),
+        Err(refusal) => Err(bare(refusal)),
     }
 }
 
 impl From<Refusal> for Error {
     ghost use Rattle.std.specs.Prelude.{◌≡◌};
+    ghost use Rattle.jm_error.specs.Refused.{bare};
 
-    ghost from_gives = { λ refusal error. error ≡ refusal };
+    ghost from_gives = { λ refusal error. error ≡ bare refusal };
 
     fn from(refusal: Refusal) -> Error {
-        Error { refusal }
+        bare(refusal)
     }
 }
 
 impl From<MessageFault> for Error {
     ghost use Rattle.std.specs.Prelude.{◌≡◌};
-    ghost use Rattle.jm_client.specs.Faults.{refusal_of};
+    ghost use Rattle.jm_error.specs.Faults.{refusal_of};
+    ghost use Rattle.jm_error.specs.Refused.{bare};
 
-    ghost from_gives = { λ fault error. error ≡ refusal_of fault };
+    ghost from_gives = { λ fault error. error ≡ bare (refusal_of fault) };
 
     fn from(fault: MessageFault) -> Error {
-        Error {
-            refusal: refusal_of(fault),
-        }
+        bare(refusal_of(fault))
     }
 }
 
 impl From<AllocError> for Error {
     ghost use Rattle.std.specs.Prelude.{◌≡◌};
     ghost use Rattle.jm_base.specs.declared.refusal.Refusal.TheVariants.{Memory};
+    ghost use Rattle.jm_error.specs.Refused.{bare};
 
-    ghost from_gives = { λ _ error. error ≡ Memory };
+    ghost from_gives = { λ _ error. error ≡ bare Memory };
 
     fn from(_: AllocError) -> Error {
-        Error {
-            refusal: Refusal::Memory,
-        }
+        bare(Refusal::Memory)
     }
 }
 
 impl<T: Drop> From<AllocFailed<T>> for Error {
     ghost use Rattle.std.specs.Prelude.{◌≡◌};
     ghost use Rattle.jm_base.specs.declared.refusal.Refusal.TheVariants.{Memory};
+    ghost use Rattle.jm_error.specs.Refused.{bare};
 
-    ghost from_gives = { λ _ error. error ≡ Memory };
+    ghost from_gives = { λ _ error. error ≡ bare Memory };
 
     fn from(_failed: AllocFailed<T>) -> Error {
-        Error {
-            refusal: Refusal::Memory,
-        }
+        bare(Refusal::Memory)
     }
 }
 
@@ -140,9 +159,12 @@ fn advice(refusal: &Refusal) -> &'static str {
 }
 
 impl fmt::Display for Error {
-    /// The refusal, and what to do.
+    /// The refusal, its cause where one is told, and what to do.
     fn fmt<W: fmt::Write>(&self, f: &mut fmt::Formatter<W>) -> fmt::Result {
-        write!(f, "{}: {}", self.refusal, advice(&self.refusal))
+        match self.cause {
+            Some(why) => write!(f, "{}: {}", self.refusal, why),
+            None => write!(f, "{}: {}", self.refusal, advice(&self.refusal)),
+        }
     }
 }
 
