@@ -13,7 +13,7 @@ use Rattle.jm_machine.specs.declared.call.Request.TheVariants.{CreateSharedDurab
 use Rattle.jm_machine.specs.declared.call.Who.{Who}
 use Rattle.jm_machine.specs.declared.call.Who.TheVariants.{Session}
 use Rattle.jm_machine.specs.declared.state.Definition.{Definition}
-use Rattle.jm_machine.specs.Machine.{durable_of, is_home, is_idle, is_limited, may_resume, replied, unless}
+use Rattle.jm_machine.specs.Machine.{durable_of, is_home, is_idle, may_resume, replied, unless}
 use Rattle.jm_machine.specs.Lone.{Scope, Lone, lone_did, lone_holding, lone_refusal, lone_reply, lone_subscribed}
 
 -- the key is that of a subscription that is held alone: a consumer's own, or a durable one
@@ -22,10 +22,6 @@ is_held_alone (OfQueue name) = false
 is_held_alone (Own s c) = true
 is_held_alone (SharedOwn client name) = false
 is_held_alone (Durable client name) = true
-
--- how many rows the subscription of a key may hold, where that is limited
-abbrev pub limit_of : Key → ℕ → Option ℕ
-limit_of key limit = if is_limited key then Some limit else None
 
 -- the answer hands a message out
 abbrev pub is_handed_out : Answer → Bool

@@ -1,6 +1,6 @@
 //! What one subscription answers to the calls of its own sessions, and takes up of them and of their connections'.
 
-ghost use Rattle.std.specs.Prelude.{◌≡◌, ℕ, List, true, is_none, IfOk, OnOk, if◌then◌else◌};
+ghost use Rattle.std.specs.Prelude.{◌≡◌, ℕ, List, true, is_none, IfOk, OnOk, OnErr, if◌then◌else◌};
 ghost use Rattle.jm_dest.specs.declared.key.Key.{Key as OfKey};
 ghost use Rattle.jm_dest.specs.declared.destination.Destination.TheVariants.{Topic};
 ghost use Rattle.jm_machine.specs.Life.{mode_of as mode_in};
@@ -46,10 +46,11 @@ fn is_delivered(answer: &Answer) -> bool
 }
 
 impl Lone {
-    /// The connection is opened for that client.
+    /// The connection is opened for that client. `AllocError` where a request for memory was refused: all stays as before.
     #[tactic(auto, unfolding(jm_machine::specs::Life::life_after))]
     fn open(&mut self, id: ConnectionId, client: &Option<ClientId>) -> Result<(), AllocError>
-        ensures { OnOk result (self.new ≡ spec.lone_life (Who.Connection id) (Request.Open client.now) self.old) }
+        ensures ok { OnOk result (self.new ≡ spec.lone_life (Who.Connection id) (Request.Open client.now) self.old) }
+        ensures err { OnErr result (self.new ≡ self.old) }
     {
         self.connections.push(ConnectionState {
             id,
@@ -88,48 +89,45 @@ impl Lone {
     /// The connection closes with its sessions and their consumers: what is out to them waits again, and a consumer's own
     /// subscription ends.
     #[tactic(auto, unfolding(jm_machine::specs::Lone::lone_did))]
-    fn close_connection(
-        &mut self,
-        alloc: Global,
-        scope: &Scope,
-        id: ConnectionId,
-    ) -> Result<(), AllocError>
+    fn close_connection(&mut self, scope: &Scope, id: ConnectionId)
         requires { is_held_alone (scope_seen scope.now).key ≡ true }
-        ensures { OnOk result (self.new ≡ spec.lone_did (scope_seen scope.now).key self.old (Who.Connection id) Request.CloseConnection) }
+        ensures { self.new ≡ spec.lone_did (scope_seen scope.now).key self.old (Who.Connection id) Request.CloseConnection }
     {
         let which = Consumers::OfConnection(id);
         self.shut(id);
         self.give_back(&which);
-        self.close(alloc, scope.key(), &which)
+        self.close(scope.key(), &which);
     }
 
-    /// Takes up a request of a connection that was accepted.
+    /// Takes up a request of a connection that was accepted. `AllocError` where a request for memory was refused: all stays as
+    /// before.
     #[tactic(auto, unfolding(jm_machine::specs::Lone::lone_did, jm_machine::specs::Life::life_after))]
     fn ask_connection(
         &mut self,
-        alloc: Global,
         scope: &Scope,
         id: ConnectionId,
         request: &Request,
     ) -> Result<(), AllocError>
         requires { is_held_alone (scope_seen scope.now).key ≡ true }
-        ensures { OnOk result (self.new ≡ spec.lone_did (scope_seen scope.now).key self.old (Who.Connection id) request.now) }
+        ensures ok { OnOk result (self.new ≡ spec.lone_did (scope_seen scope.now).key self.old (Who.Connection id) request.now) }
+        ensures err { OnErr result (self.new ≡ self.old) }
     {
         match request {
             Request::Open { client } => self.open(id, client)?,
             Request::Start => self.start(id),
             Request::Stop => self.stop(id),
-            Request::CloseConnection => self.close_connection(alloc, scope, id)?,
+            Request::CloseConnection => self.close_connection(scope, id),
             _ => {}
         }
         Ok(())
     }
 
-    /// Opens the session, where it may be opened.
+    /// Opens the session, where it may be opened. `AllocError` where a request for memory was refused: all stays as before.
     #[tactic(auto, unfolding(jm_machine::specs::Life::life_after))]
     fn create_session(&mut self, id: &SessionId, mode: Mode) -> Result<(), AllocError>
-        ensures { OnOk result (self.new
+        ensures ok { OnOk result (self.new
             ≡ spec.lone_life (Who.Session id.now) (Request.CreateSession mode) self.old) }
+        ensures err { OnErr result (self.new ≡ self.old) }
     {
         if !is_new_session(&self.connections, &self.sessions, id) {
             return Ok(());
@@ -153,22 +151,17 @@ impl Lone {
     /// Closes the session with its consumers, where it may be closed: what is out to it waits again, and the own subscription
     /// of a consumer of it ends.
     #[tactic(auto, unfolding(jm_machine::specs::Machine::refusal, jm_machine::specs::Lone::lone_did))]
-    fn close_session(
-        &mut self,
-        alloc: Global,
-        scope: &Scope,
-        id: &SessionId,
-    ) -> Result<(), AllocError>
+    fn close_session(&mut self, scope: &Scope, id: &SessionId)
         requires { is_held_alone (scope_seen scope.now).key ≡ true }
-        ensures { OnOk result (self.new ≡ after (scope_seen scope.now).key self.old id.now Request.CloseSession) }
+        ensures { self.new ≡ after (scope_seen scope.now).key self.old id.now Request.CloseSession }
     {
         if !may_close_session(&self.connections, &self.sessions, id) {
-            return Ok(());
+            return;
         }
         let which = Consumers::OfSession(*id);
         self.shut_session(id);
         self.give_back(&which);
-        self.close(alloc, scope.key(), &which)
+        self.close(scope.key(), &which);
     }
 
     /// Whether the session is open, and has no consumer of that number yet.
@@ -178,23 +171,9 @@ impl Lone {
         may_begin(&self.sessions, &self.consumers, session, id)
     }
 
-    /// The consumer joins with that subscription, without rows, in place of any other.
-    fn make(
-        &mut self,
-        alloc: Global,
-        scope: &Scope,
-        session: &SessionId,
-        id: ConsumerId,
-        definition: Definition,
-    ) -> Result<(), AllocError>
-        ensures { OnOk result (self.new ≡ spec.lone_joined session.now id (scope_seen scope.now).key (spec.lone_put definition self.old)) }
-    {
-        self.replace(alloc, scope.key(), definition)?;
-        self.join(alloc, scope.key(), session, id)
-    }
-
     /// Makes the consumer of the topic with a subscription of its own, where it may be made. The refusals, in their order:
-    /// `IllegalState` where the session is not open or its number was used, `InvalidSelector`.
+    /// `IllegalState` where the session is not open or its number was used, `InvalidSelector`. `AllocError` where a request for
+    /// memory was refused: all stays as before.
     #[tactic(auto, unfolding(jm_machine::specs::Machine::refusal, jm_machine::specs::Machine::answer, jm_machine::specs::Lone::lone_did))]
     fn create_own(
         &mut self,
@@ -206,16 +185,17 @@ impl Lone {
         selector: &Option<Str>,
         no_local: bool,
     ) -> Result<Reply, AllocError>
-        ensures { IfOk result (λ reply.
+        ensures told { IfOk result (λ reply.
             let request = Request.CreateConsumer id (Topic topic.now) selector.now no_local in
             IsAnswered (scope_seen scope.now).key self.old session.now request reply self.new) }
+        ensures err { OnErr result (self.new ≡ self.old) }
     {
         if !self.may_begin(session, id) {
             return Ok(Err(Refusal::IllegalState));
         }
         match defined(alloc, topic, selector, no_local, false) {
             Ok(definition) => {
-                self.make(alloc, scope, session, id, definition)?;
+                self.make(alloc, scope.key(), session, id, definition)?;
                 Ok(Ok(Answer::Done))
             }
             Err(Refusal::Memory) => Err(AllocError),
@@ -224,6 +204,7 @@ impl Lone {
     }
 
     /// Attaches the consumer, where the subscription that asks for that may be had: `SubscriptionInUse` where it may not.
+    /// `AllocError` where a request for memory was refused: all stays as before.
     fn attach(
         &mut self,
         alloc: Global,
@@ -232,7 +213,8 @@ impl Lone {
         id: ConsumerId,
         asked: Definition,
     ) -> Result<Reply, AllocError>
-        ensures { IfOk result (λ reply. IsAttached (scope_seen scope.now).key self.old session.now id asked reply self.new) }
+        ensures told { IfOk result (λ reply. IsAttached (scope_seen scope.now).key self.old session.now id asked reply self.new) }
+        ensures err { OnErr result (self.new ≡ self.old) }
     {
         if !Sharing::Unshared.may(
             self.definition.as_ref(),
@@ -242,15 +224,14 @@ impl Lone {
         ) {
             return Ok(Err(Refusal::SubscriptionInUse));
         }
-        self.renew(alloc, scope.key(), asked)?;
-        self.join(alloc, scope.key(), session, id)?;
+        self.subscribe(alloc, scope.key(), session, id, asked)?;
         Ok(Ok(Answer::Done))
     }
 
     /// Makes a consumer of the durable subscription, where it may be made. The refusals, in their order: `IllegalState` where
     /// the session is not open, its number was used, or its connection has no client identifier; `InvalidDestination` of a
     /// queue; `InvalidSelector`; `SubscriptionInUse` where a consumer is active, or where it asks for another thing and a row
-    /// is out, or the subscription is a shared one.
+    /// is out, or the subscription is a shared one. `AllocError` where a request for memory was refused: all stays as before.
     #[tactic(auto, unfolding(jm_machine::specs::Machine::refusal, jm_machine::specs::Machine::answer, jm_machine::specs::Lone::lone_did))]
     fn create_durable(
         &mut self,
@@ -262,9 +243,10 @@ impl Lone {
         selector: &Option<Str>,
         no_local: bool,
     ) -> Result<Reply, AllocError>
-        ensures { (name : List ℕ) → IfOk result (λ reply.
+        ensures told { (name : List ℕ) → IfOk result (λ reply.
             let request = Request.CreateDurable id destination.now name selector.now no_local in
             IsAnswered (scope_seen scope.now).key self.old session.now request reply self.new) }
+        ensures err { OnErr result (self.new ≡ self.old) }
     {
         if !(self.may_begin(session, id) && has_client(&self.connections, session.connection)) {
             return Ok(Err(Refusal::IllegalState));
@@ -283,51 +265,40 @@ impl Lone {
     /// where the session is not open, `InvalidDestination` where there is no subscription, `SubscriptionInUse` where a consumer
     /// is active or a row is out.
     #[tactic(auto, unfolding(jm_machine::specs::Machine::refusal, jm_machine::specs::Machine::answer, jm_machine::specs::Lone::lone_did))]
-    fn unsubscribe(
-        &mut self,
-        alloc: Global,
-        scope: &Scope,
-        session: &SessionId,
-    ) -> Result<Reply, AllocError>
-        ensures { (name : List ℕ) → IfOk result (λ reply.
-            IsAnswered (scope_seen scope.now).key self.old session.now (Request.Unsubscribe name) reply self.new) }
+    fn unsubscribe(&mut self, session: &SessionId) -> Reply
+        ensures { (key : OfKey) (name : List ℕ) →
+            IsAnswered key self.old session.now (Request.Unsubscribe name) result self.new }
     {
         if self.mode_of(session).is_none() {
-            return Ok(Err(Refusal::IllegalState));
+            return Err(Refusal::IllegalState);
         }
         if self.definition.is_none() {
-            return Ok(Err(Refusal::InvalidDestination));
+            return Err(Refusal::InvalidDestination);
         }
         if !(self.is_idle() && self.is_home()) {
-            return Ok(Err(Refusal::SubscriptionInUse));
+            return Err(Refusal::SubscriptionInUse);
         }
-        self.end(alloc, scope.key())?;
-        Ok(Ok(Answer::Done))
+        self.end();
+        Ok(Answer::Done)
     }
 
     /// Closes the consumer, where it may be closed: its own subscription ends with it. `IllegalState` where the open session
     /// has no such consumer, or it is busy, or the session was never opened.
     #[tactic(auto, unfolding(jm_machine::specs::Machine::refusal, jm_machine::specs::Machine::answer, jm_machine::specs::Lone::lone_did))]
-    fn close_consumer(
-        &mut self,
-        alloc: Global,
-        scope: &Scope,
-        session: &SessionId,
-        id: ConsumerId,
-    ) -> Result<Reply, AllocError>
+    fn close_consumer(&mut self, scope: &Scope, session: &SessionId, id: ConsumerId) -> Reply
         requires { is_held_alone (scope_seen scope.now).key ≡ true }
-        ensures { IfOk result (λ reply.
-            IsAnswered (scope_seen scope.now).key self.old session.now (Request.CloseConsumer id) reply self.new) }
+        ensures { IsAnswered (scope_seen scope.now).key self.old session.now (Request.CloseConsumer id) result self.new }
     {
         if !may_close_consumer(&self.sessions, &self.consumers, session, id) {
-            return Ok(Err(Refusal::IllegalState));
+            return Err(Refusal::IllegalState);
         }
-        self.close(alloc, scope.key(), &Consumers::One(*session, id))?;
-        Ok(Ok(Answer::Done))
+        self.close(scope.key(), &Consumers::One(*session, id));
+        Ok(Answer::Done)
     }
 
     /// Delivers the next message to the consumer, where it may receive, as the mode of its session says; on a stopped
     /// connection there is nothing. `IllegalState` where the session is not open, or the consumer not active, or listens.
+    /// `AllocError` where a request for memory was refused: all stays as before.
     #[tactic(auto, unfolding(jm_machine::specs::Machine::refusal, jm_machine::specs::Machine::answer, jm_machine::specs::Lone::lone_did))]
     fn receive(
         &mut self,
@@ -335,8 +306,9 @@ impl Lone {
         id: ConsumerId,
         now: Moment,
     ) -> Result<Reply, AllocError>
-        ensures { (key : OfKey) → IfOk result (λ reply.
+        ensures told { (key : OfKey) → IfOk result (λ reply.
             IsAnswered key self.old session.now (Request.Receive id now) reply self.new) }
+        ensures err { OnErr result (self.new ≡ self.old) }
     {
         let Some(mode) = self.mode_of(session) else {
             return Ok(Err(Refusal::IllegalState));
@@ -360,7 +332,7 @@ impl Lone {
         if self.mode_of(session).is_none() || !is_active(&self.consumers, session, id) {
             return Err(Refusal::IllegalState);
         }
-        Ok(Answer::Missed(self.rows.missed()))
+        Ok(Answer::Missed(self.missed))
     }
 
     /// Whether the session's consumer of that number may be used: the session is open, and the consumer active.
@@ -383,7 +355,8 @@ impl Lone {
         Ok(Answer::Done)
     }
 
-    /// The next message goes out to the consumer's listener; where there is one, the consumer is busy.
+    /// The next message goes out to the consumer's listener; where there is one, the consumer is busy. `AllocError` where a
+    /// request for memory was refused: all stays as before.
     fn take_next(
         &mut self,
         session: &SessionId,
@@ -392,6 +365,7 @@ impl Lone {
     ) -> Result<Answer, AllocError>
         ensures answer { IfOk result (λ answer. answer ≡ machine.delivery (rows.next now (rows.live now self.old.rows))) }
         ensures lone { OnOk result (self.new ≡ spec.lone_take session.now id now self.old) }
+        ensures err { OnErr result (self.new ≡ self.old) }
     {
         let answer = self.rows.take(session, id, now)?;
         set_busy(&mut self.consumers, session, id, is_delivered(&answer));
@@ -400,6 +374,7 @@ impl Lone {
 
     /// Gives the next message to the consumer's listener, where it may take one: what it takes is out in every mode. On a
     /// stopped connection there is nothing. `IllegalState` where the consumer may not be used, does not listen, or is busy.
+    /// `AllocError` where a request for memory was refused: all stays as before.
     #[tactic(auto, unfolding(jm_machine::specs::Machine::refusal, jm_machine::specs::Machine::answer, jm_machine::specs::Lone::lone_did))]
     fn take(
         &mut self,
@@ -407,8 +382,9 @@ impl Lone {
         id: ConsumerId,
         now: Moment,
     ) -> Result<Reply, AllocError>
-        ensures { (key : OfKey) → IfOk result (λ reply.
+        ensures told { (key : OfKey) → IfOk result (λ reply.
             IsAnswered key self.old session.now (Request.Take id now) reply self.new) }
+        ensures err { OnErr result (self.new ≡ self.old) }
     {
         let listens = is_listening(&self.consumers, session, id);
         if !self.may_use(session, id) || !listens || is_busy(&self.consumers, session, id) {
@@ -483,23 +459,24 @@ impl Lone {
         }
     }
 
-    /// Takes up a request that is about the whole session, where it is not refused.
+    /// Takes up a request that is about the whole session, where it is not refused. `AllocError` where a request for memory was
+    /// refused: all stays as before.
     #[tactic(auto, unfolding(jm_machine::specs::Machine::refusal, jm_machine::specs::Lone::lone_did, jm_machine::specs::Life::life_after))]
     fn take_up(
         &mut self,
-        alloc: Global,
         scope: &Scope,
         session: &SessionId,
         request: &Request,
     ) -> Result<(), AllocError>
         requires { is_held_alone (scope_seen scope.now).key ≡ true }
-        ensures { OnOk result (self.new ≡ (if is_none (spec.about (scope_seen scope.now) session.now request.now)
+        ensures ok { OnOk result (self.new ≡ (if is_none (spec.about (scope_seen scope.now) session.now request.now)
             then spec.lone_after (scope_seen scope.now) self.old (Called (Who.Session session.now) request.now)
             else self.old)) }
+        ensures err { OnErr result (self.new ≡ self.old) }
     {
         match request {
             Request::CreateSession { mode } => self.create_session(session, *mode)?,
-            Request::CloseSession => self.close_session(alloc, scope, session)?,
+            Request::CloseSession => self.close_session(scope, session),
             Request::Acknowledge => self.acknowledge(session),
             Request::Recover => self.recover(session),
             Request::Rollback => self.roll_back(session),
@@ -508,7 +485,8 @@ impl Lone {
         Ok(())
     }
 
-    /// What is answered to a session's request, and taken up of it.
+    /// What is answered to a session's request, and taken up of it. `AllocError` where a request for memory was refused: all
+    /// stays as before.
     #[tactic(auto, unfolding(jm_machine::specs::Lone::is_answered))]
     fn ask_session(
         &mut self,
@@ -519,10 +497,11 @@ impl Lone {
     ) -> Result<Option<Reply>, AllocError>
         requires alone { is_held_alone (scope_seen scope.now).key ≡ true }
         requires unshared { asks_no_shared (scope_seen scope.now) (Who.Session session.now) request.now ≡ true }
-        ensures { IfOk result (λ reply.
+        ensures told { IfOk result (λ reply.
             let item = Called (Who.Session session.now) request.now in
             (reply ≡ spec.lone_told (scope_seen scope.now) self.old item)
             × (self.new ≡ spec.lone_after (scope_seen scope.now) self.old item)) }
+        ensures err { OnErr result (self.new ≡ self.old) }
     {
         match request {
             Request::CreateConsumer {
@@ -555,10 +534,10 @@ impl Lone {
                 Ok(Some(reply))
             }
             Request::Unsubscribe { name } if scope.deletes(session, name) => {
-                Ok(Some(self.unsubscribe(alloc, scope, session)?))
+                Ok(Some(self.unsubscribe(session)))
             }
             Request::CloseConsumer { consumer } if scope.belongs(session, *consumer) => {
-                Ok(Some(self.close_consumer(alloc, scope, session, *consumer)?))
+                Ok(Some(self.close_consumer(scope, session, *consumer)))
             }
             Request::Receive { consumer, now } if scope.belongs(session, *consumer) => {
                 Ok(Some(self.receive(session, *consumer, *now)?))
@@ -576,7 +555,7 @@ impl Lone {
                 Ok(Some(self.done(session, *consumer, *ok)))
             }
             _ => {
-                self.take_up(alloc, scope, session, request)?;
+                self.take_up(scope, session, request)?;
                 Ok(None)
             }
         }
@@ -585,7 +564,7 @@ impl Lone {
     /// Takes up a call, and answers it where the reply to it is the subscription's: where it is a session's request that
     /// creates a consumer of its key, deletes it, or names one of its consumers. Of a connection's calls it is to be told
     /// those that were accepted. `None` where the reply is not the subscription's. `AllocError` where a request for memory
-    /// was refused; then it may have taken up a part of the call.
+    /// was refused: all stays as before.
     #[tactic(auto, unfolding(jm_machine::specs::Lone::is_answered))]
     pub fn ask(
         &mut self,
@@ -598,14 +577,15 @@ impl Lone {
         requires alone { is_held_alone (scope_seen scope.now).key ≡ true }
         // which is not asked for as a shared one
         requires unshared { asks_no_shared (scope_seen scope.now) who request.now ≡ true }
-        ensures { IfOk result (λ reply.
+        ensures told { IfOk result (λ reply.
             let item = Called who request.now in
             (reply ≡ spec.lone_told (scope_seen scope.now) self.old item)
             × (self.new ≡ spec.lone_after (scope_seen scope.now) self.old item)) }
+        ensures err { OnErr result (self.new ≡ self.old) }
     {
         match who {
             Who::Connection(id) => {
-                self.ask_connection(alloc, scope, id, request)?;
+                self.ask_connection(scope, id, request)?;
                 Ok(None)
             }
             Who::Session(session) => self.ask_session(alloc, scope, &session, request),

@@ -1,19 +1,18 @@
 //! What one subscription holds, and what becomes of it.
 
-ghost use Rattle.std.specs.Prelude.{◌≡◌, ◌&&◌, length, true, IfOk, IfSome, OnOk, OnErr, if◌then◌else◌};
+ghost use Rattle.std.specs.Prelude.{◌≡◌, ◌&&◌, length, true, false, IfOk, OnOk, OnErr, if◌then◌else◌};
 ghost use Rattle.std.specs.Option.{option_copied};
 ghost use Rattle.jm_dest.specs.Keys.{key_eq};
 ghost use Rattle.jm_machine.specs.Life.{mode_of as mode_in};
 ghost use Rattle.jm_machine.specs.Machine as machine;
 ghost use Rattle.jm_machine.specs.Machine.{State};
 ghost use Rattle.jm_machine.specs.Lone as spec;
-ghost use Rattle.jm_rows.specs.Rows.{AreWithin};
 ghost use Rattle.jm_scope.specs.Scopes.{scope_seen};
-ghost use Rattle.jm_lone.specs.Parts.{is_held_alone, limit_of as limit_at};
+ghost use Rattle.jm_lone.specs.Parts.{is_held_alone};
 
 use crate::known::is_used;
 use crate::marks::close_consumers;
-use crate::parts::{consumers_of, limit_of, no_rows, own_connections, own_parts, own_sessions};
+use crate::parts::{Parts, consumers_of, own_connections, own_parts, own_sessions};
 use jm_base::Mode;
 use jm_dest::{ClientId, ConsumerId, Key, SessionId};
 use jm_header::Message;
@@ -34,7 +33,10 @@ pub struct Lone {
     pub(crate) sessions: Vec<SessionState>,
     pub(crate) consumers: Vec<Consumer>,
     pub(crate) definition: Option<Definition>,
+    /// How many publications it missed.
+    pub(crate) missed: u64,
     pub(crate) rows: Rows,
+    /// How many rows it may hold, where it is not durable.
     pub(crate) limit: u32,
 }
 
@@ -45,6 +47,7 @@ impl Drop for Lone {
             sessions,
             consumers,
             definition,
+            missed: _,
             rows,
             limit: _,
         } = self;
@@ -66,8 +69,8 @@ impl Model for Lone {
       life = record { connections = l.connections.items; sessions = l.sessions.items };
       consumers = l.consumers.items;
       definition = l.definition;
-      missed = l.rows.missed;
-      rows = l.rows.rows;
+      missed = l.missed;
+      rows = l.rows;
     } };
 }
 
@@ -99,18 +102,22 @@ impl Lone {
         consumers: &[Consumer],
         station: Option<Station>,
     ) -> Result<Lone, AllocError>
-        requires { IfSome station (λ x. AreWithin (limit_at (scope_seen scope.now).key limit) (length x.rows)) }
         ensures { (state : State) → state.limit ≡ limit → state.life.connections ≡ connections.now
             → state.life.sessions ≡ sessions.now → state.consumers ≡ consumers.now
             → machine.station_of (scope_seen scope.now).key state.stations ≡ station
             → IfOk result (λ lone. lone ≡ spec.lone_of (scope_seen scope.now) state) }
     {
-        let (definition, rows) = own_parts(alloc, scope.key(), limit, station)?;
+        let Parts {
+            definition,
+            missed,
+            rows,
+        } = own_parts(alloc, scope.key(), station)?;
         Ok(Lone {
             connections: own_connections(alloc, scope, connections)?,
             sessions: own_sessions(alloc, scope, sessions)?,
             consumers: consumers_of(alloc, scope.key(), consumers)?,
             definition,
+            missed,
             rows,
             limit,
         })
@@ -148,47 +155,25 @@ impl Lone {
         }
     }
 
-    /// It ends with its rows. `AllocError` where a request for memory was refused.
-    pub(crate) fn end(&mut self, alloc: Global, key: &Key) -> Result<(), AllocError>
-        ensures { OnOk result (self.new ≡ spec.lone_ended self.old) }
+    /// It ends with its rows. Takes no memory.
+    pub(crate) fn end(&mut self)
+        ensures { self.new ≡ spec.lone_ended self.old }
     {
-        self.rows = no_rows(alloc, key, self.limit)?;
+        self.rows.clear();
+        self.missed = 0;
         self.definition = None;
-        Ok(())
     }
 
-    /// One that asks for that takes its place, without rows. `AllocError` where a request for memory was refused.
-    pub(crate) fn replace(
-        &mut self,
-        alloc: Global,
-        key: &Key,
-        definition: Definition,
-    ) -> Result<(), AllocError>
-        ensures { OnOk result (self.new ≡ spec.lone_put definition self.old) }
+    /// One that asks for that takes its place, without rows. Takes no memory.
+    pub(crate) fn replace(&mut self, definition: Definition)
+        ensures { self.new ≡ spec.lone_put definition self.old }
     {
-        self.rows = no_rows(alloc, key, self.limit)?;
+        self.rows.clear();
+        self.missed = 0;
         self.definition = Some(definition);
-        Ok(())
     }
 
-    /// It stands where it asks for that, else one that does takes its place. `AllocError` where a request for memory was
-    /// refused.
-    pub(crate) fn renew(
-        &mut self,
-        alloc: Global,
-        key: &Key,
-        asked: Definition,
-    ) -> Result<(), AllocError>
-        ensures { OnOk result (self.new
-            ≡ (if machine.is_same self.old.definition asked then self.old else spec.lone_put asked self.old)) }
-    {
-        if is_same(self.definition.as_ref(), &asked) {
-            return Ok(());
-        }
-        self.replace(alloc, key, asked)
-    }
-
-    /// The session's consumer of that number joins. `AllocError` where a request for memory was refused.
+    /// The session's consumer of that number joins. `AllocError` where a request for memory was refused: all stays as before.
     pub(crate) fn join(
         &mut self,
         alloc: Global,
@@ -196,7 +181,8 @@ impl Lone {
         session: &SessionId,
         id: ConsumerId,
     ) -> Result<(), AllocError>
-        ensures { OnOk result (self.new ≡ spec.lone_joined session.now id key.now self.old) }
+        ensures ok { OnOk result (self.new ≡ spec.lone_joined session.now id key.now self.old) }
+        ensures err { OnErr result (self.new ≡ self.old) }
     {
         self.consumers.push(Consumer {
             session: *session,
@@ -210,23 +196,53 @@ impl Lone {
         Ok(())
     }
 
-    /// Those consumers are closed, and the subscription ends where it ends with them. `AllocError` where a request for memory
-    /// was refused.
-    pub(crate) fn close(
+    /// The session's consumer of that number joins with a subscription that asks for that, without rows, in place of any other.
+    /// `AllocError` where a request for memory was refused: all stays as before.
+    pub(crate) fn make(
         &mut self,
         alloc: Global,
         key: &Key,
-        which: &Consumers,
+        session: &SessionId,
+        id: ConsumerId,
+        definition: Definition,
     ) -> Result<(), AllocError>
+        ensures ok { OnOk result (self.new ≡ spec.lone_joined session.now id key.now (spec.lone_put definition self.old)) }
+        ensures err { OnErr result (self.new ≡ self.old) }
+    {
+        self.join(alloc, key, session, id)?;
+        self.replace(definition);
+        Ok(())
+    }
+
+    /// The session's consumer of that number joins the subscription where that asks for the same, else one that does takes its
+    /// place. `AllocError` where a request for memory was refused: all stays as before.
+    pub(crate) fn subscribe(
+        &mut self,
+        alloc: Global,
+        key: &Key,
+        session: &SessionId,
+        id: ConsumerId,
+        asked: Definition,
+    ) -> Result<(), AllocError>
+        ensures ok { OnOk result (self.new ≡ spec.lone_subscribed session.now id key.now asked self.old) }
+        ensures err { OnErr result (self.new ≡ self.old) }
+    {
+        if is_same(self.definition.as_ref(), &asked) {
+            return self.join(alloc, key, session, id);
+        }
+        self.make(alloc, key, session, id, asked)
+    }
+
+    /// Those consumers are closed, and the subscription ends where it ends with them. Takes no memory.
+    pub(crate) fn close(&mut self, key: &Key, which: &Consumers)
         requires { is_held_alone key.now ≡ true }
-        ensures { OnOk result (self.new ≡ spec.lone_closed key.now (machine.are_meant which.now) self.old) }
+        ensures { self.new ≡ spec.lone_closed key.now (machine.are_meant which.now) self.old }
     {
         let ends = self.ends(key, which);
         close_consumers(&mut self.consumers, which);
         if ends {
-            self.end(alloc, key)?;
+            self.end();
         }
-        Ok(())
     }
 
     /// Rows that are out through those consumers wait again.
@@ -246,15 +262,26 @@ impl Lone {
         }
     }
 
-    /// A message comes that the subscription accepts; at the limit, where the rows of the key have one, it is missed.
-    /// `AllocError` where a request for memory was refused, or where the key has another limit than the one that the
-    /// subscription was made of; either way it is as before.
+    /// Whether it holds as many rows as it may, of which a durable one may hold any number.
+    fn is_full(&self, key: &Key) -> bool
+        ensures { result ≡ machine.is_full self.now.limit key.now (length self.now.rows) }
+    {
+        match key {
+            Key::Own(..) | Key::SharedOwn(..) => self.rows.len() >= self.limit as usize,
+            Key::Queue(_) | Key::Durable(..) => false,
+        }
+    }
+
+    /// A message comes that the subscription accepts; at its limit it is missed, and counted, which takes no memory.
+    /// `AllocError` where a request for memory was refused, which comes only below the limit: all stays as before.
     pub fn bring(&mut self, scope: &Scope, message: &Message) -> Result<(), AllocError>
         ensures ok { OnOk result (self.new ≡ spec.lone_brought (scope_seen scope.now).key message.now self.old) }
         ensures err { OnErr result (self.new ≡ self.old) }
+        ensures below { OnErr result (machine.is_full self.old.limit (scope_seen scope.now).key (length self.old.rows) ≡ false) }
     {
-        if self.rows.limit() != limit_of(scope.key(), self.limit) {
-            return Err(AllocError);
+        if self.is_full(scope.key()) {
+            self.missed = self.missed.saturating_add(1);
+            return Ok(());
         }
         self.rows.push(message)
     }

@@ -1,13 +1,11 @@
 //! The parts that one subscription starts with, from those of an opening.
 
-ghost use Rattle.std.specs.Prelude.{◌≡◌, [], filter, length, IfOk, IfSome};
+ghost use Rattle.std.specs.Prelude.{◌≡◌, filter, Some, IfOk};
 ghost use Rattle.jm_dest.specs.Keys.{key_eq};
 ghost use Rattle.jm_machine.specs.Machine as machine;
 ghost use Rattle.jm_machine.specs.Owns as owns;
 ghost use Rattle.jm_machine.specs.Rows.{bare};
-ghost use Rattle.jm_rows.specs.Rows.{AreWithin};
 ghost use Rattle.jm_scope.specs.Scopes.{scope_seen};
-ghost use Rattle.jm_lone.specs.Parts as spec;
 
 use jm_dest::Key;
 use jm_machine::{ConnectionState, Consumer, Definition, SessionState, Station};
@@ -68,34 +66,18 @@ pub(crate) fn consumers_of(
     Ok(own)
 }
 
-/// How many rows the subscription of the key may hold: a durable one any number.
-pub(crate) fn limit_of(key: &Key, limit: u32) -> Option<u32>
-    ensures { result ≡ spec.limit_of key.now limit }
-{
-    match key {
-        Key::Own(..) | Key::SharedOwn(..) => Some(limit),
-        Key::Queue(_) | Key::Durable(..) => None,
-    }
+/// What a subscription starts with: what it asks for, where there is one, how many publications it missed, and its rows.
+pub(crate) struct Parts {
+    pub(crate) definition: Option<Definition>,
+    pub(crate) missed: u64,
+    pub(crate) rows: Rows,
 }
 
-/// No rows under the key, of which there may be at most so many where that is limited.
-pub(crate) fn no_rows(alloc: Global, key: &Key, limit: u32) -> Result<Rows, AllocError>
-    ensures { IfOk result (λ rows. rows ≡ record { limit = spec.limit_of key.now limit; missed = 0; rows = [] }) }
-{
-    Rows::new(alloc, key.copy()?, limit_of(key, limit))
-}
-
-/// What the subscription that stands there asks for, and its rows.
-fn parts_of(
-    alloc: Global,
-    key: &Key,
-    limit: u32,
-    station: Station,
-) -> Result<(Definition, Rows), AllocError>
-    requires { AreWithin (spec.limit_of key.now limit) (length station.rows) }
-    ensures definition { IfOk result (λ parts. parts.0 ≡ station.definition) }
-    ensures rows { IfOk result (λ parts. parts.1
-        ≡ record { limit = spec.limit_of key.now limit; missed = station.missed; rows = bare station.rows }) }
+/// What the subscription that stands there starts with.
+fn parts_of(alloc: Global, key: &Key, station: Station) -> Result<Parts, AllocError>
+    ensures definition { IfOk result (λ parts. parts.definition ≡ Some station.definition) }
+    ensures missed { IfOk result (λ parts. parts.missed ≡ station.missed) }
+    ensures rows { IfOk result (λ parts. parts.rows ≡ bare station.rows) }
 {
     let Station {
         key: _,
@@ -103,28 +85,30 @@ fn parts_of(
         missed,
         rows,
     } = station;
-    let limit = limit_of(key, limit);
-    let rows = Rows::of(alloc, key.copy()?, limit, missed, rows.into_inner())?;
-    Ok((definition, rows))
+    let rows = Rows::of(alloc, key.copy()?, rows.into_inner())?;
+    Ok(Parts {
+        definition: Some(definition),
+        missed,
+        rows,
+    })
 }
 
 /// The same of a subscription that may stand there.
 pub(crate) fn own_parts(
     alloc: Global,
     key: &Key,
-    limit: u32,
     station: Option<Station>,
-) -> Result<(Option<Definition>, Rows), AllocError>
-    requires { IfSome station (λ x. AreWithin (spec.limit_of key.now limit) (length x.rows)) }
-    ensures definition { IfOk result (λ parts. parts.0 ≡ machine.definition_of station) }
-    ensures rows { IfOk result (λ parts. parts.1
-        ≡ record { limit = spec.limit_of key.now limit; missed = machine.missed_of station; rows = machine.rows_of station }) }
+) -> Result<Parts, AllocError>
+    ensures definition { IfOk result (λ parts. parts.definition ≡ machine.definition_of station) }
+    ensures missed { IfOk result (λ parts. parts.missed ≡ machine.missed_of station) }
+    ensures rows { IfOk result (λ parts. parts.rows ≡ machine.rows_of station) }
 {
     match station {
-        None => Ok((None, no_rows(alloc, key, limit)?)),
-        Some(station) => {
-            let (definition, rows) = parts_of(alloc, key, limit, station)?;
-            Ok((Some(definition), rows))
-        }
+        None => Ok(Parts {
+            definition: None,
+            missed: 0,
+            rows: Rows::new(alloc, key.copy()?),
+        }),
+        Some(station) => parts_of(alloc, key, station),
     }
 }

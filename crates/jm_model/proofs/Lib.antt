@@ -3,4 +3,3 @@ pub mod Asked
 pub mod Nested
 pub mod Fed
 pub mod Placing
-pub mod Limited

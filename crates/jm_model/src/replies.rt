@@ -18,7 +18,7 @@ ghost use Rattle.jm_transactions.specs.Courses.{course_of};
 ghost use Rattle.jm_transactions.specs.Transactions.{Course, Follows, committed_places, message_in, messages_at, mode_in};
 
 use crate::fault::LoneFault;
-use jm_core::{Core, law_core_reached, law_rows_within_limit};
+use jm_core::{Core, law_core_reached};
 use jm_dest::{Key, SessionId};
 use jm_header::Message;
 use jm_lone::Lone;
@@ -295,7 +295,6 @@ fn lone_of(
     requires { machine.station_of (scope_seen scope.now).key (state_of opening.now).stations ≡ station }
     ensures { IfOk result (λ lone. lone ≡ spec.lone_of (scope_seen scope.now) (state_of opening.now)) }
 {
-    law_rows_within_limit(opening);
     Lone::of(
         alloc,
         scope,

@@ -1,1 +1,3 @@
-mod Loaded
+mod Order
+mod Number
+mod Single

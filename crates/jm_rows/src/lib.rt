@@ -1,5 +1,4 @@
-//! The rows of one subscription, in order, as the subscription alone holds them: their limit, where it has one, and
-//! how many publications it missed there.
+//! The rows of one subscription, in order, as the subscription alone holds them.
 #![tactic(auto)]
 
 mod rows;

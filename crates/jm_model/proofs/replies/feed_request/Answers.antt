@@ -13,4 +13,4 @@ returns-then-not-is_own_call c entries course life before place follows =
 
 pub returns : goal.returns
 returns c =
-    answers_own (scope_seen c.args.scope.now) c.args.lone.now c.args.who c.args.request.now c.args.reply.now (sym c.is_own_call.ensures ∙ c.if-not-is_own_call.false) c.ask.result c.ask.new.self c.ask.ensures
+    answers_own (scope_seen c.args.scope.now) c.args.lone.now c.args.who c.args.request.now c.args.reply.now (sym c.is_own_call.ensures ∙ c.if-not-is_own_call.false) c.ask.result c.ask.new.self c.ask.ensures.told

@@ -1,24 +1,18 @@
-use Rattle.std.proofs.Common.{◌∙◌, ap}
+use Rattle.std.proofs.Common.{◌∙◌, ap, sym, subst, [], ◌∷◌, ◌++◌, List}
 use Rattle.jm_header.specs.declared.content.Content.{Content}
+use Rattle.jm_machine.specs.declared.state.Row.{Row}
 use Rattle.jm_machine.specs.Rows.{fresh}
-use Rattle.jm_rows.specs.Rows.{with_row}
-use Rattle.jm_rows.proofs.Loaded.{first_there, row_comes, shown_like}
+use Rattle.jm_rows.specs.Rows.{IsOneAtMost}
+use Rattle.jm_rows.proofs.Single.{row_comes}
 use Rattle.jm_rows.proofs.rows.Rows.push.Goals as goal
 
-pub invariant_of-self : goal.invariant_of-self
-invariant_of-self c = c.reserve.ensures.limit c.self.inside.limit c.self.invariant
-
-pub invariant_of-self-in_err-copy : goal.invariant_of-self-in_err-copy
-invariant_of-self-in_err-copy c = c.reserve.ensures.limit c.self.inside.limit c.self.invariant
-
-pub load-requires-clause-within : goal.load-requires-clause-within
-load-requires-clause-within c = first_there c.self.inside.limit c.reserve.new.stations.list (c.reserve.ensures.limit c.self.inside.limit c.self.invariant)
-
 pub invariant_of-self-2 : goal.invariant_of-self-2
-invariant_of-self-2 c = (row_comes c.self.inside.limit c.self.inside.missed_before c.reserve.new.stations.next_place (fresh c.in_ok-copy.field-0) c.reserve.new.stations.list c.load.new.self.list (c.reserve.ensures.limit c.self.inside.limit c.self.invariant) c.load.ensures.list).1
+invariant_of-self-2 c =
+    subst (λ n. IsOneAtMost n c.load.new.self.list) (sym c.load.ensures.next_place)
+    (row_comes c.reserve.new.stations.next_place (fresh c.in_ok-copy.field-0) c.reserve.new.stations.list c.load.new.self.list c.reserve.ensures.one c.in_ok-reserve.ensures.room.first c.load.ensures.list).0
 
 pub returns-clause-ok : goal.returns-clause-ok
 returns-clause-ok c =
-    (row_comes c.self.inside.limit c.self.inside.missed_before c.reserve.new.stations.next_place (fresh c.in_ok-copy.field-0) c.reserve.new.stations.list c.load.new.self.list (c.reserve.ensures.limit c.self.inside.limit c.self.invariant) c.load.ensures.list).0
-    ∙ ap (with_row (fresh c.in_ok-copy.field-0)) (shown_like c.self.inside.limit c.self.inside.missed_before c.self.inside.stations.list c.reserve.new.stations.list c.reserve.ensures.missed c.reserve.ensures.rows ∙ c.self.view_is)
-    ∙ ap (λ (m : Content). with_row (fresh m) c.args.self.now) c.in_ok-copy.ensures
+    (row_comes c.reserve.new.stations.next_place (fresh c.in_ok-copy.field-0) c.reserve.new.stations.list c.load.new.self.list c.reserve.ensures.one c.in_ok-reserve.ensures.room.first c.load.ensures.list).1
+    ∙ ap (λ (x : List Row). x ++ fresh c.in_ok-copy.field-0 ∷ []) (c.reserve.ensures.rows ∙ c.self.view_is)
+    ∙ ap (λ (m : Content). c.args.self.now ++ fresh m ∷ []) c.in_ok-copy.ensures

@@ -1,18 +1,24 @@
-use Rattle.std.proofs.Common.{◌∙◌, ap, None}
+use Rattle.std.proofs.Common.{◌∙◌, ap, sym, subst, refl, inl, arith, List, None}
+use Rattle.jm_machine.specs.declared.state.Row.{Row}
 use Rattle.jm_machine.specs.Machine.{delivery}
 use Rattle.jm_machine.specs.Rows.{deliver, live, next}
 use Rattle.jm_stations.specs.Backlogs.{empty, gone}
-use Rattle.jm_rows.specs.Rows.{Rows}
-use Rattle.jm_rows.proofs.Loaded.{answered_first, rows_delivered}
+use Rattle.jm_rows.specs.Rows.{IsOneAtMost}
+use Rattle.jm_rows.proofs.Single.{answered_first, rows_delivered}
 use Rattle.jm_rows.proofs.rows.Rows.settle_next.Goals as goal
+
+pub invariant_of-self : goal.invariant_of-self
+invariant_of-self c =
+    subst (λ n. IsOneAtMost n c.receive.new.self.list) (sym c.receive.ensures.next_place)
+    (rows_delivered c.self.inside.stations.next_place c.args.now gone (λ r. inl refl) c.self.inside.stations.list c.receive.new.self.list c.self.invariant c.receive.ensures.list).0
 
 pub returns-clause-answer : goal.returns-clause-answer
 returns-clause-answer c =
     c.receive.ensures.answer (empty None)
-    ∙ answered_first c.self.inside.limit c.self.inside.stations.list c.args.now (empty None) c.self.invariant
-    ∙ ap (λ (x : Rows). delivery (next c.args.now (live c.args.now x.rows))) c.self.view_is
+    ∙ answered_first c.self.inside.stations.list c.args.now (empty None) (omega (arith, c.len.ensures.list, c.if-len-eq0.false))
+    ∙ ap (λ (x : List Row). delivery (next c.args.now (live c.args.now x))) c.self.view_is
 
 pub returns-clause-rows : goal.returns-clause-rows
 returns-clause-rows c =
-    rows_delivered c.self.inside.limit c.self.inside.missed_before c.args.now gone c.self.inside.stations.list c.receive.new.self.list c.self.invariant c.receive.ensures.list
-    ∙ ap (λ (x : Rows). record x { rows = deliver c.args.now gone x.rows }) c.self.view_is
+    (rows_delivered c.self.inside.stations.next_place c.args.now gone (λ r. inl refl) c.self.inside.stations.list c.receive.new.self.list c.self.invariant c.receive.ensures.list).1
+    ∙ ap (λ (x : List Row). deliver c.args.now gone x) c.self.view_is
