@@ -8,11 +8,11 @@ use Rattle.sqlite_rules.proofs.ListLemmas.{all_has, contains_had, has_contained,
 
 module _ {X : Type 0} where
   -- what is in the rows is in the same rows in another order
-  has_moved : (xs ys : List X) (x : X) → IsPermutation xs ys → Has xs x → Has ys x
+  pub has_moved : (xs ys : List X) (x : X) → IsPermutation xs ys → Has xs x → Has ys x
   has_moved xs ys x same h = has_contained ys x (Contains-permutation xs ys x same (contains_had xs x h))
 
   -- where something passes, something is found
-  found_some : (p : X → Bool) (xs : List X) (x : X) → Has xs x → p x ≡ true → (y : X) × (find p xs ≡ Some y)
+  pub found_some : (p : X → Bool) (xs : List X) (x : X) → Has xs x → p x ≡ true → (y : X) × (find p xs ≡ Some y)
   found_some p [] x h passes = absurd h
   found_some p (y ∷ xs) x (inl same) passes = (y, ap (λ b. cond b (Some y) (find p xs)) (ap p (sym same) ∙ passes))
   found_some p (y ∷ xs) x (inr later) passes = let found = found_some p xs x later passes in elim (cases_Bool (p y)) [

@@ -1,5 +1,13 @@
+pub mod Agreed
+pub mod Caused
 pub mod Finding
-pub mod Standing
 pub mod Keys
-pub mod Stored
+pub mod Listed
 pub mod Loaded
+pub mod Messages
+pub mod Readable
+pub mod Rising
+pub mod Standing
+pub mod Stored
+pub mod Told
+pub mod Unmade

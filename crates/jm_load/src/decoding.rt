@@ -1,9 +1,10 @@
 //! The rows of all tables, decoded.
 
-ghost use Rattle.std.specs.Prelude.{◌≡◌, None, IfOk};
+ghost use Rattle.std.specs.Prelude.{◌≡◌, IfOk, IfErr};
+ghost use Rattle.jm_decoding.specs.declared.fault.TableFault.TheVariants.{Memory as NoMemory};
 ghost use Rattle.jm_decoding.specs.Decoded.{IsDelayOf, IsHeldOf};
-ghost use Rattle.jm_decoding.specs.Tables.{StandFor};
-ghost use Rattle.jm_load.specs.Loaded.{StandForRows};
+ghost use Rattle.jm_decoding.specs.Readable.{IsReadableDelay, IsReadableHeld};
+ghost use Rattle.jm_load.specs.Loaded.{IsDecodedOf, IsUndecoded, StandTo, fault_told};
 
 use crate::reading::TableRows;
 use jm_decoding::{
@@ -26,16 +27,20 @@ pub(crate) struct Decoded {
 }
 
 /// The fault of a table's rows, as `load` tells it.
-fn fault_in(table: TableName, fault: TableFault) -> OpenFault {
+fn fault_in(table: TableName, fault: TableFault) -> OpenFault
+    ensures { result ≡ fault_told table fault }
+{
     match fault {
         TableFault::Damaged(at) => OpenFault::Damaged(table, at),
         TableFault::Memory => OpenFault::Memory,
     }
 }
 
-/// What the rows of held stand for, up to the first that may not be read, and the number of that one.
+/// What the rows of held stand for, up to the first that may not be read, and the number of that one. Refused only as Memory,
+/// where a request for memory was refused.
 fn held_before(alloc: Global, rows: &[Row]) -> Result<(Vec<HeldRow>, Option<u64>), TableFault>
-    ensures { IfOk result (λ p. p.1 ≡ None → StandFor IsHeldOf rows.now p.0.items) }
+    ensures ok { IfOk result (λ p. StandTo IsHeldOf IsReadableHeld rows.now p.0.items p.1) }
+    ensures err { IfErr result (λ fault. fault ≡ NoMemory) }
 {
     match decode_held(alloc, rows) {
         Ok(held) => Ok((held, None)),
@@ -47,9 +52,11 @@ fn held_before(alloc: Global, rows: &[Row]) -> Result<(Vec<HeldRow>, Option<u64>
     }
 }
 
-/// What the rows of delayed stand for, up to the first that may not be read, and the number of that one.
+/// What the rows of delayed stand for, up to the first that may not be read, and the number of that one. Refused only as Memory,
+/// where a request for memory was refused.
 fn delays_before(alloc: Global, rows: &[Row]) -> Result<(Vec<DelayRow>, Option<u64>), TableFault>
-    ensures { IfOk result (λ p. p.1 ≡ None → StandFor IsDelayOf rows.now p.0.items) }
+    ensures ok { IfOk result (λ p. StandTo IsDelayOf IsReadableDelay rows.now p.0.items p.1) }
+    ensures err { IfErr result (λ fault. fault ≡ NoMemory) }
 {
     match decode_delays(alloc, rows) {
         Ok(delays) => Ok((delays, None)),
@@ -64,7 +71,8 @@ fn delays_before(alloc: Global, rows: &[Row]) -> Result<(Vec<DelayRow>, Option<u
 /// What the rows of all tables stand for: of held and delayed, up to the first that may not be read. Damaged where one of station
 /// or of message may not be read, at the first of those; Memory where a request for memory was refused.
 pub(crate) fn decode(alloc: Global, rows: &TableRows) -> Result<Decoded, OpenFault>
-    ensures { IfOk result (λ d. d.damaged ≡ None → StandForRows rows.now d) }
+    ensures ok { IfOk result (IsDecodedOf rows.now) }
+    ensures err { IfErr result (IsUndecoded rows.now) }
 {
     let stations = match decode_stations(alloc, &rows.stations) {
         Ok(stations) => stations,

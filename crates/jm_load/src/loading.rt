@@ -1,6 +1,6 @@
 //! A core of what a store holds.
 
-ghost use Rattle.std.specs.Prelude.{◌≡◌, false, true, IsTrue, IfOk};
+ghost use Rattle.std.specs.Prelude.{◌≡◌, ◌⊎◌, false, true, IsTrue, IfOk, IfErr};
 ghost use Rattle.sqlite.specs.State.{HasCleanDisk, Survives};
 ghost use Rattle.sqlite.specs.Held.{state};
 ghost use Rattle.jm_core.specs.Provider.{may_open, state_of};
@@ -8,6 +8,9 @@ ghost use Rattle.jm_keep.specs.Persisted.{IsPersisted};
 ghost use Rattle.jm_queries.specs.Asked.{IsUndone};
 ghost use Rattle.jm_tables.specs.Rows.{stored_in};
 ghost use Rattle.jm_tables.specs.Sound.{Serves};
+ghost use Rattle.jm_opening.specs.declared.judged.OpenFault.TheVariants.{Memory, Store};
+ghost use Rattle.jm_load.specs.Causes.{IsStoreCause};
+ghost use Rattle.jm_load.specs.Faults.{IsFaultOf, IsWhole};
 
 use crate::decoding::decode;
 use crate::making::make;
@@ -21,9 +24,10 @@ use std::alloc::Global;
 /// hold, and in which a subscription that is not durable may hold so many rows. Nobody is connected, and each stored row waits
 /// with its count. Nothing of the database is changed, whatever is told.
 ///
-/// - `Damaged`: a row of station, message, held or delayed is none of a store, or does not fit the others.
+/// - `Damaged`: the first row, in the order station, message, held, delayed, and in each by its key and counted from 0, that is none
+///   of a store or does not fit the others; then the first message that nobody holds, or that is delayed and has no row of delayed.
 /// - `Memory`: a request for memory was refused.
-/// - `Store`: the database refused a query.
+/// - `Store`: the database was shut before, the disk failed, or a limit on steps was reached.
 pub fn load<S: Alter>(
     alloc: Global,
     conn: &mut Connection<S>,
@@ -35,6 +39,12 @@ pub fn load<S: Alter>(
     ensures mode { conn.new.in_transaction ≡ false }
     ensures loaded { HasCleanDisk (state S.Store conn.new) → (state S.Store conn.old).now ≡ (state S.Store conn.old).committed → Serves (state S.Store conn.old).now
         → IfOk result (λ core. IsPersisted (state_of core) (stored_in (state S.Store conn.old).now.trees)) }
+    ensures fault { HasCleanDisk (state S.Store conn.new) → (state S.Store conn.old).now ≡ (state S.Store conn.old).committed → Serves (state S.Store conn.old).now
+        → IfErr result (IsFaultOf (state S.Store conn.old).now.trees) }
+    ensures cause { HasCleanDisk (state S.Store conn.new) → (state S.Store conn.old).now ≡ (state S.Store conn.old).committed → Serves (state S.Store conn.old).now
+        → IfErr result (λ fault. fault ≡ Store → IsStoreCause (state S.Store conn.old) (state S.Store conn.new)) }
+    ensures whole { HasCleanDisk (state S.Store conn.new) → (state S.Store conn.old).now ≡ (state S.Store conn.old).committed → Serves (state S.Store conn.old).now
+        → IsWhole (state S.Store conn.old).now.trees → IfErr result (λ fault. (fault ≡ Memory) ⊎ (fault ≡ Store)) }
     ensures opening { IfOk result (λ core. (state_of core).opening ≡ opening) }
     ensures limit { IfOk result (λ core. (state_of core).limit ≡ held_limit) }
     ensures same { HasCleanDisk (state S.Store conn.new) → IsTrue (state S.Store conn.new).is_open → IsUndone (state S.Store conn.old) (state S.Store conn.new) }

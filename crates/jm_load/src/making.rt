@@ -1,9 +1,10 @@
 //! A core of the decoded rows.
 
-ghost use Rattle.std.specs.Prelude.{◌≡◌, None, true, IfOk, OnOk};
+ghost use Rattle.std.specs.Prelude.{◌≡◌, None, true, IfOk, IfErr, OnOk};
 ghost use Rattle.jm_core.specs.Provider.{may_open, state_of};
 ghost use Rattle.jm_keep.specs.Persisted.{IsPersisted};
 ghost use Rattle.jm_loading.specs.Said.{said};
+ghost use Rattle.jm_load.specs.Loaded.{IsUnmade, first_told};
 
 use crate::decoding::Decoded;
 use jm_core::Core;
@@ -13,7 +14,9 @@ use std::alloc::Global;
 
 /// The first of the two faults: what the rows before the damaged one say together, or that this one is damaged. A message that
 /// nobody holds among those rows may be held by a later one.
-fn first_of(assembled: &Result<Assembled, OpenFault>, damaged: OpenFault) -> OpenFault {
+fn first_of(assembled: &Result<Assembled, OpenFault>, damaged: OpenFault) -> OpenFault
+    ensures { result ≡ first_told assembled.now damaged }
+{
     match assembled {
         Err(OpenFault::Memory) => OpenFault::Memory,
         Err(OpenFault::Damaged(TableName::Held, at)) => OpenFault::Damaged(TableName::Held, *at),
@@ -35,6 +38,7 @@ pub(crate) fn make(
     requires { may_open opening held_limit ≡ true }
     ensures whole { OnOk result (decoded.damaged ≡ None) }
     ensures stored { IfOk result (λ core. IsPersisted (state_of core) (said decoded.stations.items decoded.messages.items decoded.held.items decoded.delays.items)) }
+    ensures err { IfErr result (IsUnmade decoded.stations.items decoded.messages.items decoded.held.items decoded.delays.items decoded.damaged) }
     ensures opening { IfOk result (λ core. (state_of core).opening ≡ opening) }
     ensures limit { IfOk result (λ core. (state_of core).limit ≡ held_limit) }
 {
@@ -45,11 +49,13 @@ pub(crate) fn make(
         delays,
         damaged,
     } = decoded;
-    if let Some(fault) = damaged {
-        let assembled = assemble(alloc, stations, messages, &held, &delays);
-        return Err(first_of(&assembled, fault));
+    match damaged {
+        Some(fault) => {
+            let assembled = assemble(alloc, stations, messages, &held, &delays);
+            Err(first_of(&assembled, fault))
+        }
+        None => reopened(
+            alloc, opening, held_limit, stations, messages, &held, &delays,
+        ),
     }
-    reopened(
-        alloc, opening, held_limit, stations, messages, &held, &delays,
-    )
 }

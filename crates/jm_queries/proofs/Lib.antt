@@ -1,6 +1,7 @@
 pub mod Texts
 pub mod Sorting
 pub mod Values
+pub mod Columns
 pub mod Apart
 pub mod Answered
 pub mod TableRows

@@ -11,9 +11,11 @@ use Rattle.jm_queries.specs.Asked.{IsUndone}
 use Rattle.jm_tables.specs.Rows.{stored_in}
 use Rattle.jm_tables.specs.Sound.{Serves}
 use Rattle.jm_writes.specs.Steps.{IsOurs}
-use Rattle.jm_opening.specs.declared.found.Found.{Found}
-use Rattle.jm_opening.specs.Opened.{IsFound, IsOpened}
+use Rattle.jm_opening.specs.declared.judged.OpenFault.{OpenFault}
+use Rattle.jm_opening.specs.Opened.{IsOpened}
 use Rattle.jm_opening.specs.Opening.{IsOpenedAgain}
+use Rattle.jm_load.specs.Faults.{IsFaultOf}
+use Rattle.jm_store.specs.Opened.{IsOpenedOf}
 
 -- the database is the one that was opened
 pub same_now : (a b : State) → a.now ≡ a.committed → IsUndone a b → b.now ≡ a.now
@@ -77,10 +79,13 @@ module _ (opening : ℕ) (committed : Trees) (old new : State) (survives : Survi
       | inr never ↦ absurd never
     ]
 
--- one that could not be loaded stands opened
-pub stands_opened : (committed : Trees) (old new : State) (opening : ℕ) → Survives old new (λ _. ⊥) → (HasCleanDisk new → IsTrue new.is_open → IsUndone old new) → (HasCleanDisk old → IsOpenedAgain opening committed old) → HasCleanDisk new → IsTrue new.is_open →
-    (before : Database) × (before.trees ≡ committed) × ((found : Found) × IsFound found before × IsOpened found before new.now)
-stands_opened committed old new opening survives same opened clean live =
-    let is = opened (omega (arith, survives.clean, clean)) in
-    let now_is = same_now old new (sym is.from.committed) (same clean live) in
-    (is.before, is.same, (is.from.found, is.from.is_found, subst (λ (d : Database). IsOpened is.from.found is.before d) (sym now_is) is.from.opened))
+-- one that could not be loaded stands opened, and the fault is the first of what it has
+pub stands_opened : (committed : Trees) (old new : State) (opening : ℕ) (fault : OpenFault) → Survives old new (λ _. ⊥) → (HasCleanDisk new → IsTrue new.is_open → IsUndone old new) → (HasCleanDisk old → IsOpenedAgain opening committed old)
+    → (HasCleanDisk old → Serves old.now) → (HasCleanDisk new → old.now ≡ old.committed → Serves old.now → IsFaultOf old.now.trees fault) → HasCleanDisk new → IsTrue new.is_open → IsOpenedOf committed new.now × IsFaultOf new.now.trees fault
+stands_opened committed old new opening fault survives same opened serves told clean live =
+    let early : HasCleanDisk old = omega (arith, survives.clean, clean) in
+    let is = opened early in
+    let now_is = same_now old new (sym is.from.committed) (same clean live) in (
+      (is.before, is.same, (is.from.found, is.from.is_found, subst (λ (d : Database). IsOpened is.from.found is.before d) (sym now_is) is.from.opened)),
+      subst (λ (d : Database). IsFaultOf d.trees fault) (sym now_is) (told clean (sym is.from.committed) (serves early)),
+    )

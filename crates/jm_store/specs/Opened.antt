@@ -11,13 +11,17 @@ use Rattle.jm_opening.specs.declared.outcome.Left.{Left}
 use Rattle.jm_opening.specs.declared.outcome.Left.TheVariants.{Settled, Shut}
 use Rattle.jm_opening.specs.Opened.{IsFound, IsOpened}
 use Rattle.jm_opening.specs.Opening.{IsRefusedAs, Stands}
+use Rattle.jm_load.specs.Faults.{IsFaultOf}
 
--- while it is open, it has what was committed, opened, and the next opening is one more
-abbrev pub StandsOpened : {S : Type 0} → Ghosts S → Trees → Left S → Type 0
-StandsOpened g committed (Settled conn) = HasCleanDisk (state g conn) → IsTrue (state g conn).is_open →
-    (before : Database) × (before.trees ≡ committed) × ((found : Found) × IsFound found before × IsOpened found before (state g conn).now)
-StandsOpened g committed (Shut store) = ⊥
+-- the database has what was committed, opened, and the next opening is one more
+abbrev pub IsOpenedOf : Trees → Database → Type 0
+IsOpenedOf committed now = (before : Database) × (before.trees ≡ committed) × ((found : Found) × IsFound found before × IsOpened found before now)
 
--- it was not opened, and stands as it was; or it was opened, and what it holds could not be loaded
+-- while it is open, it has what was committed, opened; and the fault is the first of what it has
+abbrev pub StandsOpened : {S : Type 0} → Ghosts S → Trees → OpenFault → Left S → Type 0
+StandsOpened g committed fault (Settled conn) = HasCleanDisk (state g conn) → IsTrue (state g conn).is_open → IsOpenedOf committed (state g conn).now × IsFaultOf (state g conn).now.trees fault
+StandsOpened g committed fault (Shut store) = ⊥
+
+-- it was not opened, and stands as it was; or it was opened, and what it holds could not be loaded, for that fault
 abbrev pub IsLeft : {S : Type 0} → Ghosts S → Trees → OpenFault → Left S → Type 0
-IsLeft g committed fault left = (IsRefusedAs g committed fault left × Stands g committed left) ⊎ StandsOpened g committed left
+IsLeft g committed fault left = (IsRefusedAs g committed fault left × Stands g committed left) ⊎ StandsOpened g committed fault left

@@ -27,4 +27,4 @@ returns-in-Ok-load-clause-durable g c k db h =
 pub returns-in-Err-load-clause-refused : goal.returns-in-Err-load-clause-refused
 returns-in-Err-load-clause-refused g c =
     let o = c.in-Ok in
-    inr (stands_opened _ (state g.S.Store o.opened.conn) (state g.S.Store c.load.new.conn) o.opened.opening c.load.ensures.survives c.load.ensures.same o.ensures.opened)
+    inr (stands_opened _ (state g.S.Store o.opened.conn) (state g.S.Store c.load.new.conn) o.opened.opening c.in-Err-load.fault c.load.ensures.survives c.load.ensures.same o.ensures.opened o.ensures.serves c.in-Err-load.ensures.fault)
