@@ -6,10 +6,10 @@ use Rattle.clap.proofs.WalkLemmas.{both}
 use Rattle.serde_json.specs.Data.{Data}
 use Rattle.serde_json.specs.Find.{as_array, as_number, as_u64, get}
 use Rattle.serde_json.specs.Read.{read}
-use Rattle.jm_machine.specs.declared.call.ClientCall.{ClientCall}
-use Rattle.jm_scenario.specs.Calls.{calls_of_items, scenario, scenario_of_text}
+use Rattle.jm_scenario.specs.Calls.{Spells, items_of, scenario}
 use Rattle.jm_scenario.specs.Reading.{where_true}
 use Rattle.jm_scenario.specs.Values.{absent_or, limit, optional}
+use Rattle.jm_scenario.specs.declared.item.Item.{Item}
 use Rattle.jm_scenario.specs.declared.scenario.Scenario.{Scenario}
 use Rattle.jm_words.specs.Words.{IsLimit}
 
@@ -48,24 +48,24 @@ absent_or_within (Some value) = go (limit value) (limit_within value)
     go None holds = tt
     go (Some n) holds = holds
 
-abbrev with_calls : Option ℕ → List ClientCall → Scenario
-with_calls held calls = record { held = held; calls = calls }
+abbrev with_items : Option ℕ → List Item → Scenario
+with_items held items = record { held = held; items = items }
 
 -- the limit of a scenario that a value spells
 scenario_within : (value : Data) → IfSome (scenario value) (λ s. IfSome s.held IsLimit)
 scenario_within value =
     made (λ _. Unit {0}) (λ s. IfSome s.held IsLimit) _ (option_and_then as_array (get (codes "calls") value)) (any (option_and_then as_array (get (codes "calls") value)))
-    (λ items _. made (λ held. IfSome held IsLimit) (λ s. IfSome s.held IsLimit) _ (optional limit (codes "held") value) (absent_or_within (get (codes "held") value))
-    (λ held holds. kept _ held (calls_of_items items) holds))
+    (λ values _. made (λ held. IfSome held IsLimit) (λ s. IfSome s.held IsLimit) _ (optional limit (codes "held") value) (absent_or_within (get (codes "held") value))
+    (λ held holds. kept _ held (items_of values) holds))
   where
-    kept : (known : Bool) (held : Option ℕ) (calls : Option (List ClientCall)) → IfSome held IsLimit
-        → IfSome (where_true known (option_map (with_calls held) calls)) (λ s. IfSome s.held IsLimit)
-    kept false held calls holds = tt
+    kept : (known : Bool) (held : Option ℕ) (items : Option (List Item)) → IfSome held IsLimit
+        → IfSome (where_true known (option_map (with_items held) items)) (λ s. IfSome s.held IsLimit)
+    kept false held items holds = tt
     kept true held None holds = tt
-    kept true held (Some calls) holds = holds
+    kept true held (Some items) holds = holds
 
 -- and of one that a text spells
-pub scenario_limit : (text : List ℕ) (s : Scenario) → scenario_of_text text ≡ Some s → IfSome s.held IsLimit
+pub scenario_limit : (text : List ℕ) (s : Scenario) → Spells text s → IfSome s.held IsLimit
 scenario_limit text s is =
-    subst (λ spelled. IfSome spelled (λ s. IfSome s.held IsLimit)) is
+    subst (λ spelled. IfSome spelled (λ s. IfSome s.held IsLimit)) is.0
     (made (λ _. Unit {0}) (λ s. IfSome s.held IsLimit) scenario (read text) (any (read text)) (λ value _. scenario_within value))

@@ -8,7 +8,9 @@ use Rattle.jm_machine.specs.Isolation.{AreIsolated}
 use Rattle.jm_machine.specs.Machine.{State}
 use Rattle.jm_machine.specs.declared.answer.Answer.{Answer}
 use Rattle.jm_machine.specs.declared.call.ClientCall.{ClientCall}
+use Rattle.jm_scenario.specs.Items.{calls_of, replies_with_marks}
 use Rattle.jm_scenario.specs.Lines.{lines}
+use Rattle.jm_scenario.specs.declared.item.Item.{Item}
 use Rattle.jm_scenario.specs.declared.scenario.Scenario.{Scenario}
 use Rattle.jm_play.specs.Play.{GivesScenario, status_of}
 use Rattle.jm_play.specs.declared.source.Source.{Source}
@@ -22,14 +24,15 @@ IsRunOver before after calls replies = (end : Progress) × RunKept (begun before
 abbrev pub TellsFailure : ℕ → ℕ → List (Result Answer Refusal) → Type 0
 TellsFailure faults_before faults_after replies = Contains replies (Err Store) → HasFailed faults_before faults_after
 
--- the text is the lines of the replies to those calls over a keeper, which are isolated, and that is the exit status
-abbrev pub RepliesOver : State → State → ℕ → ℕ → List ClientCall → List ℕ → ℕ → Type 0
-RepliesOver before after faults_before faults_after calls text status =
-    (replies : List (Result Answer Refusal)) × IsRunOver before after calls replies × AreIsolated before calls replies
-    × TellsFailure faults_before faults_after replies × (text ≡ lines replies) × (status ≡ status_of replies)
+-- the text is the lines of the replies to those items, and that is the exit status: the replies to the calls are those of a
+-- run over a keeper, and are isolated, and each fork and each join is answered Done at its place
+abbrev pub RepliesOver : State → State → ℕ → ℕ → List Item → List ℕ → ℕ → Type 0
+RepliesOver before after faults_before faults_after items text status =
+    (replies : List (Result Answer Refusal)) × IsRunOver before after (calls_of items) replies × AreIsolated before (calls_of items) replies
+    × TellsFailure faults_before faults_after replies × (text ≡ lines (replies_with_marks items replies)) × (status ≡ status_of replies)
 
 -- the same of the scenario that a source gives
 abbrev pub PlaysOver : {R : Type 0} → (R → Option (List ℕ)) → State → State → ℕ → ℕ → Source R → Source R → List ℕ → ℕ → Type 0
 PlaysOver remaining before after faults_before faults_after old new text status =
     (scenario : Scenario) × GivesScenario remaining old new scenario
-    × RepliesOver before after faults_before faults_after scenario.calls text status
+    × RepliesOver before after faults_before faults_after scenario.items text status

@@ -7,8 +7,10 @@ use Rattle.jm_machine.specs.Client.{Progress, begun, RunOwed}
 use Rattle.jm_machine.specs.Machine.{new_core}
 use Rattle.jm_machine.specs.declared.answer.Answer.{Answer}
 use Rattle.jm_machine.specs.declared.call.ClientCall.{ClientCall}
-use Rattle.jm_scenario.specs.Calls.{scenario_of_text}
+use Rattle.jm_scenario.specs.Calls.{Spells, SpellsNone}
+use Rattle.jm_scenario.specs.Items.{calls_of, replies_with_marks}
 use Rattle.jm_scenario.specs.Lines.{lines}
+use Rattle.jm_scenario.specs.declared.item.Item.{Item}
 use Rattle.jm_scenario.specs.declared.scenario.Scenario.{Scenario}
 use Rattle.jm_scenario.specs.declared.scenario.ScenarioFault.{ScenarioFault}
 use Rattle.jm_scenario.specs.declared.scenario.ScenarioFault.TheVariants as refused
@@ -19,11 +21,11 @@ use Rattle.jm_play.specs.Source.{GivesAll, IsUnreadable, has_failed}
 
 -- the bytes are a text that spells that scenario
 abbrev pub SpellsScenario : List ℕ → Scenario → Type 0
-SpellsScenario bytes scenario = IsUtf8 bytes × (scenario_of_text bytes ≡ Some scenario)
+SpellsScenario bytes scenario = IsUtf8 bytes × Spells bytes scenario
 
 -- why bytes spell no scenario: they are no text, or one that spells none
 abbrev pub RefusesBytes : List ℕ → ScenarioFault → Type 0
-RefusesBytes bytes fault = (fault ≢ refused.Memory) × (IsUtf8 bytes → scenario_of_text bytes ≡ None)
+RefusesBytes bytes fault = (fault ≢ refused.Memory) × (IsUtf8 bytes → SpellsNone bytes)
 
 -- why bytes that were read give no scenario: they spell none, or memory is refused
 abbrev pub RefusesSpelled : List ℕ → Fault → Type 0
@@ -65,12 +67,14 @@ is_shortage _ = false
 abbrev pub status_of : List (Result Answer Refusal) → ℕ
 status_of replies = if list_any is_shortage replies then 3 else 0
 
--- the text is the lines of the replies to those calls with that limit of held rows, and that is the exit status
-abbrev pub Replies : ℕ → List ClientCall → List ℕ → ℕ → Type 0
-Replies limit calls text status =
-    (replies : List (Result Answer Refusal)) × IsRun limit calls replies × (text ≡ lines replies) × (status ≡ status_of replies)
+-- the text is the lines of the replies to those items, and that is the exit status: the replies to the calls are those of a
+-- run with that limit of held rows, and each fork and each join is answered Done at its place
+abbrev pub Replies : ℕ → List Item → List ℕ → ℕ → Type 0
+Replies limit items text status =
+    (replies : List (Result Answer Refusal)) × IsRun limit (calls_of items) replies
+    × (text ≡ lines (replies_with_marks items replies)) × (status ≡ status_of replies)
 
 -- the same of the scenario that a source gives, with the limit that is given, if one is
 abbrev pub Plays : {R : Type 0} → (R → Option (List ℕ)) → Option ℕ → Source R → Source R → List ℕ → ℕ → Type 0
 Plays remaining held old new text status =
-    (scenario : Scenario) × GivesScenario remaining old new scenario × Replies (held_limit held scenario.held) scenario.calls text status
+    (scenario : Scenario) × GivesScenario remaining old new scenario × Replies (held_limit held scenario.held) scenario.items text status

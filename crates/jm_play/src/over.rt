@@ -16,30 +16,33 @@ use crate::sink::Sink;
 use crate::source::Source;
 use jm_core::Core;
 use jm_keep::Keep;
-use jm_machine::ClientCall;
+use jm_scenario::{Item, into_calls, item_kinds};
 use std::alloc::{AllocError, Global};
 use std::io::{Read, Write};
 
-/// The lines of the replies to the calls, made in turn on the core over the keeper as `jm_kept::run` makes them. `AllocError`
-/// where no room was found for the replies, and then no call was made; or for their lines, and then all were made.
+/// The lines of the replies to the items, whose calls are made in turn on the core over the keeper as `jm_kept::run` makes
+/// them; forks and joins have no effect. `AllocError` where no room was found for the calls or their replies, and then no call
+/// was made; or for the lines, and then all were made.
 pub fn printout_over<K: Keep>(
     alloc: Global,
     core: &mut Core,
     keeper: &mut K,
-    calls: Vec<ClientCall>,
+    items: Vec<Item>,
 ) -> Result<Printout, AllocError>
     ensures told { IfOk result (λ printout. RepliesOver (state_of core.old) (state_of core.new) (K.faults keeper.old) (K.faults keeper.new)
-        calls.items (string_bytes printout.text) printout.status) }
+        items.items (string_bytes printout.text) printout.status) }
     ensures faults { K.faults keeper.old ≤ K.faults keeper.new }
     ensures clean { IsTrue (K.is_clean keeper.new) → IsTrue (K.is_clean keeper.old) }
     ensures kept { IsTrue (K.is_clean keeper.new) → IsPersisted (state_of core.old) (K.stored keeper.old) →
         IsPersisted (state_of core.new) (K.stored keeper.new) }
 {
+    let kinds = item_kinds(alloc, &items)?;
+    let calls = into_calls(alloc, items)?;
     let replies = jm_kept::run(alloc, core, keeper, calls)?;
-    printout_of(alloc, &replies)
+    printout_of(alloc, &kinds, replies)
 }
 
-/// The lines of the replies to the calls of the scenario that the source gives.
+/// The lines of the replies to the items of the scenario that the source gives.
 fn told<K: Keep, R: Read>(
     alloc: Global,
     core: &mut Core,
@@ -56,14 +59,14 @@ fn told<K: Keep, R: Read>(
     ensures reads { reads source.new ≤ reads source.old + reads_max }
 {
     let scenario = scenario_of(alloc, source)?;
-    Ok(printout_over(alloc, core, keeper, scenario.calls.into_inner())?)
+    Ok(printout_over(alloc, core, keeper, scenario.items.into_inner())?)
 }
 
 /// Reads a scenario, in at most 16,777,217 reads, makes its calls in turn on the core over the keeper, and prints the line of
-/// each reply. The core's own limit of held rows counts, and not the scenario's. Each reply is the machine's, or is `Memory`
-/// or `Store`, and then the call was not made; after each accepted call the keeper has stored what is stored of the state.
-/// Where the source gives no scenario, core and keeper are as before. A want of memory for the lines is told after the calls
-/// were made.
+/// each reply; forks and joins have no effect, and are answered `Done`. The core's own limit of held rows counts, and not the
+/// scenario's. Each reply is the machine's, or is `Memory` or `Store`, and then the call was not made; after each accepted call
+/// the keeper has stored what is stored of the state. Where the source gives no scenario, core and keeper are as before. A want
+/// of memory for the lines is told after the calls were made.
 pub fn play_over<K: Keep, R: Read, W: Write>(
     alloc: Global,
     core: &mut Core,

@@ -4,6 +4,7 @@ ghost use Rattle.std.specs.Prelude.{◌≡◌, IfOk, string_bytes};
 ghost use Rattle.std.specs.List.{list_any};
 ghost use Rattle.jm_machine.specs.Isolation.{AreIsolated};
 ghost use Rattle.jm_machine.specs.Machine as machine;
+ghost use Rattle.jm_scenario.specs.Items as marks;
 ghost use Rattle.jm_scenario.specs.Lines.{lines};
 ghost use Rattle.jm_words.specs.Words.{IsLimit};
 ghost use Rattle.jm_play.specs.Play as spec;
@@ -14,7 +15,7 @@ use crate::provider::new_core;
 use jm_base::Refusal;
 use jm_keep::NoKeep;
 use jm_machine::{ClientCall, Reply};
-use jm_scenario::write_replies;
+use jm_scenario::{Item, ItemKind, into_calls, item_kinds, replies_in_place, write_replies};
 use std::alloc::{AllocError, Global};
 
 /// The replies to the calls, made in turn on a new provider with that limit of held rows, which keeps nothing. `AllocError`
@@ -48,27 +49,32 @@ pub fn status_of(replies: &[Reply]) -> u8
     if has_shortage(replies) { 3 } else { 0 }
 }
 
-/// The lines of the replies, and the exit status where they are printed. `AllocError` where a request for memory was refused.
-pub fn printout_of(alloc: Global, replies: &[Reply]) -> Result<Printout, AllocError>
-    ensures text { IfOk result (λ printout. string_bytes printout.text ≡ lines replies.now) }
-    ensures status { IfOk result (λ printout. printout.status ≡ spec.status_of replies.now) }
+/// The lines of the replies to items of those kinds, where those to the calls among them are given, and the exit status where
+/// they are printed. Each fork and each join is answered `Done` at its place. `AllocError` where a request for memory was
+/// refused.
+pub fn printout_of(
+    alloc: Global,
+    kinds: &[ItemKind],
+    replies: Vec<Reply>,
+) -> Result<Printout, AllocError>
+    ensures text { IfOk result (λ printout. string_bytes printout.text ≡ lines (marks.replies_in_place kinds.now replies.items)) }
+    ensures status { IfOk result (λ printout. printout.status ≡ spec.status_of replies.items) }
 {
+    let status = status_of(&replies);
+    let replies = replies_in_place(alloc, kinds, replies)?;
     Ok(Printout {
-        text: write_replies(alloc, replies)?,
-        status: status_of(replies),
+        text: write_replies(alloc, &replies)?,
+        status,
     })
 }
 
-/// The lines of the replies to the calls, made in turn on a new provider with that limit of held rows, which keeps nothing.
-/// `AllocError` where a request for memory was refused.
-pub(crate) fn lines_of(
-    alloc: Global,
-    limit: u32,
-    calls: Vec<ClientCall>,
-) -> Result<Printout, AllocError>
+/// The lines of the replies to the items, whose calls are made in turn on a new provider with that limit of held rows, which
+/// keeps nothing. `AllocError` where a request for memory was refused.
+pub(crate) fn lines_of(alloc: Global, limit: u32, items: Vec<Item>) -> Result<Printout, AllocError>
     requires { IsLimit limit }
-    ensures { IfOk result (λ printout. Replies limit calls.items (string_bytes printout.text) printout.status) }
+    ensures { IfOk result (λ printout. Replies limit items.items (string_bytes printout.text) printout.status) }
 {
-    let replies = run(alloc, limit, calls)?;
-    printout_of(alloc, &replies)
+    let kinds = item_kinds(alloc, &items)?;
+    let replies = run(alloc, limit, into_calls(alloc, items)?)?;
+    printout_of(alloc, &kinds, replies)
 }

@@ -16,7 +16,7 @@ use crate::source::Source;
 use std::alloc::Global;
 use std::io::{Read, Write};
 
-/// The lines of the replies to the calls of the scenario that the source gives, with the limit that is given, if one
+/// The lines of the replies to the items of the scenario that the source gives, with the limit that is given, if one
 /// is.
 fn told<R: Read>(
     alloc: Global,
@@ -30,12 +30,12 @@ fn told<R: Read>(
 {
     let scenario = scenario_of(alloc, source)?;
     let limit = held_limit(held, scenario.held);
-    Ok(lines_of(alloc, limit, scenario.calls.into_inner())?)
+    Ok(lines_of(alloc, limit, scenario.items.into_inner())?)
 }
 
-/// Reads a scenario, in at most 16,777,217 reads, makes its calls on a new provider, and prints the line of each
-/// reply. A subscription that is not durable holds at most `held` rows, 1 to 1,000,000; where none is given, as many
-/// as the scenario says, and where that says none, 100,000.
+/// Reads a scenario, in at most 16,777,217 reads, makes its calls in turn on a new provider, and prints the line of each
+/// reply; forks and joins have no effect, and are answered `Done`. A subscription that is not durable holds at most `held`
+/// rows, 1 to 1,000,000; where none is given, as many as the scenario says, and where that says none, 100,000.
 pub fn play<R: Read, W: Write>(
     alloc: Global,
     held: Option<u32>,

@@ -9,8 +9,11 @@ use Rattle.jm_machine.specs.Machine.{new_core}
 use Rattle.jm_machine.specs.declared.answer.Answer.{Answer}
 use Rattle.jm_machine.specs.declared.call.ClientCall.{ClientCall}
 use Rattle.jm_machine.specs.declared.call.ClientCall.TheVariants.{Ask, Send, CommitSession}
+use Rattle.jm_scenario.specs.Items.{calls_of}
 use Rattle.jm_scenario.specs.Key.{key_of_text}
 use Rattle.jm_scenario.specs.Lines.{line}
+use Rattle.jm_scenario.specs.declared.item.Item.{Item}
+use Rattle.jm_scenario.specs.declared.item.Item.TheVariants.{Call, Fork, Join}
 use Rattle.jm_scenario.specs.declared.scenario.Scenario.{Scenario}
 use Rattle.jm_play.specs.Play.{GivesScenario, IsRun, RefusesScenario, held_limit, status_of}
 use Rattle.jm_play.specs.declared.fault.KeyFault.{KeyFault}
@@ -23,12 +26,14 @@ use Rattle.jm_play.specs.declared.source.Source.{Source}
 abbrev pub leaves_entry : ℕ → ClientCall → Result Answer Refusal → Bool
 leaves_entry opening call reply = not (length (entry_of opening call reply) == 0)
 
--- the numbers of the calls that leave an entry, the first call having that number
-abbrev pub numbers_from : ℕ → ℕ → List ClientCall → List (Result Answer Refusal) → List ℕ
+-- the numbers of the calls that leave an entry, the first item having that number: forks and joins count too
+abbrev pub numbers_from : ℕ → ℕ → List Item → List (Result Answer Refusal) → List ℕ
 numbers_from opening number [] replies = []
-numbers_from opening number (call ∷ calls) [] = []
-numbers_from opening number (call ∷ calls) (reply ∷ replies) =
-    if leaves_entry opening call reply then number ∷ numbers_from opening (suc number) calls replies else numbers_from opening (suc number) calls replies
+numbers_from opening number (Fork ∷ items) replies = numbers_from opening (suc number) items replies
+numbers_from opening number (Join ∷ items) replies = numbers_from opening (suc number) items replies
+numbers_from opening number (Call call ∷ items) [] = []
+numbers_from opening number (Call call ∷ items) (reply ∷ replies) =
+    if leaves_entry opening call reply then number ∷ numbers_from opening (suc number) items replies else numbers_from opening (suc number) items replies
 
 -- the number at that place
 abbrev pub number_at : List ℕ → ℕ → ℕ
@@ -43,10 +48,10 @@ abbrev pub lines_at : List ℕ → List (ℕ × Result Answer Refusal) → List 
 lines_at numbers [] = []
 lines_at numbers (placed ∷ replies) = line_at numbers placed ++ lines_at numbers replies
 
--- the lines of what the key's subscription answers alone, over the record of the run in opening 1 with that limit of
--- held rows
-abbrev pub lines_alone : ℕ → Key → List ClientCall → List (Result Answer Refusal) → List ℕ
-lines_alone limit key calls replies = lines_at (numbers_from 1 1 calls replies) (alone key (new_core 1 limit) (entries_of 1 calls replies))
+-- the lines of what the key's subscription answers alone, over the record of the run of the items' calls in opening 1 with
+-- that limit of held rows
+abbrev pub lines_alone : ℕ → Key → List Item → List (Result Answer Refusal) → List ℕ
+lines_alone limit key items replies = lines_at (numbers_from 1 1 items replies) (alone key (new_core 1 limit) (entries_of 1 (calls_of items) replies))
 
 -- the line of a reply that a run in opening 1 gave to the call of that number, where it is a call that the subscription
 -- answers and counts as made
@@ -55,20 +60,22 @@ line_told scope number (Ask who request) reply = if is_not_made reply then [] el
 line_told scope number (Send s draft destination now) reply = []
 line_told scope number (CommitSession s) reply = []
 
--- the lines of the replies to its calls, with their numbers, the first call having that number
-abbrev pub lines_told : Scope → ℕ → List ClientCall → List (Result Answer Refusal) → List ℕ
+-- the lines of the replies to its calls, with their numbers, the first item having that number
+abbrev pub lines_told : Scope → ℕ → List Item → List (Result Answer Refusal) → List ℕ
 lines_told scope number [] replies = []
-lines_told scope number (call ∷ calls) [] = []
-lines_told scope number (call ∷ calls) (reply ∷ replies) = line_told scope number call reply ++ lines_told scope (suc number) calls replies
+lines_told scope number (Fork ∷ items) replies = lines_told scope (suc number) items replies
+lines_told scope number (Join ∷ items) replies = lines_told scope (suc number) items replies
+lines_told scope number (Call call ∷ items) [] = []
+lines_told scope number (Call call ∷ items) (reply ∷ replies) = line_told scope number call reply ++ lines_told scope (suc number) items replies
 
 -- the lines of the replies that the run gave to the key's calls, in opening 1 with that limit of held rows
-abbrev pub lines_of_key : ℕ → Key → List ClientCall → List (Result Answer Refusal) → List ℕ
-lines_of_key limit key calls replies = lines_told (scope_of key (new_core 1 limit) (entries_of 1 calls replies)) 1 calls replies
+abbrev pub lines_of_key : ℕ → Key → List Item → List (Result Answer Refusal) → List ℕ
+lines_of_key limit key items replies = lines_told (scope_of key (new_core 1 limit) (entries_of 1 (calls_of items) replies)) 1 items replies
 
 -- where the numbers of the key's consumers name nothing else, what is told of the key is what the run told its sessions: the
 -- law of isolation, of this run
-abbrev pub IsOfRun : ℕ → Key → List ClientCall → List (Result Answer Refusal) → List ℕ → Type 0
-IsOfRun limit key calls replies text = keeps_numbers key (new_core 1 limit) (entries_of 1 calls replies) ≡ true → text ≡ lines_of_key limit key calls replies
+abbrev pub IsOfRun : ℕ → Key → List Item → List (Result Answer Refusal) → List ℕ → Type 0
+IsOfRun limit key items replies text = keeps_numbers key (new_core 1 limit) (entries_of 1 (calls_of items) replies) ≡ true → text ≡ lines_of_key limit key items replies
 
 -- the key is that of an unshared subscription in the record of the run: in opening 1 with that limit of held rows, and by
 -- what its entries name
@@ -81,7 +88,7 @@ IsKey limit text key calls replies = (key_of_text text ≡ Some key) × (is_unsh
 
 -- the replies are those of a run of the scenario, with its own limit
 abbrev pub IsRunOf : Scenario → List (Result Answer Refusal) → Type 0
-IsRunOf scenario replies = IsRun (held_limit None scenario.held) scenario.calls replies
+IsRunOf scenario replies = IsRun (held_limit None scenario.held) (calls_of scenario.items) replies
 
 -- what is printed is the lines of the key's subscription alone, over a run of the scenario that a source gives, which are
 -- those of that run, and the exit status is that of the run
@@ -89,9 +96,9 @@ abbrev pub TellsLone : {R : Type 0} → (R → Option (List ℕ)) → List ℕ �
 TellsLone remaining spelled old new text status =
     (scenario : Scenario) × (replies : List (Result Answer Refusal)) × (key : Key)
     × GivesScenario remaining old new scenario × IsRunOf scenario replies
-    × IsKey (held_limit None scenario.held) spelled key scenario.calls replies
-    × (text ≡ lines_alone (held_limit None scenario.held) key scenario.calls replies)
-    × IsOfRun (held_limit None scenario.held) key scenario.calls replies text × (status ≡ status_of replies)
+    × IsKey (held_limit None scenario.held) spelled key (calls_of scenario.items) replies
+    × (text ≡ lines_alone (held_limit None scenario.held) key scenario.items replies)
+    × IsOfRun (held_limit None scenario.held) key scenario.items replies text × (status ≡ status_of replies)
 
 -- why a text gives no key: it spells none, or memory is refused
 abbrev pub RefusesText : List ℕ → Fault → Type 0
@@ -117,5 +124,5 @@ abbrev pub RefusesLone : {R : Type 0} → (R → Option (List ℕ)) → List ℕ
 RefusesLone remaining spelled old new (fault.Key cause) =
     (scenario : Scenario) × (replies : List (Result Answer Refusal))
     × GivesScenario remaining old new scenario × IsRunOf scenario replies
-    × HasKeyFault (held_limit None scenario.held) spelled scenario.calls replies cause
+    × HasKeyFault (held_limit None scenario.held) spelled (calls_of scenario.items) replies cause
 RefusesLone remaining spelled old new other = RefusesScenario remaining old new other

@@ -19,6 +19,8 @@ use Rattle.jm_tree.specs.Parse.{parsed}
 use Rattle.jm_tree.specs.declared.tree.Tree.{Tree}
 use Rattle.jm_base.specs.Shown.{refusal_name}
 use Rattle.jm_play.specs.Play.{GivesScenario, RefusesScenario}
+use Rattle.jm_scenario.specs.declared.item.Item.{Item}
+use Rattle.jm_scenario.specs.declared.item.Item.TheVariants.{Call, Fork, Join}
 use Rattle.jm_scenario.specs.declared.scenario.Scenario.{Scenario}
 use Rattle.jm_play.specs.declared.fault.Fault.{Fault}
 use Rattle.jm_play.specs.declared.fault.Fault.TheVariants as faults
@@ -57,7 +59,7 @@ abbrev pub verdict : Option Tree → Result Content Refusal → List ℕ
 verdict selector (Ok message) = truth_name (truth selector message)
 verdict selector (Err refusal) = codes "refused " ++ refusal_name refusal
 
--- the line of a send: the number of its call, a space, what is printed of it and a line feed
+-- the line of a send: the number of its item, a space, what is printed of it and a line feed
 abbrev pub send_line : Option Tree → ℕ → Result Content Refusal → List ℕ
 send_line selector number stamp = decimal number ++ codes " " ++ verdict selector stamp ++ codes "\n"
 
@@ -75,21 +77,33 @@ sent_after sent (Send session draft destination now) =
     counted session (stamp_next sent session draft destination now) sent
 sent_after sent (CommitSession session) = sent
 
--- the lines of calls in order, the first of that number
-abbrev pub lines_from : Option Tree → Sent → ℕ → List ClientCall → List ℕ
-lines_from selector sent number [] = []
-lines_from selector sent number (call ∷ calls) =
-    call_line selector sent number call ++ lines_from selector (sent_after sent call) (suc number) calls
+-- the line of an item: of a call its line, of a fork or a join nothing
+abbrev pub item_line : Option Tree → Sent → ℕ → Item → List ℕ
+item_line selector sent number (Call call) = call_line selector sent number call
+item_line selector sent number Fork = []
+item_line selector sent number Join = []
 
--- the lines of all sends, numbered by their calls from 1
-abbrev pub lines : Option Tree → List ClientCall → List ℕ
-lines selector calls = lines_from selector (λ session. 0) 1 calls
+-- the counts after an item
+abbrev pub sent_behind : Sent → Item → Sent
+sent_behind sent (Call call) = sent_after sent call
+sent_behind sent Fork = sent
+sent_behind sent Join = sent
+
+-- the lines of items in order, the first of that number
+abbrev pub lines_from : Option Tree → Sent → ℕ → List Item → List ℕ
+lines_from selector sent number [] = []
+lines_from selector sent number (one ∷ items) =
+    item_line selector sent number one ++ lines_from selector (sent_behind sent one) (suc number) items
+
+-- the lines of all sends, numbered by their items from 1: forks and joins count too
+abbrev pub lines : Option Tree → List Item → List ℕ
+lines selector items = lines_from selector (λ session. 0) 1 items
 
 -- the text is read as a selector, and what is printed is the lines of the sends of the scenario that a source gives, with exit status 0
 abbrev pub Picks : {R : Type 0} → (R → Option (List ℕ)) → List ℕ → Source R → Source R → List ℕ → ℕ → Type 0
 Picks remaining selector old new text status =
     (tree : Option Tree) × (scenario : Scenario)
-    × (parsed selector ≡ Ok tree) × GivesScenario remaining old new scenario × (text ≡ lines tree scenario.calls) × (status ≡ 0)
+    × (parsed selector ≡ Ok tree) × GivesScenario remaining old new scenario × (text ≡ lines tree scenario.items) × (status ≡ 0)
 
 -- why a selector is refused: the fault that its text has, or memory is refused
 abbrev pub RefusesSelector : SyntaxFault → Fault → Type 0

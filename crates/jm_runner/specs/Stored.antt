@@ -9,15 +9,16 @@ use Rattle.jm_keep.specs.Persisted.{IsPersisted}
 use Rattle.jm_machine.specs.Isolation.{AreIsolated}
 use Rattle.jm_machine.specs.Machine.{State}
 use Rattle.jm_machine.specs.declared.answer.Answer.{Answer}
-use Rattle.jm_machine.specs.declared.call.ClientCall.{ClientCall}
 use Rattle.jm_opening.specs.declared.judged.OpenFault.{OpenFault}
 use Rattle.jm_opening.specs.declared.judged.OpenFault.TheVariants as cause
 use Rattle.jm_opening.specs.declared.outcome.Left.{Left}
 use Rattle.jm_opening.specs.declared.outcome.Left.TheVariants.{Settled, Shut}
 use Rattle.jm_opening.specs.declared.found.Found.{Found}
 use Rattle.jm_opening.specs.Opened.{IsFound, IsOpened, opening_of}
+use Rattle.jm_scenario.specs.Items.{calls_of, replies_with_marks}
 use Rattle.jm_scenario.specs.Lines.{lines}
 use Rattle.jm_store.specs.Opened.{IsLeft}
+use Rattle.jm_scenario.specs.declared.item.Item.{Item}
 use Rattle.jm_scenario.specs.declared.scenario.Scenario.{Scenario}
 use Rattle.jm_tables.specs.Rows.{stored_in}
 use Rattle.jm_play.specs.Over.{IsRunOver}
@@ -60,23 +61,23 @@ pub record IsLoaded (committed : Trees) (before : State) : Type 0 where
 abbrev pub WasLoaded : {S : Type 0} → Ghosts S → Trees → State → Left S → Type 0
 WasLoaded g committed before left = IsCleanLeft g left → IsLoaded committed before
 
--- the text is the lines of the replies to those calls over a store, from that state, which are isolated, and that is the exit
--- status: each reply is the machine's, or counts as not made; and the store that is left holds what is stored of the state
--- that they lead to
-abbrev pub RunsStored : {S : Type 0} → Ghosts S → State → Left S → List ClientCall → List ℕ → ℕ → Type 0
-RunsStored g before left calls text status =
-    (after : State) × (replies : List (Result Answer Refusal)) × IsRunOver before after calls replies
-    × AreIsolated before calls replies × (text ≡ lines replies) × (status ≡ status_of replies) × HoldsStored g after left
+-- the text is the lines of the replies to those items over a store, from that state, and that is the exit status: each reply
+-- to a call is the machine's, or counts as not made, they are isolated, and each fork and each join is answered Done at its
+-- place; and the store that is left holds what is stored of the state that the calls lead to
+abbrev pub RunsStored : {S : Type 0} → Ghosts S → State → Left S → List Item → List ℕ → ℕ → Type 0
+RunsStored g before left items text status =
+    (after : State) × (replies : List (Result Answer Refusal)) × IsRunOver before after (calls_of items) replies
+    × AreIsolated before (calls_of items) replies × (text ≡ lines (replies_with_marks items replies)) × (status ≡ status_of replies) × HoldsStored g after left
 
 -- the same from a state that was loaded from what was committed
-abbrev pub RepliesStored : {S : Type 0} → Ghosts S → Trees → Left S → List ClientCall → List ℕ → ℕ → Type 0
-RepliesStored g committed left calls text status =
-    (before : State) × WasLoaded g committed before left × RunsStored g before left calls text status
+abbrev pub RepliesStored : {S : Type 0} → Ghosts S → Trees → Left S → List Item → List ℕ → ℕ → Type 0
+RepliesStored g committed left items text status =
+    (before : State) × WasLoaded g committed before left × RunsStored g before left items text status
 
 -- the same of the scenario that a source gives
 abbrev pub PlaysStored : {R S : Type 0} → Ghosts S → (R → Option (List ℕ)) → Trees → Left S → Source R → Source R → List ℕ → ℕ → Type 0
 PlaysStored g remaining committed left old new text status =
-    (scenario : Scenario) × GivesScenario remaining old new scenario × RepliesStored g committed left scenario.calls text status
+    (scenario : Scenario) × GivesScenario remaining old new scenario × RepliesStored g committed left scenario.items text status
 
 -- the store is not opened or not loaded, which is told as that fault; what was committed stands, or is opened
 abbrev pub RefusesStore : {S : Type 0} → Ghosts S → Trees → Left S → Fault → Type 0

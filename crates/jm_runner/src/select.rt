@@ -13,6 +13,7 @@ use jm_eval::{Truth, condition};
 use jm_header::{Draft, Message, Sender, stamp};
 use jm_machine::ClientCall;
 use jm_play::{Ending, Fault, OPENING, Printout, Sink, Source, ended, scenario_of};
+use jm_scenario::Item;
 use jm_session::Sends;
 use jm_syntax::{Tree, parse};
 use std::alloc::{AllocError, Global};
@@ -110,7 +111,7 @@ fn verdict(
     }
 }
 
-/// The line of a send, the call of that number. `AllocError` where a request for memory was refused.
+/// The line of a send, the item of that number. `AllocError` where a request for memory was refused.
 fn send_line(
     alloc: Global,
     selector: &Option<Tree>,
@@ -149,18 +150,35 @@ fn call_line(
     }
 }
 
-/// The lines of the sends, in order. `AllocError` where a request for memory was refused.
-fn call_lines(
+/// The line of the item of that number, empty where it is no send. `AllocError` where a request for memory was refused.
+fn item_line(
     alloc: Global,
     selector: &Option<Tree>,
-    calls: Vec<ClientCall>,
+    sends: &mut Sends,
+    number: usize,
+    item: Item,
 ) -> Result<String, AllocError>
-    ensures { IfOk result (λ lines. string_bytes lines ≡ spec.lines selector.now calls.items) }
+    ensures { IfOk result (λ line. (string_bytes line ≡ spec.item_line selector.now (sent_of sends.old) number item)
+        × (sent_of sends.new ≡ spec.sent_behind (sent_of sends.old) item)) }
+{
+    match item {
+        Item::Call(call) => call_line(alloc, selector, sends, number, call),
+        Item::Fork | Item::Join => Ok(String::new(alloc)),
+    }
+}
+
+/// The lines of the sends among the items, in order. `AllocError` where a request for memory was refused.
+fn item_lines(
+    alloc: Global,
+    selector: &Option<Tree>,
+    items: Vec<Item>,
+) -> Result<String, AllocError>
+    ensures { IfOk result (λ lines. string_bytes lines ≡ spec.lines selector.now items.items) }
 {
     let mut lines = String::new(alloc);
     let mut sends = Sends::new(alloc);
-    for (index, call) in calls.into_iter().enumerate() {
-        let line = call_line(alloc, selector, &mut sends, index + 1, call)?;
+    for (index, item) in items.into_iter().enumerate() {
+        let line = item_line(alloc, selector, &mut sends, index + 1, item)?;
         lines.push_str(line.as_str())?;
     }
     Ok(lines)
@@ -175,13 +193,13 @@ fn told<R: Read>(alloc: Global, selector: &str, source: &mut Source<R>) -> Resul
     let tree = tree_of(alloc, selector)?;
     let scenario = scenario_of(alloc, source)?;
     Ok(Printout {
-        text: call_lines(alloc, &tree, scenario.calls.into_inner())?,
+        text: item_lines(alloc, &tree, scenario.items.into_inner())?,
         status: 0,
     })
 }
 
 /// Reads a selector and then a scenario, in at most 16,777,217 reads, and prints the value of the selector
-/// over each send: the number of its call and TRUE, FALSE or UNKNOWN. The sends are stamped in order; one
+/// over each send: its number, among calls, forks and joins, and TRUE, FALSE or UNKNOWN. The sends are stamped in order; one
 /// that is refused leaves its number free, and neither whether a session is open nor whether it commits matters
 /// (ours). Of a selector that is refused the fault is told before anything is read.
 pub fn pick<R: Read, W: Write>(

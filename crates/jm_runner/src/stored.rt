@@ -12,12 +12,11 @@ ghost use Rattle.jm_words.specs.Words.{IsLimit};
 ghost use Rattle.jm_runner.specs.Stored as spec;
 ghost use Rattle.jm_runner.specs.Stored.{IsCleanLeft, IsFaultOfStore, PlaysStored, RefusesStored, RepliesStored, RunsStored};
 
-use jm_machine::ClientCall;
 use jm_play::{
     DatabaseFault, Ending, Fault, Printout, Sink, Source, ended, held_limit, printout_over,
     scenario_of,
 };
-use jm_scenario::Scenario;
+use jm_scenario::{Item, Scenario};
 use jm_store::{Left, OpenFault, Reopened, Unopened};
 use sqlite::{Alter, Connection};
 use std::alloc::Global;
@@ -52,15 +51,11 @@ fn fault_of(fault: &OpenFault) -> Fault
     }
 }
 
-/// The lines of the replies to the calls, made in turn over the store that was opened.
-fn told_over<S: Alter + Drop>(
-    alloc: Global,
-    reopened: Reopened<S>,
-    calls: Vec<ClientCall>,
-) -> Outcome<S>
+/// The lines of the replies to the items, whose calls are made in turn over the store that was opened.
+fn told_over<S: Alter + Drop>(alloc: Global, reopened: Reopened<S>, items: Vec<Item>) -> Outcome<S>
     requires { IsTrue ((state S.Store reopened.store.0).is_clean && (state S.Store reopened.store.0).is_open) →
         IsPersisted (state_of reopened.core) (stored_in (state S.Store reopened.store.0).now.trees) }
-    ensures told { IfOk result.told (λ printout. RunsStored S.Store (state_of reopened.core) result.left calls.items (string_bytes printout.text) printout.status) }
+    ensures told { IfOk result.told (λ printout. RunsStored S.Store (state_of reopened.core) result.left items.items (string_bytes printout.text) printout.status) }
     ensures clean { IsCleanLeft S.Store result.left → IsTrue ((state S.Store reopened.store.0).is_clean && (state S.Store reopened.store.0).is_open) }
     ensures memory { IfErr result.told (λ fault. fault ≡ Fault.Memory) }
     ensures left { IsInNoTransaction result.left }
@@ -69,7 +64,7 @@ fn told_over<S: Alter + Drop>(
         mut store,
         mut core,
     } = reopened;
-    let told = printout_over(alloc, &mut core, &mut store, calls);
+    let told = printout_over(alloc, &mut core, &mut store, items);
     let left = Left::Settled(store.into_connection());
     match told {
         Ok(printout) => Outcome {
@@ -83,7 +78,7 @@ fn told_over<S: Alter + Drop>(
     }
 }
 
-/// The lines of the replies to the calls of the scenario, over the store of the connection, with the limit that is given, if
+/// The lines of the replies to the items of the scenario, over the store of the connection, with the limit that is given, if
 /// one is.
 fn told_of<S: Alter + Drop>(
     alloc: Global,
@@ -93,13 +88,13 @@ fn told_of<S: Alter + Drop>(
 ) -> Outcome<S>
     requires given { IfSome held IsLimit }
     requires own { IfSome scenario.held IsLimit }
-    ensures told { IfOk result.told (λ printout. RepliesStored S.Store (state S.Store conn).committed.trees result.left scenario.calls (string_bytes printout.text) printout.status) }
+    ensures told { IfOk result.told (λ printout. RepliesStored S.Store (state S.Store conn).committed.trees result.left scenario.items (string_bytes printout.text) printout.status) }
     ensures fault { IfErr result.told (IsFaultOfStore S.Store (state S.Store conn).committed.trees result.left) }
     ensures left { IsInNoTransaction result.left }
 {
     let limit = held_limit(held, scenario.held);
     match jm_store::open(alloc, conn, limit) {
-        Ok(reopened) => told_over(alloc, reopened, scenario.calls.into_inner()),
+        Ok(reopened) => told_over(alloc, reopened, scenario.items.into_inner()),
         Err(Unopened { fault, left }) => Outcome {
             told: Err(fault_of(&fault)),
             left,
@@ -107,7 +102,7 @@ fn told_of<S: Alter + Drop>(
     }
 }
 
-/// The lines of the replies to the calls of the scenario that the source gives, over the store of the connection.
+/// The lines of the replies to the items of the scenario that the source gives, over the store of the connection.
 fn told<S: Alter + Drop, R: Read>(
     alloc: Global,
     held: Option<u32>,
@@ -131,12 +126,13 @@ fn told<S: Alter + Drop, R: Read>(
 }
 
 /// Reads a scenario, in at most 16,777,217 reads, then opens the store of the connection and loads what it holds, makes the
-/// calls in turn over it, and prints the line of each reply; the connection is handed back. A subscription that is not durable
-/// holds at most `held` rows, 1 to 1,000,000; where none is given, as many as the scenario says, and where that says none,
-/// 100,000. Each reply is the machine's, or is `Memory` or `Store`, and then the call was not made; what an accepted call
-/// changes is stored before its reply is printed, and while the store is clean it holds what is stored of the state that the
-/// calls lead to. Where the source gives no scenario, the connection is handed back as it was. Where the store is not opened,
-/// the fault says why, with status 3. A want of memory for the lines is told after the calls were made.
+/// calls in turn over it, and prints the line of each reply; forks and joins have no effect, and are answered `Done`. The
+/// connection is handed back. A subscription that is not durable holds at most `held` rows, 1 to 1,000,000; where none is
+/// given, as many as the scenario says, and where that says none, 100,000. Each reply is the machine's, or is `Memory` or
+/// `Store`, and then the call was not made; what an accepted call changes is stored before its reply is printed, and while the
+/// store is clean it holds what is stored of the state that the calls lead to. Where the source gives no scenario, the
+/// connection is handed back as it was. Where the store is not opened, the fault says why, with status 3. A want of memory for
+/// the lines is told after the calls were made.
 pub fn play_stored<S: Alter + Drop, R: Read, W: Write>(
     alloc: Global,
     held: Option<u32>,

@@ -2,6 +2,7 @@ ghost use Rattle.std.specs.Prelude.{◌≡◌, ◌≤◌, ◌+◌, Some, None, t
 ghost use Rattle.jm_core.specs.Provider.{state_of};
 ghost use Rattle.jm_machine.specs.Isolation.{AreIsolated};
 ghost use Rattle.jm_machine.specs.Machine.{new_core};
+ghost use Rattle.jm_scenario.specs.Items.{calls_of};
 ghost use Rattle.jm_scenario.specs.Key.{key_of_text};
 ghost use Rattle.jm_words.specs.Words.{IsLimit};
 ghost use Rattle.jm_play.specs.Ending.{Ends, ToldBy};
@@ -18,21 +19,10 @@ use jm_play::{
     Ending, Fault, KeyFault, Printout, Sink, Source, ended, held_limit, new_core, run, scenario_of,
     status_of,
 };
-use jm_scenario::{Scenario, read_key, write_reply};
+use jm_scenario::{Item, Scenario, copy_calls, into_calls, read_key, write_reply};
 use std::alloc::{AllocError, Global};
 use std::io::{Read, Write};
 use std::slice;
-
-/// Equal calls. `AllocError` where a request for memory was refused.
-fn copy_calls(alloc: Global, calls: &[ClientCall]) -> Result<Vec<ClientCall>, AllocError>
-    ensures { IfOk result (λ copy. copy.items ≡ calls.now) }
-{
-    let mut copy = Vec::with_capacity(alloc, calls.len())?;
-    for call in calls {
-        copy.push(call.copy()?)?;
-    }
-    Ok(copy)
-}
 
 /// Whether the call leaves an entry in the record of a run in that opening. `AllocError` where a
 /// request for memory was refused.
@@ -53,23 +43,27 @@ fn leaves_entry(
     Ok(!entries.is_empty())
 }
 
-/// The numbers, from 1, of the calls that leave an entry in the record of a run in that opening.
+/// The numbers of the calls that leave an entry in the record of a run in that opening, among items that are numbered from 1.
 /// `AllocError` where a request for memory was refused.
 fn numbers(
     opening: Number,
     alloc: Global,
-    calls: &[ClientCall],
+    items: &[Item],
     replies: &[Reply],
 ) -> Result<Vec<usize>, AllocError>
-    ensures { IfOk result (λ numbers. numbers.items ≡ spec.numbers_from opening 1 calls.now replies.now) }
+    ensures { IfOk result (λ numbers. numbers.items ≡ spec.numbers_from opening 1 items.now replies.now) }
 {
     let mut numbers = Vec::new(alloc);
-    for (index, call) in calls.iter().enumerate() {
-        let Some(reply) = replies.get(index) else {
-            return Ok(numbers);
-        };
-        if leaves_entry(opening, alloc, call, reply)? {
-            numbers.push(index + 1)?;
+    let mut made = 0;
+    for (index, item) in items.iter().enumerate() {
+        if let Item::Call(call) = item {
+            let Some(reply) = replies.get(made) else {
+                return Ok(numbers);
+            };
+            made += 1;
+            if leaves_entry(opening, alloc, call, reply)? {
+                numbers.push(index + 1)?;
+            }
         }
     }
     Ok(numbers)
@@ -108,12 +102,12 @@ fn ran<R: Read>(alloc: Global, source: &mut Source<R>) -> Result<(Scenario, Vec<
         (λ ran. GivesScenario R.remaining source.old source.new ran.0 × IsRunOf ran.0 ran.1.items)
         (RefusesScenario R.remaining source.old source.new) }
     ensures limit { IfOk result (λ ran. IfSome ran.0.held IsLimit) }
-    ensures isolated { IfOk result (λ ran. AreIsolated (new_core 1 (spec_limit None ran.0.held)) ran.0.calls ran.1.items) }
+    ensures isolated { IfOk result (λ ran. AreIsolated (new_core 1 (spec_limit None ran.0.held)) (calls_of ran.0.items) ran.1.items) }
     ensures reads { reads source.new ≤ reads source.old + reads_max }
 {
     let scenario = scenario_of(alloc, source)?;
     let limit = held_limit(None, scenario.held);
-    let calls = copy_calls(alloc, scenario.calls.as_slice())?;
+    let calls = copy_calls(alloc, scenario.items.as_slice())?;
     let replies = run(alloc, limit, calls)?;
     Ok((scenario, replies))
 }
@@ -129,21 +123,22 @@ fn key_of(alloc: Global, text: &str) -> Result<Key, Fault>
     }
 }
 
-/// The lines of what the key's subscription answers alone from a new core, over the record of those calls and replies.
+/// The lines of what the key's subscription answers alone from a new core, over the record of those items' calls and replies.
 fn lines_from(
     alloc: Global,
     opening: &Core,
     key: &Key,
-    calls: &[ClientCall],
+    items: Vec<Item>,
     replies: &[Reply],
 ) -> Result<String, Fault>
     requires { state_of opening.now ≡ new_core 1 (state_of opening.now).limit }
-    ensures ok { IfOk result (λ lines. (string_bytes lines ≡ spec.lines_alone (state_of opening.now).limit key.now calls.now replies.now)
-        × (spec.is_unshared_in (state_of opening.now).limit key.now calls.now replies.now ≡ true)) }
-    ensures err { IfErr result (spec.RefusesKey (state_of opening.now).limit key.now calls.now replies.now) }
+    ensures ok { IfOk result (λ lines. (string_bytes lines ≡ spec.lines_alone (state_of opening.now).limit key.now items.items replies.now)
+        × (spec.is_unshared_in (state_of opening.now).limit key.now (calls_of items.items) replies.now ≡ true)) }
+    ensures err { IfErr result (spec.RefusesKey (state_of opening.now).limit key.now (calls_of items.items) replies.now) }
 {
-    let numbers = numbers(opening.opening(), alloc, calls, replies)?;
-    let entries = entries(alloc, opening.opening(), calls, replies)?;
+    let numbers = numbers(opening.opening(), alloc, &items, replies)?;
+    let calls = into_calls(alloc, items)?;
+    let entries = entries(alloc, opening.opening(), &calls, replies)?;
     match lone_replies(alloc, opening, &entries, key) {
         Ok(replies) => Ok(lines_at(alloc, &numbers, &replies)?),
         Err(LoneFault::NotUnshared) => Err(Fault::Key(KeyFault::NotUnshared)),
@@ -157,18 +152,18 @@ fn lines_alone(
     alloc: Global,
     limit: u32,
     key: &Key,
-    calls: &[ClientCall],
+    items: Vec<Item>,
     replies: &[Reply],
 ) -> Result<String, Fault>
     requires limit { IsLimit limit }
-    requires isolated { AreIsolated (new_core 1 limit) calls.now replies.now }
-    ensures ok { IfOk result (λ lines. (string_bytes lines ≡ spec.lines_alone limit key.now calls.now replies.now)
-        × (spec.is_unshared_in limit key.now calls.now replies.now ≡ true)
-        × spec.IsOfRun limit key.now calls.now replies.now (string_bytes lines)) }
-    ensures err { IfErr result (spec.RefusesKey limit key.now calls.now replies.now) }
+    requires isolated { AreIsolated (new_core 1 limit) (calls_of items.items) replies.now }
+    ensures ok { IfOk result (λ lines. (string_bytes lines ≡ spec.lines_alone limit key.now items.items replies.now)
+        × (spec.is_unshared_in limit key.now (calls_of items.items) replies.now ≡ true)
+        × spec.IsOfRun limit key.now items.items replies.now (string_bytes lines)) }
+    ensures err { IfErr result (spec.RefusesKey limit key.now (calls_of items.items) replies.now) }
 {
     let opening = new_core(alloc, limit);
-    lines_from(alloc, &opening, key, calls, replies)
+    lines_from(alloc, &opening, key, items, replies)
 }
 
 /// The lines of the subscription of the key that the text spells, over a run of the scenario that the
@@ -182,19 +177,19 @@ fn told<R: Read>(alloc: Global, source: &mut Source<R>, key: &str) -> Result<Pri
     let key = key_of(alloc, key)?;
     let limit = held_limit(None, scenario.held);
     Ok(Printout {
-        text: lines_alone(alloc, limit, &key, scenario.calls.as_slice(), &replies)?,
+        text: lines_alone(alloc, limit, &key, scenario.items.into_inner(), &replies)?,
         status: status_of(&replies),
     })
 }
 
 /// Reads a scenario, in at most 16,777,217 reads, and makes its calls on a new provider, then reads the key of a
 /// subscription, a consumer's own or a durable one, and prints what this subscription answers alone: a line for each
-/// reply, with the number of its call. By the law of isolation these are the replies that the run gave to the key's calls,
-/// where the numbers of its consumers name nothing else. Alone, it is fed with the calls of its own sessions, with the accepted calls of their
-/// connections, and with the committed messages that it accepts. Its own sessions are the consumer's; of a durable one
-/// those that ask for it, or for its end, with its client identifier. A subscription that is not durable holds at most
-/// as many rows as the scenario says, in the run and alone; where it says none, 100,000. The exit status is that of
-/// the run.
+/// reply, with the number of its call, where forks and joins count too. By the law of isolation these are the replies that
+/// the run gave to the key's calls, where the numbers of its consumers name nothing else. Alone, it is fed with the calls of
+/// its own sessions, with the accepted calls of their connections, and with the committed messages that it accepts. Its own
+/// sessions are the consumer's; of a durable one those that ask for it, or for its end, with its client identifier. A
+/// subscription that is not durable holds at most as many rows as the scenario says, in the run and alone; where it says none,
+/// 100,000. The exit status is that of the run.
 ///
 /// The fault of a scenario is told before any of the key, which is judged over the whole run: a consumer's own is not
 /// unshared where a creating call, accepted or not, names its number for anything else, nor is a durable one that a

@@ -3,8 +3,6 @@ use Rattle.std.proofs.Common.{◌≡◌, ℕ, ◌<◌, ◌+◌, suc, List, [], �
 use Rattle.serde_json.specs.Data.{Data, Items, item}
 use Rattle.serde_json.specs.View.{view, items_view}
 use Rattle.serde_json.specs.declared.value.Value.{Value}
-use Rattle.jm_machine.specs.declared.call.ClientCall.{ClientCall}
-use Rattle.jm_scenario.specs.Calls.{call_of, calls_of_items}
 use Rattle.jm_base.specs.declared.refusal.MessageFault.TheVariants.{BadName, Memory}
 use Rattle.jm_header.specs.declared.content.Settings.{Settings}
 use Rattle.jm_scenario.specs.Reading.{where_true}
@@ -36,19 +34,3 @@ pub items_view-drop : (values : List Value) (index : ℕ) (value : Value) → in
     → items_view (drop index values) ≡ item (view value) (items_view (drop (index + 1) values))
 items_view-drop values index value within e =
     rw add-one (ap items_view (drop-cons values index value within) ∙ ap (λ v. item (view v) (items_view (drop (suc index) values))) (sym e))
-
--- what stands before a list of calls
-abbrev pub after : List ClientCall → Option (List ClientCall) → Option (List ClientCall)
-after done rest = option_map (λ calls. done ++ calls) rest
-
-after-append : (done : List ClientCall) (call : ClientCall) (rest : Option (List ClientCall)) → after done (option_map (λ calls. call ∷ calls) rest) ≡ after (done ++ call ∷ []) rest
-after-append done call None = refl
-after-append done call (Some calls) = ap Some (sym (append_assoc done (call ∷ []) calls))
-
--- one more call is read
-pub after-item : (done : List ClientCall) (value : Data) (items : Items) (call : ClientCall) → call_of value ≡ Some call → after done (calls_of_items (item value items)) ≡ after (done ++ call ∷ []) (calls_of_items items)
-after-item done value items call reads = rw reads (after-append done call (calls_of_items items))
-
--- a call that is not spelled
-pub after-none : (done : List ClientCall) (value : Data) (items : Items) → call_of value ≡ None → after done (calls_of_items (item value items)) ≡ None
-after-none done value items none = rw none refl

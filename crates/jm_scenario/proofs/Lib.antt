@@ -1,2 +1,4 @@
 pub mod Items
 pub mod Keys
+pub mod Operations
+pub mod Places

@@ -1,5 +1,6 @@
--- The calls that a scenario spells, and its limit of held rows (ours).
-use Rattle.std.specs.Prelude.{ℕ, Bool, List, [], ◌∷◌, Option, Some, None, option_map, option_and_then, codes}
+-- The calls that a scenario spells, where it forks and joins, and its limit of held rows (ours).
+use Rattle.std.specs.Prelude.{◌≡◌, ℕ, Bool, List, [], ◌∷◌, Option, Some, None, option_map, option_and_then, if◌then◌else◌, codes}
+use Rattle.std.specs.Str.{bytes_eq}
 use Rattle.serde_json.specs.Data.{Data, Items, no_items, item}
 use Rattle.serde_json.specs.Find.{get, as_bool, as_str, as_array}
 use Rattle.serde_json.specs.Read.{read}
@@ -11,10 +12,13 @@ use Rattle.jm_machine.specs.declared.call.ClientCall.{ClientCall}
 use Rattle.jm_machine.specs.declared.call.ClientCall.TheVariants as call
 use Rattle.jm_scenario.specs.Drafts.{draft}
 use Rattle.jm_scenario.specs.Fields.{operation_named, is_known}
+use Rattle.jm_scenario.specs.Items.{AreWellForked, is_in_place}
 use Rattle.jm_scenario.specs.Reading.{where_true}
 use Rattle.jm_scenario.specs.Values.{number, limit, session, mode, name, moment, required, optional, destination, no_local}
 use Rattle.jm_scenario.specs.declared.field.Owner.{Owner}
-use Rattle.jm_scenario.specs.declared.field.Owner.TheVariants.{Scenario as Outer, Open, Start, Stop, CloseConnection, Session, CloseSession, Acknowledge, Recover, Commit, Rollback, Consumer, Durable, Shared, SharedDurable, CloseConsumer, Missed, Unsubscribe, Listener, Send, Receive, Take, Done}
+use Rattle.jm_scenario.specs.declared.field.Owner.TheVariants.{Scenario as Outer, Open, Start, Stop, CloseConnection, Session, CloseSession, Acknowledge, Recover, Commit, Rollback, Consumer, Durable, Shared, SharedDurable, CloseConsumer, Missed, Unsubscribe, Listener, Send, Receive, Take, Done, ForkOrJoin}
+use Rattle.jm_scenario.specs.declared.item.Item.{Item}
+use Rattle.jm_scenario.specs.declared.item.Item.TheVariants.{Call, Fork, Join}
 use Rattle.jm_scenario.specs.declared.scenario.Scenario.{Scenario}
 
 -- a call by the connection of the record
@@ -117,6 +121,7 @@ call_as Send value = send_call value
 call_as Receive value = receive_call request.Receive value
 call_as Take value = receive_call request.Take value
 call_as Done value = mark_call request.Done (codes "ok") value
+call_as ForkOrJoin value = None
 
 -- the operation of a record
 abbrev pub operation : Data → Option Owner
@@ -126,18 +131,69 @@ operation value = option_and_then operation_named (option_and_then as_str (get (
 abbrev pub call_of : Data → Option ClientCall
 call_of value = option_and_then (λ owner. where_true (is_known owner value) (call_as owner value)) (operation value)
 
--- the calls that the values of an array spell, in order
-abbrev pub calls_of_items : Items → Option (List ClientCall)
-calls_of_items no_items = Some []
-calls_of_items (item value items) = option_and_then (λ first. option_map (λ rest. first ∷ rest) (calls_of_items items)) (call_of value)
+-- the fork or join of that operation
+abbrev pub fork_or_join_named : List ℕ → Option Item
+fork_or_join_named text =
+    if bytes_eq text (codes "fork") then Some Fork else
+    (if bytes_eq text (codes "join") then Some Join else None)
 
--- the scenario that a value spells: the calls of its array `calls`, with the limit of the field `held` where it
--- stands, and no other field
+-- the fork or join of a record's operation
+abbrev pub fork_or_join : Data → Option Item
+fork_or_join value = option_and_then fork_or_join_named (option_and_then as_str (get (codes "op") value))
+
+-- a fork or join, which has no other fields; or a call
+abbrev pub item_as : Option Item → Data → Option Item
+item_as (Some one) value = where_true (is_known ForkOrJoin value) (Some one)
+item_as None value = option_map Call (call_of value)
+
+-- the item that a value spells
+abbrev pub item_of : Data → Option Item
+item_of value = item_as (fork_or_join value) value
+
+-- an item that is spelled, where it has its place: where a fork is open, or where none is
+abbrev pub where_in_place : Bool → Option Item → Option Item
+where_in_place is_forked spelled = option_and_then (λ one. where_true (is_in_place is_forked one) (Some one)) spelled
+
+-- a call that is spelled, where it has its place
+abbrev pub call_in_place : Bool → Option ClientCall → Option ClientCall
+call_in_place is_forked spelled = option_and_then (λ one. where_true (is_in_place is_forked (Call one)) (Some one)) spelled
+
+-- the items that the values of an array spell, in order
+abbrev pub items_of : Items → Option (List Item)
+items_of no_items = Some []
+items_of (item value values) = option_and_then (λ first. option_map (λ rest. first ∷ rest) (items_of values)) (item_of value)
+
+-- the scenario that a value spells, whatever the places of its items: the items of its array `calls`, with the limit of the
+-- field `held` where it stands, and no other field
 abbrev pub scenario : Data → Option Scenario
-scenario value = option_and_then (λ items. option_and_then (λ held. where_true (is_known Outer value)
-    (option_map (λ calls. record { held = held; calls = calls }) (calls_of_items items)))
+scenario value = option_and_then (λ values. option_and_then (λ held. where_true (is_known Outer value)
+    (option_map (λ items. record { held = held; items = items }) (items_of values)))
     (optional limit (codes "held") value)) (option_and_then as_array (get (codes "calls") value))
 
--- the scenario that a JSON text spells
+-- the same of a JSON text
 abbrev pub scenario_of_text : List ℕ → Option Scenario
 scenario_of_text text = option_and_then scenario (read text)
+
+-- those items are spelled, and have their places
+abbrev pub AreSpelled : Option (List Item) → List Item → Type 0
+AreSpelled spelled items = (spelled ≡ Some items) × AreWellForked items
+
+-- no items are spelled that have their places
+abbrev pub AreNoneSpelled : Option (List Item) → Type 0
+AreNoneSpelled spelled = (items : List Item) → AreSpelled spelled items → ⊥
+
+-- that scenario is spelled, and its forks, joins and calls have their places
+abbrev pub IsSpelled : Option Scenario → Scenario → Type 0
+IsSpelled spelled one = (spelled ≡ Some one) × AreWellForked one.items
+
+-- no scenario is spelled whose forks, joins and calls have their places
+abbrev pub IsNoneSpelled : Option Scenario → Type 0
+IsNoneSpelled spelled = (one : Scenario) → IsSpelled spelled one → ⊥
+
+-- a JSON text spells that scenario
+abbrev pub Spells : List ℕ → Scenario → Type 0
+Spells text one = IsSpelled (scenario_of_text text) one
+
+-- a JSON text spells no scenario
+abbrev pub SpellsNone : List ℕ → Type 0
+SpellsNone text = IsNoneSpelled (scenario_of_text text)

@@ -1,5 +1,5 @@
 -- The names of fields and operations (ours).
-use Rattle.std.specs.Prelude.{ℕ, ◌&&◌, ◌||◌, Bool, true, List, Option, Some, None, if◌then◌else◌, codes}
+use Rattle.std.specs.Prelude.{ℕ, ◌&&◌, ◌||◌, not, Bool, true, List, Option, Some, None, if◌then◌else◌, codes}
 use Rattle.std.specs.Option.{option_map_or}
 use Rattle.std.specs.Str.{bytes_eq}
 use Rattle.serde_json.specs.Data.{Data, Members, no_members, member}
@@ -9,7 +9,7 @@ use Rattle.jm_scenario.specs.declared.field.Field.TheVariants as field
 use Rattle.jm_scenario.specs.declared.field.FieldName.{FieldName}
 use Rattle.jm_scenario.specs.declared.field.FieldName.TheVariants.{Known, Unknown}
 use Rattle.jm_scenario.specs.declared.field.Owner.{Owner}
-use Rattle.jm_scenario.specs.declared.field.Owner.TheVariants.{Scenario, Open, Start, Stop, CloseConnection, Session, CloseSession, Acknowledge, Recover, Commit, Rollback, Consumer, Durable, Shared, SharedDurable, CloseConsumer, Missed, Unsubscribe, Listener, Send, Receive, Take, Done}
+use Rattle.jm_scenario.specs.declared.field.Owner.TheVariants.{Scenario, Open, Start, Stop, CloseConnection, Session, CloseSession, Acknowledge, Recover, Commit, Rollback, Consumer, Durable, Shared, SharedDurable, CloseConsumer, Missed, Unsubscribe, Listener, Send, Receive, Take, Done, ForkOrJoin}
 
 -- the name of a field
 abbrev pub field_name : Field → List ℕ
@@ -106,6 +106,12 @@ has Send name = bytes_eq name (codes "op") || bytes_eq name (codes "s") || bytes
 has Receive name = bytes_eq name (codes "op") || bytes_eq name (codes "s") || bytes_eq name (codes "k") || bytes_eq name (codes "now")
 has Take name = bytes_eq name (codes "op") || bytes_eq name (codes "s") || bytes_eq name (codes "k") || bytes_eq name (codes "now")
 has Done name = bytes_eq name (codes "op") || bytes_eq name (codes "s") || bytes_eq name (codes "k") || bytes_eq name (codes "ok")
+has ForkOrJoin name = bytes_eq name (codes "op")
+
+-- a call of that operation has its place where a fork is open, or where none is: where one is open, those have that have a
+-- field `s`
+abbrev pub is_operation_in_place : Bool → Owner → Bool
+is_operation_in_place is_forked owner = not is_forked || has owner (codes "s")
 
 -- each member has a name that its owner has
 abbrev pub has_each : Owner → Members → Bool

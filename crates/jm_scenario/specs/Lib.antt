@@ -4,5 +4,6 @@ pub mod Fields
 pub mod Faults
 pub mod Values
 pub mod Drafts
+pub mod Items
 pub mod Calls
 pub mod Key

@@ -1,7 +1,8 @@
 ghost use Rattle.std.specs.Prelude.{◌≡◌, codes};
 ghost use Rattle.serde_json.specs.View.{view};
 ghost use Rattle.jm_scenario.specs.Calls as spec;
-ghost use Rattle.jm_scenario.specs.Reading.{Reads, ReadsExactly};
+ghost use Rattle.jm_scenario.specs.Fields.{is_known};
+ghost use Rattle.jm_scenario.specs.Reading.{Reads, ReadsExactly, where_true};
 
 use crate::draft::draft;
 use crate::field::{Field, Owner, not_known, unknown};
@@ -231,7 +232,7 @@ fn call_as(alloc: Global, object: &Value, operation: Owner) -> Result<ClientCall
     ensures { Reads result (spec.call_as operation (view object.now)) }
 {
     match operation {
-        Owner::Scenario => Err(Misfit::Shape(Field::Operation)),
+        Owner::Scenario | Owner::ForkOrJoin => Err(Misfit::Shape(Field::Operation)),
         Owner::Open => open(alloc, object),
         Owner::Start => by_connection(object, Request::Start),
         Owner::Stop => by_connection(object, Request::Stop),
@@ -257,14 +258,27 @@ fn call_as(alloc: Global, object: &Value, operation: Owner) -> Result<ClientCall
     }
 }
 
-/// The call that the object spells.
-pub(crate) fn call(alloc: Global, object: &Value) -> Result<ClientCall, Misfit>
-    ensures { Reads result (spec.call_of (view object.now)) }
+/// The call that the object spells by that operation, which has no other fields than the operation has. `Memory` where a
+/// request for memory was refused.
+fn whole_call(alloc: Global, object: &Value, operation: Owner) -> Result<ClientCall, Misfit>
+    ensures { Reads result (where_true (is_known operation (view object.now)) (spec.call_as operation (view object.now))) }
 {
-    let operation = operation(object)?;
     let call = Held::new(call_as(alloc, object, operation)?);
     match unknown(object, operation) {
         Some(name) => Err(not_known(alloc, name)),
         None => Ok(call.into_value()),
     }
+}
+
+/// The call that the object spells, where it has its place: where a fork is open, only a call by a session has. That it has
+/// none is told at its operation, before its other fields are read. `Memory` where a request for memory was refused.
+#[tactic(auto, using(crate::proofs::Operations::call_goes))]
+pub(crate) fn call(alloc: Global, object: &Value, is_forked: bool) -> Result<ClientCall, Misfit>
+    ensures { Reads result (spec.call_in_place is_forked (spec.call_of (view object.now))) }
+{
+    let operation = operation(object)?;
+    if !operation.is_in_place(is_forked) {
+        return Err(Misfit::Shape(Field::Operation));
+    }
+    whole_call(alloc, object, operation)
 }

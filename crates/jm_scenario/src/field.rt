@@ -11,11 +11,11 @@ use std::fmt;
 /// A field of a scenario, or of one of its calls.
 #[derive(Clone, Copy, Debug, PartialEq, Eq)]
 pub enum Field {
-    /// The calls of the scenario, in order.
+    /// The calls of the scenario, in order, with its forks and joins.
     Calls,
     /// How many rows a subscription that is not durable may hold.
     Held,
-    /// Which call it is.
+    /// Which call it is, or that it is a fork or a join.
     Operation,
     /// The number of the connection that is opened, started, stopped or closed.
     Connection,
@@ -73,7 +73,7 @@ pub enum FieldName {
     Unknown(Str),
 }
 
-/// What has fields: a scenario, or a call by its operation.
+/// What has fields: a scenario, or a call by its operation, or a fork or a join.
 #[derive(Clone, Copy, Debug, PartialEq, Eq)]
 pub(crate) enum Owner {
     Scenario,
@@ -99,6 +99,7 @@ pub(crate) enum Owner {
     Receive,
     Take,
     Done,
+    ForkOrJoin,
 }
 
 impl Field {
@@ -193,6 +194,14 @@ impl Owner {
         }
     }
 
+    /// Whether a call of that operation has its place where a fork is open, or where none is: where one is open, those have
+    /// that have a session.
+    pub(crate) fn is_in_place(self, is_forked: bool) -> bool
+        ensures { result ≡ spec.is_operation_in_place is_forked self }
+    {
+        !is_forked || self.has(Field::Session.name())
+    }
+
     /// Whether it has a field of that name.
     fn has(self, name: &str) -> bool
         ensures { result ≡ spec.has self name.now }
@@ -229,6 +238,7 @@ impl Owner {
             }
             Owner::Receive | Owner::Take => matches!(name, "op" | "s" | "k" | "now"),
             Owner::Done => matches!(name, "op" | "s" | "k" | "ok"),
+            Owner::ForkOrJoin => matches!(name, "op"),
         }
     }
 }

@@ -1,13 +1,12 @@
-ghost use Rattle.std.specs.Prelude.{◌≡◌, ◌≢◌, ◌↔◌, Some, None, MatchResult, IfOk, IfErr, IsUtf8};
+ghost use Rattle.std.specs.Prelude.{◌≡◌, ◌≢◌, ◌↔◌, MatchResult, IfOk, IfErr, IsUtf8};
 ghost use Rattle.serde_json.specs.View.{view, items_view};
 ghost use Rattle.jm_scenario.specs.Calls as spec;
 
-use crate::call::call;
 use crate::field::{Field, FieldName, Owner, not_known, unknown};
+use crate::item::{Item, item_in_place};
 use crate::misfit::Misfit;
 use crate::value::held;
 use jm_base::List;
-use jm_machine::ClientCall;
 use serde_json::{Category, Value};
 use std::alloc::{AllocError, AllocFailed, Global};
 use std::fmt;
@@ -18,11 +17,11 @@ use thiserror::Error;
 pub struct Scenario {
     /// How many rows a subscription that is not durable may hold, where the scenario says it: 1 to 1,000,000.
     pub held: Option<u32>,
-    /// The calls, in order.
-    pub calls: List<ClientCall>,
+    /// The items, in order: fork and join alternate, beginning with a fork, and between them stand calls by sessions alone.
+    pub items: List<Item>,
 }
 
-/// Why bytes are no scenario (ours). Steps are the numbers of calls, from 1; step 0 is the outer
+/// Why bytes are no scenario (ours). Steps are the numbers of items, from 1; step 0 is the outer
 /// object.
 #[derive(Debug, PartialEq, Drop, Error)]
 pub enum ScenarioFault {
@@ -95,25 +94,32 @@ fn fault_at(step: usize, misfit: Misfit) -> ScenarioFault
     }
 }
 
-/// The calls of the records, in order; or the fault of the first record that has one.
-fn calls(alloc: Global, records: &[Value]) -> Result<Vec<ClientCall>, ScenarioFault>
-    ensures { MatchResult result (λ calls. spec.calls_of_items (items_view records.now) ≡ Some calls.items)
-        (λ fault. fault ≢ ScenarioFault.Memory → spec.calls_of_items (items_view records.now) ≡ None) }
+/// The items of the records, in order; or the fault of the first record that has one. One that has not its place behind the
+/// others is told at its operation.
+#[tactic(auto, using(crate::proofs::Places::read_begin))]
+fn items(alloc: Global, records: &[Value]) -> Result<Vec<Item>, ScenarioFault>
+    ensures { MatchResult result (λ items. spec.AreSpelled (spec.items_of (items_view records.now)) items.items)
+        (λ fault. fault ≢ ScenarioFault.Memory → spec.AreNoneSpelled (spec.items_of (items_view records.now))) }
 {
-    let mut calls = Vec::with_capacity(alloc, records.len())?;
+    let mut items = Vec::with_capacity(alloc, records.len())?;
+    let mut is_forked = false;
     for (index, record) in records.iter().enumerate() {
-        match call(alloc, record) {
-            Ok(call) => calls.push(call)?,
+        match item_in_place(alloc, record, is_forked) {
+            Ok(item) => {
+                is_forked = item.is_forked_behind(is_forked);
+                items.push(item)?;
+            }
             Err(misfit) => return Err(fault_at(index + 1, misfit)),
         }
     }
-    Ok(calls)
+    Ok(items)
 }
 
 /// The scenario that the value spells.
+#[tactic(auto, using(crate::proofs::Places::none_spelled, crate::proofs::Places::scenario_spelled, crate::proofs::Places::scenario_unspelled))]
 fn scenario_of(alloc: Global, value: &Value) -> Result<Scenario, ScenarioFault>
-    ensures { MatchResult result (λ scenario. spec.scenario (view value.now) ≡ Some scenario)
-        (λ fault. fault ≢ ScenarioFault.Memory → spec.scenario (view value.now) ≡ None) }
+    ensures { MatchResult result (spec.IsSpelled (spec.scenario (view value.now)))
+        (λ fault. fault ≢ ScenarioFault.Memory → spec.IsNoneSpelled (spec.scenario (view value.now))) }
 {
     let Some(records) = value.get("calls").and_then(Value::as_array) else {
         return Err(fault_at(0, Misfit::Shape(Field::Calls)));
@@ -125,16 +131,18 @@ fn scenario_of(alloc: Global, value: &Value) -> Result<Scenario, ScenarioFault>
     if let Some(name) = unknown(value, Owner::Scenario) {
         return Err(fault_at(0, not_known(alloc, name)));
     }
-    let calls = List::new(calls(alloc, records)?);
-    Ok(Scenario { held, calls })
+    let items = List::new(items(alloc, records)?);
+    Ok(Scenario { held, items })
 }
 
-/// The scenario that the bytes spell. `Syntax` where the bytes are no JSON; else the first fault of
-/// the outer object, else of the first call that has one, in the order of its fields; or `Memory`
-/// where a request for memory was refused.
+/// The scenario that the bytes spell. `Syntax` where the bytes are no JSON; else the first fault of the outer object, else of
+/// the first item that has one, in the order of its fields; or `Memory` where a request for memory was refused. The fault of
+/// a fork, a join or a call that has not its place is that of its field `op`: a fork where one is open, a join where none is,
+/// a call by a connection where a fork is open.
+#[tactic(auto, using(crate::proofs::Places::text_spells, crate::proofs::Places::text_is_none))]
 pub fn read_scenario(alloc: Global, bytes: &[u8]) -> Result<Scenario, ScenarioFault>
-    ensures ok { IfOk result (λ scenario. IsUtf8 bytes.now × (spec.scenario_of_text bytes.now ≡ Some scenario)) }
-    ensures err { IfErr result (λ fault. fault ≢ ScenarioFault.Memory → IsUtf8 bytes.now → spec.scenario_of_text bytes.now ≡ None) }
+    ensures ok { IfOk result (λ scenario. IsUtf8 bytes.now × spec.Spells bytes.now scenario) }
+    ensures err { IfErr result (λ fault. fault ≢ ScenarioFault.Memory → IsUtf8 bytes.now → spec.SpellsNone bytes.now) }
 {
     match Value::from_slice(alloc, bytes) {
         Ok(value) => scenario_of(alloc, &value),

@@ -3,7 +3,7 @@
 use crate::told::is_text;
 use jm_base::{Cause, Refusal};
 use jm_machine::Answer;
-use jm_scenario::{write_replies, write_reply};
+use jm_scenario::{ItemKind, replies_in_place, write_replies, write_reply};
 use std::alloc::{AllocError, Global};
 
 const SELECTOR: Refusal = Refusal::InvalidSelector {
@@ -58,4 +58,29 @@ fn lines_are_numbered(rt: HostRuntime) {
     let wanted =
         "1 ok\n2 none\n3 sent 9223372036854775807\n4 missed 0\n5 missed 18446744073709551615\n";
     is_text(&rt, wanted, lines_of_answers(rt.alloc()));
+}
+
+/// The lines of two forks and a join with two calls between them, of which the second has no reply.
+fn lines_of_items(alloc: Global) -> Result<String, AllocError> {
+    let mut replies = Vec::new(alloc);
+    replies.push(Ok(Answer::Sent(1)))?;
+    let replies = replies_in_place(alloc, &KINDS, replies)?;
+    write_replies(alloc, &replies)
+}
+
+static KINDS: [ItemKind; 5] = [
+    ItemKind::Fork,
+    ItemKind::Call,
+    ItemKind::Join,
+    ItemKind::Fork,
+    ItemKind::Call,
+];
+
+#[test]
+fn forks_and_joins_are_answered_done(rt: HostRuntime) {
+    is_text(
+        &rt,
+        "1 ok\n2 sent 1\n3 ok\n4 ok\n",
+        lines_of_items(rt.alloc()),
+    );
 }

@@ -7,7 +7,7 @@ use jm_dest::{
 };
 use jm_header::Draft;
 use jm_machine::{ClientCall, Request, Who};
-use jm_scenario::{Field, read_scenario};
+use jm_scenario::{Field, Item, ItemKind, copy_calls, into_calls, item_kinds, read_scenario};
 use std::alloc::{AllocError, Global};
 
 const CALLS: &str = r#"{"calls": [
@@ -236,21 +236,75 @@ fn is_wanted(alloc: Global, index: usize, call: &ClientCall) -> bool {
     }
 }
 
+/// Whether the item is the call that is wanted.
+fn is_wanted_call(alloc: Global, index: usize, item: &Item) -> bool {
+    match item {
+        Item::Call(call) => is_wanted(alloc, index, call),
+        Item::Fork | Item::Join => false,
+    }
+}
+
 /// How many calls of the scenario there are, each as it is wanted.
 fn count(alloc: Global) -> Option<usize> {
     let scenario = read_scenario(alloc, CALLS.as_bytes()).ok()?;
-    let calls = scenario.calls.into_inner();
-    for (index, call) in calls.iter().enumerate() {
-        if !is_wanted(alloc, index, call) {
+    let items = scenario.items.into_inner();
+    for (index, item) in items.iter().enumerate() {
+        if !is_wanted_call(alloc, index, item) {
             return None;
         }
     }
-    Some(calls.len())
+    Some(items.len())
 }
 
 #[test]
 fn calls_of_a_scenario(rt: HostRuntime) {
     holds(&rt, "calls", count(rt.alloc()) == Some(27));
+}
+
+const FORKED: &str = r#"{"calls": [
+  {"op": "open", "c": 1},
+  {"op": "fork"},
+  {"op": "session", "s": [1, 2], "mode": "auto"},
+  {"op": "join"},
+  {"op": "start", "c": 1},
+  {"op": "fork"}
+]}"#;
+
+/// The kinds of its items.
+static KINDS: [ItemKind; 6] = [
+    ItemKind::Call,
+    ItemKind::Fork,
+    ItemKind::Call,
+    ItemKind::Join,
+    ItemKind::Call,
+    ItemKind::Fork,
+];
+
+fn kinds(alloc: Global, text: &str) -> Option<Vec<ItemKind>> {
+    let scenario = read_scenario(alloc, text.as_bytes()).ok()?;
+    item_kinds(alloc, scenario.items.as_slice()).ok()
+}
+
+/// Whether the scenario's items are of the kinds that are wanted.
+fn has_kinds(alloc: Global) -> bool {
+    match kinds(alloc, FORKED) {
+        Some(kinds) => kinds.as_slice() == &KINDS[..],
+        None => false,
+    }
+}
+
+/// How many calls stand among its items, copied and moved out.
+fn calls_among(alloc: Global) -> Option<(usize, usize)> {
+    let scenario = read_scenario(alloc, FORKED.as_bytes()).ok()?;
+    let copied = copy_calls(alloc, scenario.items.as_slice()).ok()?.len();
+    let moved = into_calls(alloc, scenario.items.into_inner()).ok()?.len();
+    Some((copied, moved))
+}
+
+#[test]
+fn forks_and_joins_of_a_scenario(rt: HostRuntime) {
+    holds(&rt, "kinds", has_kinds(rt.alloc()));
+    holds(&rt, "calls", calls_among(rt.alloc()) == Some((3, 3)));
 }
 
 /// Scenarios and the limits of held rows that they say.
@@ -283,7 +337,7 @@ fn fault_text(alloc: Global, bytes: &[u8]) -> Result<String, AllocError> {
 }
 
 /// Bytes, and their fault.
-static FAULTS: [(&[u8], &str); 21] = [
+static FAULTS: [(&[u8], &str); 26] = [
     (b"\xff", "Syntax"),
     (b"{}", "Shape { step: 0, field: Known(Calls) }"),
     (
@@ -302,6 +356,26 @@ static FAULTS: [(&[u8], &str); 21] = [
     (
         b"{\"calls\":[{\"op\":\"close\",\"c\":1}]}",
         "Shape { step: 1, field: Known(Operation) }",
+    ),
+    (
+        b"{\"calls\":[{\"op\":\"join\"}]}",
+        "Shape { step: 1, field: Known(Operation) }",
+    ),
+    (
+        b"{\"calls\":[{\"op\":\"fork\"},{\"op\":\"fork\",\"c\":1}]}",
+        "Shape { step: 2, field: Known(Operation) }",
+    ),
+    (
+        b"{\"calls\":[{\"op\":\"fork\"},{\"op\":\"start\",\"c\":1.5}]}",
+        "Shape { step: 2, field: Known(Operation) }",
+    ),
+    (
+        b"{\"calls\":[{\"op\":\"fork\"},{\"op\":\"commit\",\"s\":[1,1.5]}]}",
+        "Floating { step: 2 }",
+    ),
+    (
+        b"{\"calls\":[{\"op\":\"fork\",\"c\":1}]}",
+        "Shape { step: 1, field: Unknown(\"c\") }",
     ),
     (
         b"{\"calls\":[{\"op\":\"recover\",\"s\":[1,1],\"k\":1}]}",
