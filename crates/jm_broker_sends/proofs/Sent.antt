@@ -24,6 +24,7 @@ use Rattle.jm_machine.specs.contracts.entry.Event as Event
 use Rattle.jm_core.specs.contracts.provider.Core as Core
 use Rattle.jm_core.specs.contracts.plan.Plan as Plan
 use Rattle.jm_keep.specs.contracts.keep.NoKeep as NoKeep
+use Rattle.jm_keep.specs.declared.keep.Keep as Keep
 use Rattle.jm_keep.specs.contracts.keep.NoKeepKeep.TheImpl as kept
 use Rattle.jm_broker.specs.contracts.provider.CorePlannedCore.TheImpl as planned
 use Rattle.jm_broker.specs.contracts.broker.Broker as Broker
@@ -84,8 +85,16 @@ module _ (L : RattleType) (g : Ghosts L.Denot) where
   pub Pass_send : IsSend (Pass.the_row L g)
   Pass_send = search (sendable, crosses, PassEntry_field, share.the_send) depth 60 fits 20000
 
-  pub Traced_send : IsSend (Traced.the_row Core.the_row NoKeep.the_row L Plan.the_row planned.ghosts kept.ghosts g)
-  Traced_send = search (sendable, crosses, Core_send, NoKeep_send, Event_field, book.the_send, share.the_send) depth 60 fits 20000
+pub Traced_send : (K L : RattleType) (k : Keep.Ghosts K.Denot) (g : Ghosts L.Denot) → IsSend K →
+    IsSend (Traced.the_row Core.the_row K L Plan.the_row planned.ghosts k g)
+Traced_send K L k g s = search (sendable, crosses, Core_send, Event_field, book.the_send, share.the_send) depth 60 fits 20000
 
-  pub Broker_sync : IsSync (Broker.the_row Core.the_row NoKeep.the_row L Plan.the_row planned.ghosts kept.ghosts g)
-  Broker_sync = search (sendable, crosses, Traced_send) depth 60 fits 20000
+-- threads may share the lock over a core, where its keeper may cross
+pub Kept_sync : (K L : RattleType) (k : Keep.Ghosts K.Denot) (g : Ghosts L.Denot) → IsSend K →
+    IsSync (Broker.the_row Core.the_row K L Plan.the_row planned.ghosts k g)
+Kept_sync K L k g s = search (sendable, crosses, Traced_send) depth 60 fits 20000
+
+-- and the one over a core that keeps nothing
+pub Broker_sync : (L : RattleType) (g : Ghosts L.Denot) →
+    IsSync (Broker.the_row Core.the_row NoKeep.the_row L Plan.the_row planned.ghosts kept.ghosts g)
+Broker_sync L g = Kept_sync NoKeep.the_row L kept.ghosts g NoKeep_send

@@ -1,4 +1,4 @@
-//! That one lock may be shared by threads, since it owns all that it holds: `Broker_sync` of `proofs/Sent.antt`, which whoever
+//! That one lock may be shared by threads, since it owns all that it holds: `Kept_sync` of `proofs/Sent.antt`, which whoever
 //! starts threads cites. A search for it finds no end.
 #![tactic(auto)]
 
@@ -6,7 +6,7 @@ ghost use Rattle.std.specs.Prelude.{◌≡◌};
 
 use jm_broker::Broker;
 use jm_core::Core;
-use jm_keep::NoKeep;
+use jm_keep::Keep;
 use std::sync::ledger::Ledger;
 
 /// The value itself, in whatever thread it is looked at.
@@ -16,8 +16,8 @@ fn looked_at<T: Sync>(value: &T) -> &T
     value
 }
 
-/// The lock itself: whoever has it may lend it to other threads.
-pub fn shared<L: Ledger>(lock: &Broker<Core, NoKeep, L>) -> &Broker<Core, NoKeep, L>
+/// The lock itself: whoever has it may lend it to other threads, where its keeper may be handed over.
+pub fn shared<K: Keep + Drop + Send, L: Ledger>(lock: &Broker<Core, K, L>) -> &Broker<Core, K, L>
     ensures { result.now ≡ lock.now }
 {
     looked_at(lock)

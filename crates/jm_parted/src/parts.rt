@@ -27,7 +27,8 @@ pub fn parted<T: Drop>(
     requires len { length owners.now ≡ vec_len items }
     requires owners { All (λ owner. owner < count) owners.now }
     ensures len { IfOk result (λ parts. vec_len parts ≡ count) }
-    ensures parts { IfOk result (λ parts. (k : ℕ) (d : _) → k < count → (slice_index_or parts.items k d).items ≡ of_owner k owners.now items.items) }
+    ensures parts { IfOk result (λ parts. (k : ℕ) (d : _) → k < count
+        → (slice_index_or parts.items k d).items ≡ of_owner k owners.now items.items) }
 {
     let mut parts = empty_parts(alloc, count)?;
     for (index, item) in items.into_iter().enumerate() {
@@ -39,8 +40,10 @@ pub fn parted<T: Drop>(
 /// The parts, each from its end to its beginning.
 fn reversed<T: Drop>(parts: &mut [Vec<T>])
     ensures len { length parts.new ≡ length parts.old }
-    ensures each { (k : ℕ) (d : _) → k < length parts.old → (slice_index_or parts.new k d).items ≡ reverse (slice_index_or parts.old k d).items }
-    ensures lens { (k : ℕ) (d : _) → k < length parts.old → vec_len (slice_index_or parts.new k d) ≡ vec_len (slice_index_or parts.old k d) }
+    ensures each { (k : ℕ) (d : _) → k < length parts.old
+        → (slice_index_or parts.new k d).items ≡ reverse (slice_index_or parts.old k d).items }
+    ensures lens { (k : ℕ) (d : _) → k < length parts.old
+        → vec_len (slice_index_or parts.new k d) ≡ vec_len (slice_index_or parts.old k d) }
 {
     for part in parts.iter_mut() {
         part.reverse();

@@ -14,7 +14,7 @@ use std::sync::Wait;
 use std::sync::ledger::{Blank, Ledger};
 use std::thread::{Threads, yield_now};
 use std::{mem, thread};
-use tests_alone::{is_alone, receiver_of, told};
+use told_alone::{is_alone, receiver_of, told};
 
 /// How many turns a thread makes in a round.
 const ROUND: u64 = 250;

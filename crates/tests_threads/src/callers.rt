@@ -11,8 +11,8 @@ use std::marker::Brand;
 use std::sync::Wait;
 use std::sync::ledger::{Blank, Ledger};
 use std::thread::{Threads, join};
-use tests_alone::{is_alone, receiver_of, told};
 use tests_calls::{At, Kind, Op};
+use told_alone::{is_alone, receiver_of, told};
 
 const Q: At = At::Queue("q");
 

@@ -1,7 +1,7 @@
-use denote.Exit.{yes}
-use denote.Param.Send.{arg_sync, param_sync}
-use Rattle.jm_broker_sends.proofs.Sent.{Broker_sync}
+use denote.Param.{param}
+use Rattle.jm_broker_sends.proofs.Sent.{Kept_sync}
 use Rattle.jm_broker_sends.proofs.shared.Goals as goal
 
 pub looked_at-requires-sync-T : goal.looked_at-requires-sync-T
-looked_at-requires-sync-T g c κs within = param_sync 0 _ (arg_sync _ yes _ (Broker_sync g.row.L g.L.Ledger))
+looked_at-requires-sync-T g c κs within =
+    record { shared = (Kept_sync (param 0 g.row.K) (param 1 g.row.L) g.K.Keep g.L.Ledger c.type_bounds.send-K).shared }

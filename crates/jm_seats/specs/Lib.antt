@@ -1,0 +1,4 @@
+pub mod Seat
+pub mod Seats
+pub mod Desks
+pub mod Faults
