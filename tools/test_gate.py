@@ -76,6 +76,11 @@ class Gate(unittest.TestCase):
         self.assertEqual((lines[-1], status), ("3 passed, 0 failed", 0))
         self.assertIn("gate: tools/kills: skipped, as there is no crates/jmsrun/out/jmsrun", lines)
 
+    def test_requests_for_memory_are_refused_with_the_runner(self) -> None:
+        lines, status = said(BUILDS, refused="print('one: request 3: status -6'); print('8 passed, 1 failed'); raise SystemExit(1)")
+        self.assertEqual((lines[-1], status), ("11 passed, 1 failed", 1))
+        self.assertIn("gate: failed: one: request 3: status -6", lines)
+
     def test_without_the_tool_nothing_is_killed(self) -> None:
         lines, status = said(BUILDS)
         self.assertEqual((lines[-1], status), ("3 passed, 0 failed", 0))

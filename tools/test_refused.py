@@ -1,0 +1,146 @@
+"""Tests of tools/refused, with programs that stand in for the runner: one that leaves all as it was, and some that do not."""
+from __future__ import annotations
+
+import contextlib
+import importlib.machinery
+import importlib.util
+import io
+import os
+import subprocess
+import sys
+import tempfile
+import unittest
+from typing import Any
+
+TOOL = f"{os.path.dirname(os.path.abspath(__file__))}/refused"
+# A runner with one queue, which makes a request before its first call, one for each call, and one for its lines; it refuses them
+# itself, as the library would. FAULT is run where a call is refused.
+PROGRAM = """
+import json, os, sys
+at, on, count = int(os.environ.get("REFUSED_AT", 0)), "REFUSED_ON" in os.environ, 0
+
+def refused():
+    global count
+    count += 1
+    if at and count == at:
+        open(os.environ["REFUSED_TO"], "w").close()
+    return at and (count == at or on and count > at)
+
+def memory():
+    print("memory", file=sys.stderr)
+    sys.exit(3)
+
+if refused():
+    memory()
+calls = json.load(open(sys.argv[2]))["calls"]
+db = sys.argv[4] if len(sys.argv) > 4 else None
+waiting = json.load(open(db)) if db and os.path.exists(db) else []
+numbers, lines, status = {}, [], 0
+for call in calls:
+    line = "ok"
+    publish = lambda: None
+    if call["op"] == "send":
+        session = tuple(call["s"])
+        numbers[session] = numbers.get(session, 0) + 1
+        line = f"sent {numbers[session]}"
+        publish = lambda: "queue" in call and waiting.append([*session, numbers[session]])
+    take = call["op"] == "receive" and bool(waiting)
+    if call["op"] == "receive":
+        line = f"message {waiting[0]}" if waiting else "none"
+    if refused():
+        line, status = "refused Memory", 3
+        FAULT
+    else:
+        publish()
+        waiting = waiting[1:] if take else waiting
+    lines.append(line)
+if refused():
+    memory()
+for number, line in enumerate(lines, 1):
+    print(number, line)
+if db:
+    json.dump(waiting, open(db, "w"))
+sys.exit(status)
+"""
+SEND = {"op": "send", "s": [1, 1], "queue": "q", "now": 0, "text": "a"}
+RECEIVE = {"op": "receive", "s": [2, 1], "k": 1, "now": 0}
+SCENARIO = {"calls": [{"op": "start", "c": 1}, SEND, SEND, RECEIVE, SEND, RECEIVE]}
+AFTER = {"calls": [RECEIVE, RECEIVE]}
+
+
+def load() -> Any:
+    """Returns the tool as a module, whose library is none."""
+    loader = importlib.machinery.SourceFileLoader("refused", TOOL)
+    made = importlib.util.module_from_spec(importlib.util.spec_from_loader("refused", loader))
+    sys.modules["refused"] = made
+    loader.exec_module(made)
+    made.library = lambda room: ""
+    return made
+
+
+class Refused(unittest.TestCase):
+    def told(self, fault: str) -> tuple[str, int]:
+        """Returns what the tool prints of a program with that fault, and its status."""
+        tool = load()
+        with tempfile.TemporaryDirectory() as room:
+            for name, scenario in (("one", SCENARIO), ("two", AFTER)):
+                with open(f"{room}/{name}.json", "w", encoding="utf-8") as it:
+                    tool.json.dump(scenario, it)
+            with open(f"{room}/program.py", "w", encoding="utf-8") as it:
+                it.write(PROGRAM.replace("FAULT", fault))
+            tool.SCENARIOS, tool.RUNS = room, [("one", None), ("one", "two")]
+            printed = io.StringIO()
+            with contextlib.redirect_stdout(printed):
+                status = tool.main([sys.executable, f"{room}/program.py"])
+        return printed.getvalue(), status
+
+    def test_all_is_left_as_it_was(self) -> None:
+        printed, status = self.told("pass")
+        # eight requests a run; each alone, and each with all behind it, of two runs
+        self.assertEqual(printed, "one: 8 requests\none: 8 requests\n32 passed, 0 failed\n")
+        self.assertEqual(status, 0)
+
+    def test_a_number_may_be_free_again(self) -> None:
+        printed, status = self.told("numbers.update({tuple(call['s']): numbers[tuple(call['s'])] - 1} if call['op'] == 'send' else {})")
+        self.assertEqual((printed.splitlines()[-1], status), ("32 passed, 0 failed", 0))
+
+    def test_what_was_refused_is_done(self) -> None:
+        for fault in ("publish()", "waiting = waiting[1:] if take else waiting"):
+            printed, status = self.told(fault)
+            self.assertIn("without what was refused", printed)
+            self.assertEqual(status, 1)
+
+    def test_another_answer(self) -> None:
+        self.assertEqual(self.told("line = 'none'")[1], 1)
+
+    def test_another_status(self) -> None:
+        self.assertEqual(self.told("status = 0")[1], 1)
+
+    def test_a_program_that_dies(self) -> None:
+        printed, status = self.told("os.abort()")
+        self.assertIn("status -6", printed)
+        self.assertEqual(status, 1)
+
+    def test_a_store_that_keeps_what_was_refused(self) -> None:
+        printed, status = self.told("db and call['op'] == 'receive' and waiting.append([9, 9, 9])")
+        self.assertIn("another run finds", printed)
+        self.assertEqual(status, 1)
+
+    def test_the_library_refuses_what_the_program_asks_for(self) -> None:
+        tool = load()
+        if tool.compiler() is None:
+            self.skipTest("there is no C compiler")
+        source = "#include <stdlib.h>\n#include <stdio.h>\nint main(void) { for (int i = 0; i < 4; i++) printf(\"%d\", malloc(8) != NULL); }"
+        with tempfile.TemporaryDirectory() as room:
+            subprocess.run([tool.compiler(), "-O0", "-x", "c", "-o", f"{room}/program", "-"], input=source, text=True, check=True)
+            words = [tool.compiler(), "-shared", "-fPIC", "-o", f"{room}/refused.so", f"{TOOL}.c"]
+            subprocess.run(words, check=True)
+            limits = {"LD_PRELOAD": f"{room}/refused.so", "REFUSED_AT": "3", "REFUSED_TO": f"{room}/told"}
+            run = lambda more: subprocess.run([f"{room}/program"], env={**os.environ, **limits, **more}, capture_output=True, text=True, check=True)
+            self.assertEqual(run({}).stdout, "1101")
+            self.assertTrue(os.path.exists(f"{room}/told"))
+            self.assertEqual(run({"REFUSED_ON": "1"}).stdout, "1100")
+
+
+if __name__ == "__main__":
+    unittest.main()
