@@ -204,6 +204,43 @@ impl<K: Keep + Drop> Provider<K> {
         Ok(())
     }
 
+    /// Closes the consumer of that number.
+    pub(crate) fn close(&mut self, consumer: u32) -> Result<(), Refusal> {
+        let consumer = ConsumerId::new(consumer)?;
+        self.ask(
+            Who::Session(self.receiver),
+            Request::CloseConsumer { consumer },
+        )?;
+        Ok(())
+    }
+
+    /// Closes the connection that receives, with its session and all consumers.
+    pub(crate) fn close_all(&mut self) -> Result<(), Refusal> {
+        self.ask(
+            Who::Connection(self.receiver.connection),
+            Request::CloseConnection,
+        )?;
+        Ok(())
+    }
+
+    /// Opens a session of that number on the connection that receives, makes a consumer of its own, and closes it.
+    pub(crate) fn request(&mut self, number: u32) -> Result<(), Refusal> {
+        let session = SessionId::new(self.receiver.connection, number)?;
+        self.ask(
+            Who::Session(session),
+            Request::CreateSession { mode: Mode::Auto },
+        )?;
+        let request = Request::CreateConsumer {
+            consumer: ConsumerId::new(1)?,
+            destination: destination(self.alloc, 0)?,
+            selector: None,
+            no_local: false,
+        };
+        self.ask(Who::Session(session), request)?;
+        self.ask(Who::Session(session), Request::CloseSession)?;
+        Ok(())
+    }
+
     /// Sends one message: it is published, or waits for the publisher's commit.
     pub(crate) fn send(&mut self, parcel: Parcel) -> Result<(), Refusal> {
         let now = Moment::new(parcel.now)?;

@@ -37,6 +37,12 @@ pub(crate) enum Kind {
     HeldBack,
     /// As one to one, where of the rows that are held before the one in the middle expires, and no other does.
     Lasting,
+    /// The next of the consumers is closed, each the only one of its topic.
+    Closes,
+    /// The connection is closed with all its consumers, each the only one of its topic; the first round alone finds it open.
+    CloseAll,
+    /// A session is opened for the round alone, with a consumer of its own, beside subscribers of other topics.
+    Requests,
 }
 
 /// How many rows are out at most where they are acknowledged or committed together, and how many messages a commit carries.
@@ -69,6 +75,9 @@ pub(crate) fn kind_named(name: &str) -> Option<Kind> {
         "shared" => Some(Kind::Shared),
         "held-back" => Some(Kind::HeldBack),
         "lasting" => Some(Kind::Lasting),
+        "closes" => Some(Kind::Closes),
+        "close-all" => Some(Kind::CloseAll),
+        "requests" => Some(Kind::Requests),
         _ => None,
     }
 }
@@ -130,7 +139,10 @@ fn topic(kind: Kind, number: u32) -> u32 {
         | Kind::Client
         | Kind::Transacted
         | Kind::Rollback
-        | Kind::Durables => number,
+        | Kind::Durables
+        | Kind::Closes
+        | Kind::CloseAll
+        | Kind::Requests => number,
         _ => 0,
     }
 }
@@ -217,8 +229,8 @@ fn finish<K: Keep + Drop>(
     }
 }
 
-/// Makes one round.
-fn work_once<K: Keep + Drop>(
+/// Sends a message, and lets those receive it who do in that round.
+fn pass_on<K: Keep + Drop>(
     provider: &mut Provider<K>,
     load: Load,
     round: u32,
@@ -232,6 +244,20 @@ fn work_once<K: Keep + Drop>(
         provider.receive(number + 1, i64::from(round))?;
     }
     finish(provider, load.kind, round)
+}
+
+/// Makes one round.
+fn work_once<K: Keep + Drop>(
+    provider: &mut Provider<K>,
+    load: Load,
+    round: u32,
+) -> Result<(), Refusal> {
+    match load.kind {
+        Kind::Closes => provider.close(round.min(1_000_000) + 1),
+        Kind::CloseAll => provider.close_all(),
+        Kind::Requests => provider.request(round.min(1_000_000) + 2),
+        _ => pass_on(provider, load, round),
+    }
 }
 
 /// Makes the rounds of the load.
