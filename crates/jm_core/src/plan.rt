@@ -135,7 +135,22 @@ impl CoreState {
             Request::Start => self.plan_start(connection),
             Request::Stop => self.plan_stop(connection),
             Request::CloseConnection => self.plan_close_connection(connection),
-            _ => Err(Refusal::IllegalState),
+            Request::CreateSession { .. }
+            | Request::CloseSession
+            | Request::CreateConsumer { .. }
+            | Request::CreateDurable { .. }
+            | Request::CreateShared { .. }
+            | Request::CreateSharedDurable { .. }
+            | Request::Unsubscribe { .. }
+            | Request::CloseConsumer { .. }
+            | Request::Receive { .. }
+            | Request::Acknowledge
+            | Request::Recover
+            | Request::Rollback
+            | Request::Missed { .. }
+            | Request::SetListener { .. }
+            | Request::Take { .. }
+            | Request::Done { .. } => Err(Refusal::IllegalState),
         }
     }
 
