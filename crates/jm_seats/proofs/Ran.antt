@@ -39,24 +39,24 @@ part_length {T} k (o ∷ owners) (x ∷ items) same = go (o == k) (part_length k
     go false rest = rest
 
 -- at each seat its own calls were made in turn, where each desk's were
-pub all_ran : {L : Type 0} (owners : List ℕ) (calls : List ClientCall) (replies : List (Result Answer Refusal)) (d0 d1 d2 d3 : List (Desk L)) (x : Desk L)
-    → seats_at d1 ≡ seats_at d0 → length d2 ≡ length d1 → seats_at d3 ≡ seats_at d2
-    → ((k : ℕ) (d : Desk L) → k < length d0 → (get_or d1 k d).calls.items ≡ of_owner k owners calls)
-    → ((k : ℕ) (d : Desk L) → k < length d1 → DeskRan (get_or d1 k d) (get_or d2 k d))
-    → ((k : ℕ) (d : Desk L) → k < length d2 → of_owner k owners replies ≡ (get_or d2 k d).replies.items)
-    → AllRan owners (seats_at d0) calls replies (seats_at d3)
-all_ran {L} owners calls replies d0 d1 d2 d3 x first many last own ran told = λ k d less.
+pub all_ran : {L : Type 0} (owners : List ℕ) (calls : List ClientCall) (replies : List (Result Answer Refusal)) (seated given ran_desks joined : List (Desk L)) (x : Desk L)
+    → seats_at given ≡ seats_at seated → length ran_desks ≡ length given → seats_at joined ≡ seats_at ran_desks
+    → ((k : ℕ) (d : Desk L) → k < length seated → (get_or given k d).calls.items ≡ of_owner k owners calls)
+    → ((k : ℕ) (d : Desk L) → k < length given → DeskRan (get_or given k d) (get_or ran_desks k d))
+    → ((k : ℕ) (d : Desk L) → k < length ran_desks → of_owner k owners replies ≡ (get_or ran_desks k d).replies.items)
+    → AllRan owners (seats_at seated) calls replies (seats_at joined)
+all_ran {L} owners calls replies seated given ran_desks joined x first many last own ran told = λ k d less.
     (let f : Desk L → Seated = λ y. y.seat in
-    let in0 : k < length d0 = omega (arith, less, length-map d0 f) in
-    let in1 : k < length d1 = omega (arith, in0, ap length first, length-map d0 f, length-map d1 f) in
-    let in2 : k < length d2 = omega (arith, in1, many) in
-    let before : get_or (seats_at d0) k d ≡ (get_or d1 k x).seat = ap (λ xs. get_or xs k d) (sym first) ∙ get_or-map f d1 k x d in1 in
-    let after : get_or (seats_at d3) k d ≡ (get_or d2 k x).seat = ap (λ xs. get_or xs k d) last ∙ get_or-map f d2 k x d in2 in
+    let in0 : k < length seated = omega (arith, less, length-map seated f) in
+    let in1 : k < length given = omega (arith, in0, ap length first, length-map seated f, length-map given f) in
+    let in2 : k < length ran_desks = omega (arith, in1, many) in
+    let before : get_or (seats_at seated) k d ≡ (get_or given k x).seat = ap (λ xs. get_or xs k d) (sym first) ∙ get_or-map f given k x d in1 in
+    let after : get_or (seats_at joined) k d ≡ (get_or ran_desks k x).seat = ap (λ xs. get_or xs k d) last ∙ get_or-map f ran_desks k x d in2 in
     let one = ran k x in1 in
-    let A : List ClientCall → Type 0 = λ cs. SeatRan (get_or d1 k x).seat cs (get_or d2 k x).replies.items (get_or d2 k x).seat in
-    let B : List (Result Answer Refusal) → Type 0 = λ rs. SeatRan (get_or d1 k x).seat (of_owner k owners calls) rs (get_or d2 k x).seat in
-    let C : Seated → Type 0 = λ s. SeatRan s (of_owner k owners calls) (of_owner k owners replies) (get_or d2 k x).seat in
-    let D : Seated → Type 0 = λ s. SeatRan (get_or (seats_at d0) k d) (of_owner k owners calls) (of_owner k owners replies) s in
+    let A : List ClientCall → Type 0 = λ cs. SeatRan (get_or given k x).seat cs (get_or ran_desks k x).replies.items (get_or ran_desks k x).seat in
+    let B : List (Result Answer Refusal) → Type 0 = λ rs. SeatRan (get_or given k x).seat (of_owner k owners calls) rs (get_or ran_desks k x).seat in
+    let C : Seated → Type 0 = λ s. SeatRan s (of_owner k owners calls) (of_owner k owners replies) (get_or ran_desks k x).seat in
+    let D : Seated → Type 0 = λ s. SeatRan (get_or (seats_at seated) k d) (of_owner k owners calls) (of_owner k owners replies) s in
     subst D (sym after) (subst C (sym before) (subst B (sym (told k x in2)) (subst A (own k x in0) one))))
 
 -- a seat, to stand where there is none
@@ -64,17 +64,17 @@ pub nobody : Seated
 nobody = record { half = unopened (record { opening = 1; session = record { connection = 1; number = 1 } }); pass = no_calls }
 
 -- each part of what is told is as long as its owner has places
-pub told_parts : {L : Type 0} (owners : List ℕ) (calls : List ClientCall) (d0 d1 d2 : List (Desk L)) (told : Vec (Vec (Result Answer Refusal) Global) Global) (x : Desk L)
-    → length owners ≡ length calls → seats_at d1 ≡ seats_at d0 → length d2 ≡ length d1 → vec_len told ≡ length d2
-    → ((k : ℕ) (d : Desk L) → k < length d0 → (get_or d1 k d).calls.items ≡ of_owner k owners calls)
-    → ((k : ℕ) (d : Desk L) → k < length d1 → DeskRan (get_or d1 k d) (get_or d2 k d))
-    → ((k : ℕ) (v : Vec (Result Answer Refusal) Global) (d : Desk L) → k < length d2 → (get_or told.items k v).items ≡ (get_or d2 k d).replies.items)
+pub told_parts : {L : Type 0} (owners : List ℕ) (calls : List ClientCall) (seated given ran_desks : List (Desk L)) (told : Vec (Vec (Result Answer Refusal) Global) Global) (x : Desk L)
+    → length owners ≡ length calls → seats_at given ≡ seats_at seated → length ran_desks ≡ length given → vec_len told ≡ length ran_desks
+    → ((k : ℕ) (d : Desk L) → k < length seated → (get_or given k d).calls.items ≡ of_owner k owners calls)
+    → ((k : ℕ) (d : Desk L) → k < length given → DeskRan (get_or given k d) (get_or ran_desks k d))
+    → ((k : ℕ) (v : Vec (Result Answer Refusal) Global) (d : Desk L) → k < length ran_desks → (get_or told.items k v).items ≡ (get_or ran_desks k d).replies.items)
     → (k : ℕ) (v : Vec (Result Answer Refusal) Global) → k < vec_len told → vec_len (get_or told.items k v) ≡ count_of k owners
-told_parts {L} owners calls d0 d1 d2 told x len first many all own ran same k v less =
+told_parts {L} owners calls seated given ran_desks told x len first many all own ran same k v less =
     let f : Desk L → Seated = λ y. y.seat in
-    let in2 : k < length d2 = omega (arith, less, all) in
-    let in1 : k < length d1 = omega (arith, in2, many) in
-    let in0 : k < length d0 = omega (arith, in1, ap length first, length-map d0 f, length-map d1 f) in
+    let in2 : k < length ran_desks = omega (arith, less, all) in
+    let in1 : k < length given = omega (arith, in2, many) in
+    let in0 : k < length seated = omega (arith, in1, ap length first, length-map seated f, length-map given f) in
     (get_or told.items k v).ok.0 ∙ ap length (same k v x in2)
-    ∙ ran_length (get_or d1 k x).seat (get_or d2 k x).seat (get_or d1 k x).calls.items (get_or d2 k x).replies.items (ran k x in1)
+    ∙ ran_length (get_or given k x).seat (get_or ran_desks k x).seat (get_or given k x).calls.items (get_or ran_desks k x).replies.items (ran k x in1)
     ∙ ap length (own k x in0) ∙ part_length k owners calls len
