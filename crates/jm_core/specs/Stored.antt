@@ -14,7 +14,7 @@ use Rattle.jm_machine.specs.declared.state.Station.{Station}
 use Rattle.jm_machine.specs.Machine.{State, is_to, places_end}
 use Rattle.jm_machine.specs.Reopened.{is_durable, reopened}
 use Rattle.jm_machine.specs.Rows.{greatest_count}
-use Rattle.jm_selector.specs.Selectors.{read_selects, selector_read}
+use Rattle.jm_selector.specs.Selectors.{matches}
 use Rattle.jm_stations.specs.declared.loading.StoredRow.{StoredRow}
 use Rattle.jm_stations.specs.Loading.{stored_at, stored_row}
 use Rattle.jm_core.specs.declared.stored.Holders.{Holders}
@@ -32,7 +32,7 @@ is_persistent Persistent = true
 -- a durable subscription that asks for that may hold the message: it is PERSISTENT and goes to the topic, and the selector is
 -- absent or TRUE for it
 abbrev pub admits : Definition → Content → Bool
-admits d m = is_persistent m.mode && (is_to d.topic m.destination && read_selects (selector_read d.selector) m)
+admits d m = is_persistent m.mode && (is_to d.topic m.destination && matches d.selector m)
 
 -- the queue of that name may: the message is PERSISTENT, and was sent to it
 abbrev pub sent_to : List ℕ → Bool → Destination → Bool

@@ -2,7 +2,7 @@
 
 ghost use Rattle.std.specs.Prelude.{◌≡◌, ◌<◌, ℕ, List, Some, length, IfOk, IfSome};
 ghost use Rattle.jm_machine.specs.Machine.{delivery};
-ghost use Rattle.jm_selector.specs.Selectors.{read_selects, selector_read};
+ghost use Rattle.jm_selector.specs.Selectors.{matches};
 ghost use Rattle.jm_stations.specs.Backlogs.{answered, answered_where};
 ghost use Rattle.jm_stations.specs.Standing as standing;
 ghost use Rattle.jm_core.specs.Plans.{IsAnswer, IsPlanned};
@@ -45,7 +45,7 @@ fn copy_next(rows: &Rows<'_>, now: Moment) -> Result<Answer, AllocError>
 
 /// The same of the next one whose message the selector selects.
 fn copy_next_where(rows: &Rows<'_>, now: Moment, selector: &Selector) -> Result<Answer, AllocError>
-    ensures { IfOk result (λ answer. answer ≡ answered_where (read_selects (selector_read selector.now)) now rows.now) }
+    ensures { IfOk result (λ answer. answer ≡ answered_where (matches selector.now) now rows.now) }
 {
     match rows.next_where(now, selector) {
         None => Ok(Answer::Nothing),
@@ -75,9 +75,9 @@ fn copy_delivery_from(
     receiver: &Receiver,
     taking: &Option<Taking>,
 ) -> Result<Answer, AllocError>
-    requires { (name : List ℕ) × IsTakenFrom name (read_selects (selector_read selector.now)) receiver.now queues.now taking.now }
-    ensures { (name : List ℕ) → IsTakenFrom name (read_selects (selector_read selector.now)) receiver.now queues.now taking.now →
-        IfOk result (λ answer. answer ≡ answered_where (read_selects (selector_read selector.now)) receiver.now.moment (rows_in queues.now name)) }
+    requires { (name : List ℕ) × IsTakenFrom name (matches selector.now) receiver.now queues.now taking.now }
+    ensures { (name : List ℕ) → IsTakenFrom name (matches selector.now) receiver.now queues.now taking.now →
+        IfOk result (λ answer. answer ≡ answered_where (matches selector.now) receiver.now.moment (rows_in queues.now name)) }
 {
     match taking {
         None => Ok(Answer::Nothing),

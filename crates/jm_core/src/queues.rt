@@ -7,7 +7,7 @@ ghost use Rattle.jm_dest.specs.declared.destination.Destination.TheVariants as d
 ghost use Rattle.jm_machine.specs.Machine.{State, are_meant, at_queue, at_queues, places_end, queued, returned_rows, settled_rows};
 ghost use Rattle.jm_machine.specs.Rows.{bare, chosen, deliver_chosen};
 ghost use Rattle.jm_machine.specs.Wants.{next_chosen};
-ghost use Rattle.jm_selector.specs.Selectors.{read_selects, selector_read};
+ghost use Rattle.jm_selector.specs.Selectors.{matches};
 ghost use Rattle.jm_stations.specs.Backlogs as backlogs;
 ghost use Rattle.jm_stations.specs.Backlogs.{Backlog};
 ghost use Rattle.jm_stations.specs.Loading.{stored_row};
@@ -220,10 +220,10 @@ impl Queues {
         selector: &Selector,
     ) -> Result<Option<Message>, AllocError>
         requires within { index < length self.now.list }
-        ensures copy { (d : Backlog) → IfOk result (λ copy. copy ≡ backlogs.copy_wanted_where (read_selects (selector_read selector.now))
+        ensures copy { (d : Backlog) → IfOk result (λ copy. copy ≡ backlogs.copy_wanted_where (matches selector.now)
             settles now self.now.list (slice_index_or self.now.list index d).rows) }
         ensures err { (name : List ℕ) → index_in self.now.keys (key.Queue name) ≡ Some index → OnErr result
-            ((not settles && is_some (next_chosen (read_selects (selector_read selector.now)) now (rows_in self.now name))) ≡ true) }
+            ((not settles && is_some (next_chosen (matches selector.now) now (rows_in self.now name))) ≡ true) }
     {
         self.stations.copy_where(index, now, settles, selector)
     }
@@ -238,12 +238,12 @@ impl Queues {
         copy: Option<Message>,
     ) -> Answer
         requires within { index < length self.old.list }
-        requires copy { (d : Backlog) → copy ≡ backlogs.copy_wanted_where (read_selects (selector_read selector.now)) true now
+        requires copy { (d : Backlog) → copy ≡ backlogs.copy_wanted_where (matches selector.now) true now
             self.old.list (slice_index_or self.old.list index d).rows }
         ensures answer { (name : List ℕ) → index_in self.old.keys (key.Queue name) ≡ Some index →
-            result ≡ backlogs.answered_where (read_selects (selector_read selector.now)) now (rows_in self.old name) }
+            result ≡ backlogs.answered_where (matches selector.now) now (rows_in self.old name) }
         ensures rows { (name : List ℕ) → index_in self.old.keys (key.Queue name) ≡ Some index →
-            rows_in self.new ≡ at_queue name (deliver_chosen (read_selects (selector_read selector.now)) now backlogs.gone) (rows_in self.old) }
+            rows_in self.new ≡ at_queue name (deliver_chosen (matches selector.now) now backlogs.gone) (rows_in self.old) }
         ensures next_place { self.new.next_place ≡ self.old.next_place }
     {
         self.stations.receive_where(index, now, selector, copy)
@@ -261,12 +261,12 @@ impl Queues {
         consumer: ConsumerId,
     ) -> Answer
         requires within { index < length self.old.list }
-        requires copy { (d : Backlog) → copy ≡ backlogs.copy_wanted_where (read_selects (selector_read selector.now)) false now
+        requires copy { (d : Backlog) → copy ≡ backlogs.copy_wanted_where (matches selector.now) false now
             self.old.list (slice_index_or self.old.list index d).rows }
         ensures answer { (name : List ℕ) → index_in self.old.keys (key.Queue name) ≡ Some index →
-            result ≡ backlogs.answered_where (read_selects (selector_read selector.now)) now (rows_in self.old name) }
+            result ≡ backlogs.answered_where (matches selector.now) now (rows_in self.old name) }
         ensures rows { (name : List ℕ) → index_in self.old.keys (key.Queue name) ≡ Some index → rows_in self.new ≡
-            at_queue name (deliver_chosen (read_selects (selector_read selector.now)) now (backlogs.out_row session consumer)) (rows_in self.old) }
+            at_queue name (deliver_chosen (matches selector.now) now (backlogs.out_row session consumer)) (rows_in self.old) }
         ensures next_place { self.new.next_place ≡ self.old.next_place }
     {
         self.stations

@@ -8,7 +8,7 @@ ghost use Rattle.jm_machine.specs.Life.{mode_of};
 ghost use Rattle.jm_dest.specs.declared.key.Key.TheVariants as queue;
 ghost use Rattle.jm_machine.specs.Machine.{at_queue, consumer_of, key_at, may_receive, may_use, selected_by};
 ghost use Rattle.jm_machine.specs.Rows.{deliver_chosen, settles_at_once};
-ghost use Rattle.jm_selector.specs.Selectors.{read_selects, selector_read};
+ghost use Rattle.jm_selector.specs.Selectors.{matches};
 ghost use Rattle.jm_stations.specs.Backlogs.{Backlog, answered, answered_where, changed_at, copy_wanted, copy_wanted_where};
 ghost use Rattle.jm_stations.specs.Stations.{index_in};
 ghost use Rattle.jm_core.specs.Takings as spec;
@@ -179,12 +179,12 @@ pub(crate) fn make_delivery_from(
     receiver: &Receiver,
     taking: Option<Taking>,
 ) -> Answer
-    requires { (name : List ℕ) × IsTakenFrom name (read_selects (selector_read selector.now)) receiver.now queues.old taking }
-    ensures answer { (name : List ℕ) → IsTakenFrom name (read_selects (selector_read selector.now)) receiver.now queues.old taking →
-        result ≡ answered_where (read_selects (selector_read selector.now)) receiver.now.moment (rows_in queues.old name) }
-    ensures rows { (name : List ℕ) → IsTakenFrom name (read_selects (selector_read selector.now)) receiver.now queues.old taking →
+    requires { (name : List ℕ) × IsTakenFrom name (matches selector.now) receiver.now queues.old taking }
+    ensures answer { (name : List ℕ) → IsTakenFrom name (matches selector.now) receiver.now queues.old taking →
+        result ≡ answered_where (matches selector.now) receiver.now.moment (rows_in queues.old name) }
+    ensures rows { (name : List ℕ) → IsTakenFrom name (matches selector.now) receiver.now queues.old taking →
         rows_in queues.new ≡ at_queue name
-        (deliver_chosen (read_selects (selector_read selector.now)) receiver.now.moment (spec.left_by receiver.now)) (rows_in queues.old) }
+        (deliver_chosen (matches selector.now) receiver.now.moment (spec.left_by receiver.now)) (rows_in queues.old) }
     ensures next_place { queues.new.next_place ≡ queues.old.next_place }
 {
     match taking {
@@ -203,12 +203,12 @@ fn take_from(
     copy: Option<Message>,
 ) -> Answer
     requires within { index < length queues.old.list }
-    requires copy { (d : Backlog) → copy ≡ copy_wanted_where (read_selects (selector_read selector.now)) (spec.settles receiver.now)
+    requires copy { (d : Backlog) → copy ≡ copy_wanted_where (matches selector.now) (spec.settles receiver.now)
         receiver.now.moment queues.old.list (slice_index_or queues.old.list index d).rows }
     ensures answer { (name : List ℕ) → index_in queues.old.keys (queue.Queue name) ≡ Some index →
-        result ≡ answered_where (read_selects (selector_read selector.now)) receiver.now.moment (rows_in queues.old name) }
+        result ≡ answered_where (matches selector.now) receiver.now.moment (rows_in queues.old name) }
     ensures rows { (name : List ℕ) → index_in queues.old.keys (queue.Queue name) ≡ Some index → rows_in queues.new ≡ at_queue name
-        (deliver_chosen (read_selects (selector_read selector.now)) receiver.now.moment (spec.left_by receiver.now)) (rows_in queues.old) }
+        (deliver_chosen (matches selector.now) receiver.now.moment (spec.left_by receiver.now)) (rows_in queues.old) }
     ensures next_place { queues.new.next_place ≡ queues.old.next_place }
 {
     match receiver.mode {

@@ -3,7 +3,7 @@
 ghost use Rattle.std.specs.Prelude.{◌≡◌, ◌≤◌, ◌<◌, find, length, option_map, slice_index_or};
 ghost use Rattle.jm_machine.specs.Machine.{are_meant, places_end};
 ghost use Rattle.jm_machine.specs.Wants.{next_chosen, next_placed};
-ghost use Rattle.jm_selector.specs.Selectors.{read_selects, selector_read};
+ghost use Rattle.jm_selector.specs.Selectors.{matches};
 ghost use Rattle.jm_stations.specs.Backlogs.{Backlog};
 ghost use Rattle.jm_stations.specs.Standing as standing;
 
@@ -74,7 +74,7 @@ impl<'a> Rows<'a> {
 
     /// The row that a delivery at that moment would take of those whose messages the selector selects.
     pub fn next_where(&self, now: Moment, selector: &Selector) -> Option<Standing<'a>>
-        ensures { option_map standing.row_of result ≡ next_chosen (read_selects (selector_read selector.now)) now self.now }
+        ensures { option_map standing.row_of result ≡ next_chosen (matches selector.now) now self.now }
     {
         self.stations.next_where(self.index, now, selector)
     }

@@ -27,7 +27,7 @@ use Rattle.jm_machine.specs.Reopened.{is_durable}
 use Rattle.jm_machine.proofs.Keys.{key_refl, key_same, text_same}
 use Rattle.jm_keep.specs.Persisted.{is_persistent}
 use Rattle.jm_core.specs.Stored as core
-use Rattle.jm_selector.specs.Selectors.{read_selects, selector_read}
+use Rattle.jm_selector.specs.Selectors.{matches, selector_read}
 use Rattle.jm_tables.specs.Keys.{is_key, key_of}
 use Rattle.jm_tables.specs.Rows.{definition_in, is_at, is_under, record_at}
 use Rattle.jm_tables.specs.Schema.{station_tree, message_tree, held_tree, delayed_tree}
@@ -65,8 +65,8 @@ under_from (Queue name) d m h = to_queue name (core.is_persistent m.mode) m.dest
 under_from (Own s c) d m h = cc
 under_from (SharedOwn client name) d m h = cc
 under_from (Durable client name) d m h =
-    let first = and_parts (core.is_persistent m.mode) (is_to d.topic m.destination && read_selects (selector_read d.selector) m) h in
-    let second = and_parts (is_to d.topic m.destination) (read_selects (selector_read d.selector) m) first.1 in
+    let first = and_parts (core.is_persistent m.mode) (is_to d.topic m.destination && matches d.selector m) h in
+    let second = and_parts (is_to d.topic m.destination) (matches d.selector m) first.1 in
     (to_topic d.topic m.destination second.0, second.1)
 
 persistent_is : (mode : DeliveryMode) → IsTrue (is_persistent mode) → core.is_persistent mode ≡ true
@@ -86,7 +86,7 @@ under_to (SharedOwn client name) d m n same mode h = absurd h
 under_to (Durable client name) d m n same mode h =
     let sent : m.destination ≡ ToTopic d.topic = ap (λ (x : Content). x.destination) same ∙ h.0 in
     let there : is_to d.topic m.destination ≡ true = ap (is_to d.topic) sent ∙ text_itself d.topic in
-    let chosen : read_selects (selector_read d.selector) m ≡ true = ap (read_selects (selector_read d.selector)) same ∙ selected (selector_read d.selector) n ∙ h.1 in
+    let chosen : matches d.selector m ≡ true = ap (matches d.selector) same ∙ selected (selector_read d.selector) n ∙ h.1 in
     and_from _ _ (persistent_is m.mode mode) (and_from _ _ there chosen)
 
 same_number : (a b : ℕ) → pos a ≡ pos b → a ≡ b

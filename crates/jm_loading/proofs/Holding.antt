@@ -16,7 +16,7 @@ use Rattle.jm_machine.specs.declared.state.Definition.{Definition}
 use Rattle.jm_machine.specs.Machine.{is_to}
 use Rattle.jm_machine.specs.Reopened.{is_durable}
 use Rattle.jm_machine.proofs.Keys.{key_refl, text_same}
-use Rattle.jm_selector.specs.Selectors.{read_selects, selector_read}
+use Rattle.jm_selector.specs.Selectors.{matches}
 use Rattle.jm_stations.specs.declared.loading.StoredRow.{StoredRow}
 use Rattle.jm_stations.specs.Loading.{stored_at}
 use Rattle.jm_core.specs.declared.stored.Holders.{Holders}
@@ -83,7 +83,7 @@ module _ (client : Option (List ℕ)) (name : List ℕ) (m : Content) where
 
 -- no queue admits what a subscription does
 pub one_kind : (name : List ℕ) (d : Definition) (m : Content) → queue_admits name m ≡ true → admits d m ≡ true → ⊥
-one_kind name d m q a = go m.destination q (and_parts (is_to d.topic m.destination) (read_selects (selector_read d.selector) m) (and_parts (is_persistent m.mode) (is_to d.topic m.destination && read_selects (selector_read d.selector) m) a).1).0
+one_kind name d m q a = go m.destination q (and_parts (is_to d.topic m.destination) (matches d.selector m) (and_parts (is_persistent m.mode) (is_to d.topic m.destination && matches d.selector m) a).1).0
   where
     go : (to : Destination) → sent_to name (is_persistent m.mode) to ≡ true → is_to d.topic to ≡ true → ⊥
     go (destination.Queue x) s t = cc

@@ -30,7 +30,7 @@ use Rattle.jm_machine.specs.declared.state.Station.{Station}
 use Rattle.jm_machine.specs.declared.state.Definition.{Definition}
 use Rattle.jm_machine.specs.declared.state.Consumer.{Consumer}
 use Rattle.jm_machine.specs.Life.{Life, connection_of, session_of, client_of, is_open_connection, is_closed_connection, is_client_taken, mode_of, is_started, is_new_session, life_after}
-use Rattle.jm_selector.specs.Selectors.{selector_read, selector_refusal, standing, read_selects}
+use Rattle.jm_selector.specs.Selectors.{selector_read, selector_refusal, standing, matches}
 use Rattle.jm_machine.specs.Rows.{protected, fresh, is_out, given_back, live, next, raised, left_of, taken, settles_at_once, bare, chosen, deliver_placed, deliver_chosen, InOrder}
 
 -- all that the provider holds
@@ -133,7 +133,7 @@ is_local (Durable client name) publisher = is_some client && client_eq publisher
 -- that is, and the selector is absent or TRUE for the message (Jakarta Messaging 3.1, sections 4.2, 8.3.1 and 3.8.1)
 unfoldable pub accepts : Key → Definition → Publisher → Content → Bool
 accepts key definition publisher m =
-    is_to definition.topic m.destination && (not (definition.no_local && is_local key publisher) && read_selects (selector_read definition.selector) m)
+    is_to definition.topic m.destination && (not (definition.no_local && is_local key publisher) && matches definition.selector m)
 
 -- the rows of a subscription that is not durable have a limit (ours)
 abbrev pub is_limited : Key → Bool
@@ -238,7 +238,7 @@ key_made s c (Topic name) = Own s c
 -- its own
 abbrev pub selected_by : Option Consumer → Content → Bool
 selected_by None m = false
-selected_by (Some x) m = read_selects (selector_read x.selector) m
+selected_by (Some x) m = matches x.selector m
 
 -- a new consumer, with its selector where it receives from a queue; that of a topic's stands with the subscription. It does
 -- not listen

@@ -6,7 +6,7 @@ ghost use Rattle.jm_machine.specs.Machine.{are_meant, one_missed};
 ghost use Rattle.jm_pending.specs.declared.row.Row.{Row};
 ghost use Rattle.jm_pending.specs.Rows as spec;
 ghost use Rattle.jm_pending.specs.Chosen.{next_where};
-ghost use Rattle.jm_selector.specs.Selectors.{read_selects, selector_read};
+ghost use Rattle.jm_selector.specs.Selectors.{matches};
 ghost use Rattle.jm_pending.specs.Holders.{Covers, Follows, holders_of, last_message};
 ghost use Rattle.jm_pending.specs.Lanes.{is_at};
 ghost use Rattle.jm_pending.specs.Cursors as cursor;
@@ -264,7 +264,7 @@ impl Held {
     /// not selected. Looks at the rows that wait, from the first on, up to that row, and at none of lower priority.
     #[tactic(auto, using(crate::proofs::Choice::next_choice))]
     pub fn next_where(&self, table: &Table, now: Moment, selector: &Selector) -> Option<Row>
-        ensures next { result ≡ next_where (read_selects (selector_read selector.now)) table.now now self.now.rows }
+        ensures next { result ≡ next_where (matches selector.now) table.now now self.now.rows }
         ensures rising { spec.IsRising self.now.rows }
     {
         lanes::next_where(&self.lanes, table, now, selector)
@@ -330,7 +330,7 @@ impl Held {
         consumer: ConsumerId,
     ) -> Option<Row>
         requires { Covers table.old self.old.rows }
-        ensures rows { MatchOption (next_where (read_selects (selector_read selector.now)) table.old now self.old.rows)
+        ensures rows { MatchOption (next_where (matches selector.now) table.old now self.old.rows)
             ((result ≡ None) × (self.new ≡ record self.old { rows = filter (spec.stays now) self.old.rows }))
             (λ r. (result ≡ Some (spec.sent session consumer r)) ×
             (self.new ≡ record self.old {
@@ -355,7 +355,7 @@ impl Held {
         selector: &Selector,
     ) -> Option<Taken>
         requires { Covers table.old self.old.rows }
-        ensures rows { MatchOption (next_where (read_selects (selector_read selector.now)) table.old now self.old.rows)
+        ensures rows { MatchOption (next_where (matches selector.now) table.old now self.old.rows)
             ((result ≡ None) × (self.new ≡ record self.old { rows = filter (spec.stays now) self.old.rows }))
             (λ r. (result ≡ Some (record { row = spec.counted r; message = last_message table.old r.place })) ×
             (self.new ≡ record self.old {

@@ -5,7 +5,7 @@ ghost use Rattle.jm_pending.specs.declared.row.Row.{Row};
 ghost use Rattle.jm_pending.specs.Rows.{IsRising, are_home, back, is_among, is_elsewhere, is_waiting, keeps, sent_at, stays};
 ghost use Rattle.jm_pending.specs.Rows as spec;
 ghost use Rattle.jm_pending.specs.Chosen.{StandsIn, is_better, is_ready_before};
-ghost use Rattle.jm_selector.specs.Selectors.{read_selects, selector_read};
+ghost use Rattle.jm_selector.specs.Selectors.{matches};
 ghost use Rattle.jm_dest.specs.Numbers.{long_end};
 ghost use Rattle.jm_pending.specs.Lanes.{IsCopied, IsPlaceFrom, IsSoonestOf, is_at, is_below};
 ghost use Rattle.jm_pending.specs.Holders.{Covers, Follows};
@@ -248,7 +248,7 @@ impl Lane {
         requires in_range { low ≤ length self.now.rows }
         requires before { All (λ r. is_waiting r ≡ false) (take low self.now.rows) }
         ensures from { low ≤ result }
-        ensures soonest { IsSoonestOf (is_better best.now (read_selects (selector_read selector.now)) table.now now) self.now.rows (slice_get self.now.rows result) }
+        ensures soonest { IsSoonestOf (is_better best.now (matches selector.now) table.now now) self.now.rows (slice_get self.now.rows result) }
     {
         if now.get() < self.due {
             return self.rows.len();

@@ -8,7 +8,7 @@ ghost use Rattle.jm_pending.specs.declared.row.Row.{Row};
 ghost use Rattle.jm_pending.specs.Rows.{IsRising, back, is_among, is_elsewhere, is_ready, keeps, sent_at, stays};
 ghost use Rattle.jm_pending.specs.Rows as spec;
 ghost use Rattle.jm_pending.specs.Chosen.{IsSpot, is_choice, row_of};
-ghost use Rattle.jm_selector.specs.Selectors.{read_selects, selector_read};
+ghost use Rattle.jm_selector.specs.Selectors.{matches};
 ghost use Rattle.jm_pending.specs.Lanes.{EachBecomes, IsApart, IsLaneOf, IsPlaceFrom, IsPushed, IsSoonestOf, Lane, all_rows, is_at, is_below, rows_of};
 ghost use Rattle.jm_pending.specs.Holders.{Covers, Follows};
 
@@ -227,8 +227,8 @@ fn better(
     requires at { at < length lanes.now }
     requires best { IfSome best (IsSpot lanes.now) }
     ensures spot { IfSome result (IsSpot lanes.now) }
-    ensures soonest { (rows : List Row) (d : Lane) → IsSoonestOf (is_choice (read_selects (selector_read selector.now)) table.now now) rows (row_of best) →
-        IsSoonestOf (is_choice (read_selects (selector_read selector.now)) table.now now) (rows ++ (slice_index_or lanes.now at d).rows) (row_of result) }
+    ensures soonest { (rows : List Row) (d : Lane) → IsSoonestOf (is_choice (matches selector.now) table.now now) rows (row_of best) →
+        IsSoonestOf (is_choice (matches selector.now) table.now now) (rows ++ (slice_index_or lanes.now at d).rows) (row_of result) }
 {
     let lane = &lanes[at];
     let low = lane.first_waiting();
@@ -247,7 +247,7 @@ fn better(
 /// The row that goes first of those that are ready and whose messages the selector selects, and where it stands.
 fn best_spot(lanes: &[Lane], table: &Table, now: Moment, selector: &Selector) -> Option<Spot>
     ensures spot { IfSome result (IsSpot lanes.now) }
-    ensures soonest { IsSoonestOf (is_choice (read_selects (selector_read selector.now)) table.now now) (all_rows lanes.now) (row_of result) }
+    ensures soonest { IsSoonestOf (is_choice (matches selector.now) table.now now) (all_rows lanes.now) (row_of result) }
 {
     let mut best = None;
     for i in 0..lanes.len() {
@@ -263,7 +263,7 @@ pub(crate) fn next_where(
     now: Moment,
     selector: &Selector,
 ) -> Option<Row>
-    ensures { IsSoonestOf (is_choice (read_selects (selector_read selector.now)) table.now now) (all_rows lanes.now) result }
+    ensures { IsSoonestOf (is_choice (matches selector.now) table.now now) (all_rows lanes.now) result }
 {
     spot::row_of(&best_spot(lanes, table, now, selector))
 }
@@ -321,7 +321,7 @@ pub(crate) fn take_where(
     consumer: ConsumerId,
 ) -> Option<Row>
     requires { IsApart (all_rows lanes.old) }
-    ensures { (first : Option Row) × IsSoonestOf (is_choice (read_selects (selector_read selector.now)) table.now now) (all_rows lanes.old) first × MatchOption first
+    ensures { (first : Option Row) × IsSoonestOf (is_choice (matches selector.now) table.now now) (all_rows lanes.old) first × MatchOption first
         ((result ≡ None) × EachBecomes (λ rows. rows) lanes.old lanes.new)
         (λ r. (result ≡ Some (spec.sent session consumer r)) ×
         EachBecomes (map (sent_at r.place session consumer)) lanes.old lanes.new) }
@@ -339,7 +339,7 @@ pub(crate) fn remove_where(
     selector: &Selector,
 ) -> Option<Row>
     requires { IsApart (all_rows lanes.old) }
-    ensures { (first : Option Row) × IsSoonestOf (is_choice (read_selects (selector_read selector.now)) table.now now) (all_rows lanes.old) first × MatchOption first
+    ensures { (first : Option Row) × IsSoonestOf (is_choice (matches selector.now) table.now now) (all_rows lanes.old) first × MatchOption first
         ((result ≡ None) × EachBecomes (λ rows. rows) lanes.old lanes.new)
         (λ r. (result ≡ Some r) × EachBecomes (filter (is_elsewhere r.place)) lanes.old lanes.new) }
 {

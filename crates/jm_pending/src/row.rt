@@ -6,7 +6,7 @@ ghost use Rattle.jm_pending.specs.Rows as spec;
 ghost use Rattle.jm_pending.specs.Chosen as chosen;
 ghost use Rattle.jm_pending.specs.Lanes as by_lane;
 ghost use Rattle.jm_pending.specs.Lanes.{IsBound, IsDueBound};
-ghost use Rattle.jm_selector.specs.Selectors.{read_selects, selector_read};
+ghost use Rattle.jm_selector.specs.Selectors.{matches};
 
 use crate::table::Table;
 use jm_dest::{ConsumerId, Moment, SessionId};
@@ -152,7 +152,7 @@ impl Row {
 
     /// Whether the selector selects the row's message, where the table has it.
     fn is_selected(&self, table: &Table, selector: &Selector) -> bool
-        ensures { result ≡ chosen.passes (read_selects (selector_read selector.now)) table.now self.now }
+        ensures { result ≡ chosen.passes (matches selector.now) table.now self.now }
     {
         match table.get(self.place) {
             Some(message) => selector.selects(message),
@@ -162,7 +162,7 @@ impl Row {
 
     /// Whether the row may be delivered at that moment, and the selector selects its message.
     pub(crate) fn is_choice(&self, table: &Table, now: Moment, selector: &Selector) -> bool
-        ensures { result ≡ chosen.is_choice (read_selects (selector_read selector.now)) table.now now self.now }
+        ensures { result ≡ chosen.is_choice (matches selector.now) table.now now self.now }
     {
         self.is_ready(now) && self.is_selected(table, selector)
     }

@@ -5,7 +5,7 @@ ghost use Rattle.std.specs.VecDeque.{deque_len, deque_capacity};
 ghost use Rattle.jm_pending.specs.declared.row.Row.{Row};
 ghost use Rattle.jm_pending.specs.Rows.{IsRising, are_home, back, is_among, is_waiting, keeps, stays};
 ghost use Rattle.jm_pending.specs.Chosen.{is_better, is_ready_before};
-ghost use Rattle.jm_selector.specs.Selectors.{read_selects, selector_read};
+ghost use Rattle.jm_selector.specs.Selectors.{matches};
 ghost use Rattle.jm_pending.specs.Lanes.{AreDueInTurn, IsBound, IsDueBound, IsSteady};
 ghost use Rattle.jm_pending.specs.Holders.{Covers, Follows};
 
@@ -145,9 +145,9 @@ pub(crate) fn first_choice(
     requires turn { in_turn ≡ true → AreDueInTurn rows.now.items }
     ensures from { low ≤ result }
     ensures within { result ≤ length rows.now.items }
-    ensures before { All (λ r. is_better best.now (read_selects (selector_read selector.now)) table.now now r ≡ false) (take result rows.now.items) }
+    ensures before { All (λ r. is_better best.now (matches selector.now) table.now now r ≡ false) (take result rows.now.items) }
     ensures found { (d : Row) → result < length rows.now.items →
-        is_better best.now (read_selects (selector_read selector.now)) table.now now (slice_index_or rows.now.items result d) ≡ true }
+        is_better best.now (matches selector.now) table.now now (slice_index_or rows.now.items result d) ≡ true }
 {
     for i in low..rows.len() {
         if !rows[i].goes_before(best) {

@@ -10,7 +10,7 @@ use Rattle.jm_tree.specs.declared.tree.Tree.{Tree}
 use Rattle.jm_eval.specs.Values.{Value, Unknown, Boolean, Number, Text, condition_of}
 use Rattle.jm_eval.specs.Views.{view}
 use Rattle.jm_eval.specs.Evaluation.{value, Selects}
-use Rattle.jm_selector.specs.Selectors.{selector_read, read_refusal, selector_refusal, standing, holds, selects, read_selects, refused_for}
+use Rattle.jm_selector.specs.Selectors.{selector_read, read_refusal, selector_refusal, standing, holds, selects, matches, refused_for}
 
 -- the selector that stands in a definition is read as the one that was handed in
 pub standing_read : (selector : Option (List ℕ)) (tree : Option Tree) → selector_read selector ≡ Ok tree → selector_read (standing selector (selector_read selector)) ≡ Ok tree
@@ -53,5 +53,5 @@ unfolding selector_refusal
 not_refused selector tree h = ap read_refusal h
 
 -- a subscription's tree selects what its selector selects
-pub selects_there : (selector : Option (List ℕ)) (m : Content) (tree : Option Tree) (b : Bool) → selector_read selector ≡ Ok tree → (IsTrue b ↔ Selects (view m) tree) → b ≡ read_selects (selector_read selector) m
+pub selects_there : (selector : Option (List ℕ)) (m : Content) (tree : Option Tree) (b : Bool) → selector_read selector ≡ Ok tree → (IsTrue b ↔ Selects (view m) tree) → b ≡ matches selector m
 selects_there selector m tree b h e = rw h (selects_same b tree m e)

@@ -50,6 +50,10 @@ abbrev pub read_selects : Result (Option Tree) SyntaxFault → Content → Bool
 read_selects (Ok tree) m = selects tree m
 read_selects (Err fault) m = false
 
+-- a selector, as a text, matches a message: it is absent, or TRUE for the message; one that is refused matches none
+abbrev pub matches : Option (List ℕ) → Content → Bool
+matches selector m = read_selects (selector_read selector) m
+
 -- the refusal for a fault of that cause
 abbrev pub refused_for : ℕ → Cause → Refusal
 refused_for at causes.Memory = Memory

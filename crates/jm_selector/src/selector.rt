@@ -1,7 +1,7 @@
 ghost use Rattle.std.specs.Prelude.{◌≡◌, ◌≢◌, nat_eq, is_none, IfOk, IfErr, Ok, Some, None};
 ghost use Rattle.jm_base.specs.declared.refusal.Refusal.TheVariants.{Memory};
 ghost use Rattle.jm_selector.specs.Selectors as spec;
-ghost use Rattle.jm_selector.specs.Selectors.{read_selects, refused, selector_read, selector_refusal};
+ghost use Rattle.jm_selector.specs.Selectors.{matches, refused, selector_read, selector_refusal};
 ghost use Rattle.std.specs.Option.{option_copied, option_eq};
 ghost use Rattle.std.specs.Cmp.Lexicographic.{pointwise, nat_list_eq_equiv};
 ghost use Rattle.std.proofs.Common.{rules};
@@ -157,7 +157,7 @@ impl Selector {
 
     /// Whether it is TRUE for the message, or there is none (Jakarta Messaging 3.1, section 3.8.1). Takes no memory.
     pub fn selects(&self, message: &Message) -> bool
-        ensures { result ≡ read_selects (selector_read self.now) message.now }
+        ensures { result ≡ matches self.now message.now }
     {
         selects(&self.tree, message)
     }

@@ -3,7 +3,7 @@
 ghost use Rattle.std.specs.Prelude.{◌≡◌, ◌≤◌, ◌<◌, ◌+◌, ◌-◌, ◌++◌, [], ◌∷◌, true, false, nat_eq, All, length, map, slice_index_or, is_some, IfOk, OnOk, OnErr};
 ghost use Rattle.std.specs.List.{IsDistinct, remove};
 ghost use Rattle.jm_machine.specs.Machine.{are_meant, places_end};
-ghost use Rattle.jm_selector.specs.Selectors.{read_selects, selector_read};
+ghost use Rattle.jm_selector.specs.Selectors.{matches};
 ghost use Rattle.jm_stations.specs.Backlogs as spec;
 ghost use Rattle.jm_stations.specs.Backlogs.{Backlog};
 ghost use Rattle.jm_stations.specs.Kept as kept;
@@ -392,8 +392,8 @@ impl Backlogs {
         selector: &Selector,
     ) -> Result<Option<Message>, AllocError>
         requires within { index < length self.now.list }
-        ensures copy { (d : Backlog) → IfOk result (λ copy. copy ≡ spec.copy_wanted_where (read_selects (selector_read selector.now)) settles now self.now.list (slice_index_or self.now.list index d).rows) }
-        ensures err { (d : Backlog) → OnErr result (is_some (spec.copy_wanted_where (read_selects (selector_read selector.now)) settles now self.now.list (slice_index_or self.now.list index d).rows) ≡ true) }
+        ensures copy { (d : Backlog) → IfOk result (λ copy. copy ≡ spec.copy_wanted_where (matches selector.now) settles now self.now.list (slice_index_or self.now.list index d).rows) }
+        ensures err { (d : Backlog) → OnErr result (is_some (spec.copy_wanted_where (matches selector.now) settles now self.now.list (slice_index_or self.now.list index d).rows) ≡ true) }
     {
         let row = self.lists[index].next_where(&self.table, now, selector);
         copy_of(&self.table, row, settles)
@@ -410,9 +410,9 @@ impl Backlogs {
         copy: Option<Message>,
     ) -> Answer
         requires within { index < length self.old.list }
-        requires copy { (d : Backlog) → copy ≡ spec.copy_wanted_where (read_selects (selector_read selector.now)) true now self.old.list (slice_index_or self.old.list index d).rows }
-        ensures answer { (d : Backlog) → result ≡ spec.answered_where (read_selects (selector_read selector.now)) now (slice_index_or self.old.list index d).rows }
-        ensures list { self.new.list ≡ spec.changed_at index (spec.received_where (read_selects (selector_read selector.now)) now) self.old.list }
+        requires copy { (d : Backlog) → copy ≡ spec.copy_wanted_where (matches selector.now) true now self.old.list (slice_index_or self.old.list index d).rows }
+        ensures answer { (d : Backlog) → result ≡ spec.answered_where (matches selector.now) now (slice_index_or self.old.list index d).rows }
+        ensures list { self.new.list ≡ spec.changed_at index (spec.received_where (matches selector.now) now) self.old.list }
         ensures next_place { self.new.next_place ≡ self.old.next_place }
         ensures room { self.old.message_room ≤ self.new.message_room }
     {
@@ -433,9 +433,9 @@ impl Backlogs {
         consumer: ConsumerId,
     ) -> Answer
         requires within { index < length self.old.list }
-        requires copy { (d : Backlog) → copy ≡ spec.copy_wanted_where (read_selects (selector_read selector.now)) false now self.old.list (slice_index_or self.old.list index d).rows }
-        ensures answer { (d : Backlog) → result ≡ spec.answered_where (read_selects (selector_read selector.now)) now (slice_index_or self.old.list index d).rows }
-        ensures list { self.new.list ≡ spec.changed_at index (spec.delivered_where (read_selects (selector_read selector.now)) session consumer now) self.old.list }
+        requires copy { (d : Backlog) → copy ≡ spec.copy_wanted_where (matches selector.now) false now self.old.list (slice_index_or self.old.list index d).rows }
+        ensures answer { (d : Backlog) → result ≡ spec.answered_where (matches selector.now) now (slice_index_or self.old.list index d).rows }
+        ensures list { self.new.list ≡ spec.changed_at index (spec.delivered_where (matches selector.now) session consumer now) self.old.list }
         ensures next_place { self.new.next_place ≡ self.old.next_place }
         ensures room { self.old.message_room ≤ self.new.message_room }
     {
@@ -538,7 +538,7 @@ impl Backlogs {
     /// selects.
     pub fn next_where(&self, index: usize, now: Moment, selector: &Selector) -> Option<Standing<'_>>
         requires { index < length self.now.list }
-        ensures { (d : Backlog) → option_map standing.row_of result ≡ next_chosen (read_selects (selector_read selector.now)) now (slice_index_or self.now.list index d).rows }
+        ensures { (d : Backlog) → option_map standing.row_of result ≡ next_chosen (matches selector.now) now (slice_index_or self.now.list index d).rows }
     {
         standing::next_where(&self.table, &self.lists[index], now, selector)
     }

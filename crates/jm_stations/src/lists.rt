@@ -8,7 +8,7 @@ ghost use Rattle.jm_pending.specs.Counts.{IsCounted};
 ghost use Rattle.jm_pending.specs.Rows.{Held, IsRising, next, sent};
 ghost use Rattle.jm_pending.specs.Holders.{Covers, Follows, KeepsMessages, holders_of};
 ghost use Rattle.jm_pending.specs.Chosen.{next_where};
-ghost use Rattle.jm_selector.specs.Selectors.{read_selects, selector_read};
+ghost use Rattle.jm_selector.specs.Selectors.{matches};
 ghost use Rattle.jm_stations.specs.Backlogs.{changed_at};
 ghost use Rattle.jm_stations.specs.Kept as kept;
 
@@ -86,9 +86,9 @@ pub(crate) fn take_where(
 ) -> Option<Taken>
     requires within { index < length lists.old.items }
     requires covers { (d : Held) → Covers table.old (slice_index_or lists.old.items index d).rows }
-    ensures result { (d : Held) → result ≡ kept.taken table.old (next_where (read_selects (selector_read selector.now)) table.old now (slice_index_or lists.old.items index d).rows) }
-    ensures lists { lists.new.items ≡ changed_at index (kept.settled_where (read_selects (selector_read selector.now)) table.old now) lists.old.items }
-    ensures table { (d : Held) → Follows table.old table.new (slice_index_or lists.old.items index d).rows (kept.settled_where (read_selects (selector_read selector.now)) table.old now (slice_index_or lists.old.items index d)).rows }
+    ensures result { (d : Held) → result ≡ kept.taken table.old (next_where (matches selector.now) table.old now (slice_index_or lists.old.items index d).rows) }
+    ensures lists { lists.new.items ≡ changed_at index (kept.settled_where (matches selector.now) table.old now) lists.old.items }
+    ensures table { (d : Held) → Follows table.old table.new (slice_index_or lists.old.items index d).rows (kept.settled_where (matches selector.now) table.old now (slice_index_or lists.old.items index d)).rows }
     ensures rising { (d : Held) → IsRising (slice_index_or lists.old.items index d).rows }
 {
     let held = &mut lists[index];
@@ -108,9 +108,9 @@ pub(crate) fn send_where(
 ) -> Option<Row>
     requires within { index < length lists.old.items }
     requires covers { (d : Held) → Covers table.old (slice_index_or lists.old.items index d).rows }
-    ensures result { (d : Held) → result ≡ option_map (sent session consumer) (next_where (read_selects (selector_read selector.now)) table.old now (slice_index_or lists.old.items index d).rows) }
-    ensures lists { lists.new.items ≡ changed_at index (kept.sent_off_where (read_selects (selector_read selector.now)) table.old session consumer now) lists.old.items }
-    ensures table { (d : Held) → Follows table.old table.new (slice_index_or lists.old.items index d).rows (kept.sent_off_where (read_selects (selector_read selector.now)) table.old session consumer now (slice_index_or lists.old.items index d)).rows }
+    ensures result { (d : Held) → result ≡ option_map (sent session consumer) (next_where (matches selector.now) table.old now (slice_index_or lists.old.items index d).rows) }
+    ensures lists { lists.new.items ≡ changed_at index (kept.sent_off_where (matches selector.now) table.old session consumer now) lists.old.items }
+    ensures table { (d : Held) → Follows table.old table.new (slice_index_or lists.old.items index d).rows (kept.sent_off_where (matches selector.now) table.old session consumer now (slice_index_or lists.old.items index d)).rows }
     ensures rising { (d : Held) → IsRising (slice_index_or lists.old.items index d).rows }
 {
     let held = &mut lists[index];

@@ -4,7 +4,7 @@ ghost use Rattle.std.specs.Prelude.{◌≡◌, ◌≤◌, ◌<◌, IfSome, find,
 ghost use Rattle.jm_dest.specs.Numbers.{long_end};
 ghost use Rattle.jm_machine.specs.Machine.{are_meant};
 ghost use Rattle.jm_machine.specs.Wants.{next_chosen};
-ghost use Rattle.jm_selector.specs.Selectors.{read_selects, selector_read};
+ghost use Rattle.jm_selector.specs.Selectors.{matches};
 ghost use Rattle.jm_pending.specs.Holders.{Covers, holders_of};
 ghost use Rattle.jm_pending.specs.Placed.{AreRowsOf, all_placed, placed};
 ghost use Rattle.jm_stations.specs.Backlogs.{next_placed};
@@ -108,7 +108,7 @@ pub(crate) fn next_where<'a>(
 ) -> Option<Standing<'a>>
     requires covers { Covers table.now held.now.rows }
     requires own { AreRowsOf table.now held.now.rows }
-    ensures { option_map spec.row_of result ≡ next_chosen (read_selects (selector_read selector.now)) now (all_placed table.now held.now.rows) }
+    ensures { option_map spec.row_of result ≡ next_chosen (matches selector.now) now (all_placed table.now held.now.rows) }
 {
     with_message(table, held.next_where(table, now, selector))
 }

@@ -11,7 +11,7 @@ use Rattle.jm_machine.specs.declared.state.Definition.{Definition}
 use Rattle.jm_machine.specs.declared.consumers.Consumers.{Consumers}
 use Rattle.jm_machine.specs.Attached.{Counts, ended}
 use Rattle.jm_machine.specs.Machine.{Publisher, accepts, first_cause, is_local, is_same, unless}
-use Rattle.jm_selector.specs.Selectors.{read_selects, selector_read}
+use Rattle.jm_selector.specs.Selectors.{matches}
 
 -- a subscription: its key, and what it asks for
 pub record Subscription : Type 0 where
@@ -29,7 +29,7 @@ publisher m client = record { connection = m.sender.session.connection; client =
 
 -- a subscription of the key takes the publisher's messages, local or not, and its selector selects the message
 abbrev pub wants : Key → Definition → Publisher → Content → Bool
-wants key d sender m = not (d.no_local && is_local key sender) && read_selects (selector_read d.selector) m
+wants key d sender m = not (d.no_local && is_local key sender) && matches d.selector m
 
 -- the subscription accepts the publisher's message
 abbrev pub takes : Publisher → Content → Subscription → Bool

@@ -14,7 +14,7 @@ use Rattle.jm_format.specs.Messages.{IsMessage}
 use Rattle.jm_machine.specs.declared.state.Definition.{Definition}
 use Rattle.jm_machine.specs.Rows.{greatest_count}
 use Rattle.jm_keep.specs.Persisted.{is_persistent}
-use Rattle.jm_selector.specs.Selectors.{read_selects, selector_read, selector_refusal}
+use Rattle.jm_selector.specs.Selectors.{matches, selector_refusal}
 use Rattle.sqlite_value.specs.Order.{Row, column, bytes}
 use Rattle.sqlite_trees.specs.Tree.{Trees, rowid}
 use Rattle.sqlite_rules.specs.Edit.{id_in}
@@ -99,7 +99,7 @@ pub record IsStoredMessage (r : Row) : Type 0 where
 -- whose selector is absent or TRUE
 abbrev pub MayHold : Option Key → Definition → Content → Type 0
 MayHold (Some (Queue name)) d m = m.destination ≡ ToQueue name
-MayHold (Some (Durable client name)) d m = (m.destination ≡ ToTopic d.topic) × IsTrue (read_selects (selector_read d.selector) m)
+MayHold (Some (Durable client name)) d m = (m.destination ≡ ToTopic d.topic) × IsTrue (matches d.selector m)
 MayHold _ d m = ⊥
 
 -- its station and its message stand, its deliveries are within their limit, and the one may hold the other

@@ -2,7 +2,7 @@ use Rattle.std.proofs.Common.{ap, refl, ◌∙◌}
 use Rattle.jm_dest.specs.declared.key.Key.{Key}
 use Rattle.jm_dest.specs.declared.key.Key.TheVariants.{Queue}
 use Rattle.jm_machine.specs.Machine.{State, new_core}
-use Rattle.jm_selector.specs.Selectors.{read_selects, selector_read}
+use Rattle.jm_selector.specs.Selectors.{matches}
 use Rattle.jm_stations.specs.Backlogs.{answered_where}
 use Rattle.jm_core.specs.Queues.{rows_in}
 use Rattle.jm_core.specs.Reading.{rows_under}
@@ -22,4 +22,4 @@ returns-in-Some c = λ name t.
     let taken = rw c.in-Some.is at t in
     let state : State = record (new_core 1 1) { queues = rows_in queues } in
     let rows = c.rows_at.ensures state (Queue name) refl ∙ ap (λ (key : Key). rows_under state key) ((key_there queues.keys (Queue name) c.in-Some.taking.index taken.0).1 (Queue name)) in
-    when_ok _ _ (λ answer e. e ∙ ap (λ rs. answered_where (read_selects (selector_read c.args.selector.now)) c.args.receiver.now.moment rs) rows) c.copy_next_where.result c.copy_next_where.ensures
+    when_ok _ _ (λ answer e. e ∙ ap (λ rs. answered_where (matches c.args.selector.now) c.args.receiver.now.moment rs) rows) c.copy_next_where.result c.copy_next_where.ensures

@@ -1,6 +1,6 @@
 use Rattle.std.proofs.Common.{refl, sym}
 use Rattle.jm_machine.specs.Rows.{deliver_chosen}
-use Rattle.jm_selector.specs.Selectors.{read_selects, selector_read}
+use Rattle.jm_selector.specs.Selectors.{matches}
 use Rattle.jm_core.specs.Queues.{rows_in}
 use Rattle.jm_core.specs.Takings.{left_by}
 use Rattle.jm_core.proofs.QueueRows.{nothing_changed, rows_missing}
@@ -16,4 +16,4 @@ returns-in-None-clause-rows c = λ name t.
     let queues = c.args.queues.now in
     let r = c.args.receiver.now in
     let none = rows_missing queues.keys queues.list name (rw c.in-None.is at t) in
-    sym (nothing_changed name (deliver_chosen (read_selects (selector_read c.args.selector.now)) r.moment (left_by r)) (rows_in queues) refl none)
+    sym (nothing_changed name (deliver_chosen (matches c.args.selector.now) r.moment (left_by r)) (rows_in queues) refl none)

@@ -3,7 +3,7 @@ use Rattle.jm_base.specs.declared.mode.Mode.{Mode}
 use Rattle.jm_dest.specs.declared.session.SessionId.{SessionId}
 use Rattle.jm_machine.specs.Machine.{at_queue}
 use Rattle.jm_machine.specs.Rows.{deliver_chosen, left_of, sent_out, settles_at_once}
-use Rattle.jm_selector.specs.Selectors.{read_selects, selector_read}
+use Rattle.jm_selector.specs.Selectors.{matches}
 use Rattle.jm_stations.specs.Backlogs.{gone, out_row}
 use Rattle.jm_core.specs.Queues.{rows_in}
 use Rattle.jm_core.proofs.receive.take_from.Goals as goal
@@ -22,11 +22,11 @@ returns-in-Auto-clause-rows c = λ name h.
     let r = c.args.receiver.now in
     let at_once : settles_at_once (Some r.mode) ≡ true = elim c.in-Auto.is [ inl e ↦ rw e refl | inr e ↦ rw e refl ] in
     c.receive.ensures.rows name h
-    ∙ ap (λ f. at_queue name (deliver_chosen (read_selects (selector_read c.args.selector.now)) r.moment f) (rows_in c.args.queues.now)) (left_settled r.mode r.session r.consumer at_once)
+    ∙ ap (λ f. at_queue name (deliver_chosen (matches c.args.selector.now) r.moment f) (rows_in c.args.queues.now)) (left_settled r.mode r.session r.consumer at_once)
 
 pub returns-in-Client-clause-rows : goal.returns-in-Client-clause-rows
 returns-in-Client-clause-rows c = λ name h.
     let r = c.args.receiver.now in
     let later : settles_at_once (Some r.mode) ≡ false = elim c.in-Client.is [ inl e ↦ rw e refl | inr e ↦ rw e refl ] in
     c.deliver.ensures.rows name h
-    ∙ ap (λ f. at_queue name (deliver_chosen (read_selects (selector_read c.args.selector.now)) r.moment f) (rows_in c.args.queues.now)) (left_out r.mode r.session r.consumer later)
+    ∙ ap (λ f. at_queue name (deliver_chosen (matches c.args.selector.now) r.moment f) (rows_in c.args.queues.now)) (left_out r.mode r.session r.consumer later)

@@ -1,7 +1,7 @@
 use Rattle.std.proofs.Common.{[], take, sym, subst}
 use Rattle.jm_pending.specs.Lanes.{Lane, all_rows, IsSoonestOf}
 use Rattle.jm_pending.specs.Chosen.{is_choice, row_of}
-use Rattle.jm_selector.specs.Selectors.{read_selects, selector_read}
+use Rattle.jm_selector.specs.Selectors.{matches}
 use Rattle.jm_pending.proofs.Found.{all_rows_more}
 use Rattle.jm_pending.proofs.lanes.best_spot.Goals as goal
 
@@ -12,7 +12,7 @@ pub loop-i-preserved : goal.loop-i-preserved
 loop-i-preserved c =
     let lanes = c.args.lanes.now in
     let i = c.loop-i.i in
-    let choice = is_choice (read_selects (selector_read c.args.selector.now)) c.args.table.now c.args.now in
+    let choice = is_choice (matches c.args.selector.now) c.args.table.now c.args.now in
     record {
       spot = c.better-best.ensures.spot;
       soonest = subst (λ rows. IsSoonestOf choice rows (row_of c.better-best.result)) (sym (all_rows_more lanes i no_lane c.loop-i-test.true)) (c.better-best.ensures.soonest (all_rows (take i lanes)) no_lane c.loop-i.invariant.soonest);

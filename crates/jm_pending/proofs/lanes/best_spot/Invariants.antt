@@ -2,11 +2,11 @@ use Rattle.std.proofs.Common.{take}
 use Rattle.std.specs.Option.{IfSome}
 use Rattle.jm_pending.specs.Lanes.{all_rows, IsSoonestOf}
 use Rattle.jm_pending.specs.Chosen.{IsSpot, is_choice, row_of}
-use Rattle.jm_selector.specs.Selectors.{read_selects, selector_read}
+use Rattle.jm_selector.specs.Selectors.{matches}
 use Rattle.jm_pending.proofs.lanes.best_spot.Given as goal
 
 abbrev pub invariant-loop-i : goal.invariant-loop-i
 invariant-loop-i l = record {
   spot : IfSome l.best (IsSpot l.lanes);
-  soonest : IsSoonestOf (is_choice (read_selects (selector_read l.selector)) l.table l.now) (all_rows (take l.i l.lanes)) (row_of l.best);
+  soonest : IsSoonestOf (is_choice (matches l.selector) l.table l.now) (all_rows (take l.i l.lanes)) (row_of l.best);
 }

@@ -1,5 +1,5 @@
 use Rattle.std.proofs.Common.{None}
-use Rattle.jm_selector.specs.Selectors.{read_selects, selector_read}
+use Rattle.jm_selector.specs.Selectors.{matches}
 use Rattle.jm_stations.specs.Backlogs.{Backlog, empty}
 use Rattle.jm_core.proofs.QueueCounts.{copy_stays, of_error}
 use Rattle.jm_core.proofs.QueueRows.{rows_found}
@@ -12,4 +12,4 @@ returns-clause-err c name found =
     let at = rw (← c.self.view_is) at found in
     let within = rw (← c.self.view_is) at c.requires.within in
     rw (← c.self.view_is, rows_found i.stations.keys i.stations.list name c.args.index d at within)
-    (of_error _ _ (copy_stays (read_selects (selector_read c.args.selector.now)) c.args.settles c.args.now c.args.index i.stations.next_place i.stations.list d within c.self.invariant.0) c.copy_where.result (c.copy_where.ensures.err d))
+    (of_error _ _ (copy_stays (matches c.args.selector.now) c.args.settles c.args.now c.args.index i.stations.next_place i.stations.list d within c.self.invariant.0) c.copy_where.result (c.copy_where.ensures.err d))

@@ -3,7 +3,7 @@ use Rattle.std.specs.List.{filter}
 use Rattle.std.proofs.lemmas.List.Elements.{filter-append}
 use Rattle.jm_pending.specs.Chosen.{is_choice, next_where}
 use Rattle.jm_pending.specs.Rows.{stays, is_elsewhere, counted}
-use Rattle.jm_selector.specs.Selectors.{read_selects, selector_read}
+use Rattle.jm_selector.specs.Selectors.{matches}
 use Rattle.jm_pending.specs.Holders.{last_message}
 use Rattle.jm_pending.specs.Lanes.{all_rows, rows_of, is_at}
 use Rattle.jm_pending.proofs.Edited.{all_rows_each}
@@ -32,7 +32,7 @@ invariant_of-self-2 c = (
 
 pub returns-in_err-row-clause-rows : goal.returns-in_err-row-clause-rows
 returns-in_err-row-clause-rows c =
-    let first : next_where (read_selects (selector_read c.args.selector.now)) c.args.table.now c.args.now (rows_of c.self.inside.lanes) ≡ c.remove_where.ensures.0 = next_chosen (read_selects (selector_read c.args.selector.now)) c.args.table.now c.drop_expired.new.table c.args.now c.self.inside.lanes c.drop_expired.new.lanes c.self.inside.room c.remove_where.ensures.0 c.self.invariant.0 (covers_all c.args.table.now c.self.inside.lanes (rw (← c.self.view_is) at c.requires)) c.drop_expired.ensures.rows c.drop_expired.ensures.table c.remove_where.ensures.1 in
+    let first : next_where (matches c.args.selector.now) c.args.table.now c.args.now (rows_of c.self.inside.lanes) ≡ c.remove_where.ensures.0 = next_chosen (matches c.args.selector.now) c.args.table.now c.drop_expired.new.table c.args.now c.self.inside.lanes c.drop_expired.new.lanes c.self.inside.room c.remove_where.ensures.0 c.self.invariant.0 (covers_all c.args.table.now c.self.inside.lanes (rw (← c.self.view_is) at c.requires)) c.drop_expired.ensures.rows c.drop_expired.ensures.table c.remove_where.ensures.1 in
     let s = (removed_held c.args.now c.self.inside.lanes c.drop_expired.new.lanes c.remove_where.new.lanes c.self.inside.room c.remove_where.result c.remove_where.ensures.0 c.self.invariant.0 c.drop_expired.ensures.rows c.remove_where.ensures.2).1 in
     rw (← c.self.view_is, first) (none_taken c.remove_where.ensures.0 c.remove_where.result c.from_residual.result (rows_of c.remove_where.new.lanes) (filter (stays c.args.now) (rows_of c.self.inside.lanes)) (λ r. filter (is_elsewhere r.place) (filter (stays c.args.now) (rows_of c.self.inside.lanes))) (λ r. record { row = counted r; message = last_message c.args.table.now r.place }) (λ rows. record { rows = rows; limit = c.self.inside.limit; missed = c.self.inside.missed; room = c.self.inside.room }) s c.in_err-row.was c.from_residual.ensures)
 
@@ -45,7 +45,7 @@ pub release-message-requires : goal.release-message-requires
 release-message-requires c =
     let ys = all_rows c.drop_expired.new.lanes in
     let apart' = dropped_apart c.args.now c.self.inside.lanes c.drop_expired.new.lanes c.self.inside.room c.self.invariant.0 c.drop_expired.ensures.rows in
-    let out = taken_out (is_choice (read_selects (selector_read c.args.selector.now)) c.drop_expired.new.table c.args.now) c.remove_where.result c.in_ok-row.row c.drop_expired.new.lanes c.remove_where.new.lanes apart' c.remove_where.ensures c.in_ok-row.was in
+    let out = taken_out (is_choice (matches c.args.selector.now) c.drop_expired.new.table c.args.now) c.remove_where.result c.in_ok-row.row c.drop_expired.new.lanes c.remove_where.new.lanes apart' c.remove_where.ensures c.in_ok-row.was in
     let covered = covers_after c.args.table.now c.drop_expired.new.table (all_rows c.self.inside.lanes) ys (covers_all c.args.table.now c.self.inside.lanes (rw (← c.self.view_is) at c.requires)) c.drop_expired.ensures.table in
     first_holder (is_at c.in_ok-row.row.place) c.drop_expired.new.table ys c.in_ok-row.row apart' out.0 covered
 
@@ -55,10 +55,10 @@ returns-clause-rows c =
     let ys = all_rows c.drop_expired.new.lanes in
     let is = dropped c.args.now c.self.inside.lanes c.drop_expired.new.lanes c.drop_expired.ensures.rows in
     let apart' = dropped_apart c.args.now c.self.inside.lanes c.drop_expired.new.lanes c.self.inside.room c.self.invariant.0 c.drop_expired.ensures.rows in
-    let out = taken_out (is_choice (read_selects (selector_read c.args.selector.now)) c.drop_expired.new.table c.args.now) c.remove_where.result c.in_ok-row.row c.drop_expired.new.lanes c.remove_where.new.lanes apart' c.remove_where.ensures c.in_ok-row.was in
+    let out = taken_out (is_choice (matches c.args.selector.now) c.drop_expired.new.table c.args.now) c.remove_where.result c.in_ok-row.row c.drop_expired.new.lanes c.remove_where.new.lanes apart' c.remove_where.ensures c.in_ok-row.was in
     let message : c.release-message.result ≡ last_message c.args.table.now c.in_ok-row.row.place =
     c.release-message.ensures.result ∙ first_message (is_at c.in_ok-row.row.place) c.args.table.now c.drop_expired.new.table xs (stays c.args.now) c.in_ok-row.row (apart_from_rising xs c.self.invariant.0.rising) (rw (← is) apart') (rw (← is) out.0) (covers_all c.args.table.now c.self.inside.lanes (rw (← c.self.view_is) at c.requires)) (rw (← is) c.drop_expired.ensures.table) in
-    let first : next_where (read_selects (selector_read c.args.selector.now)) c.args.table.now c.args.now (rows_of c.self.inside.lanes) ≡ c.remove_where.ensures.0 = next_chosen (read_selects (selector_read c.args.selector.now)) c.args.table.now c.drop_expired.new.table c.args.now c.self.inside.lanes c.drop_expired.new.lanes c.self.inside.room c.remove_where.ensures.0 c.self.invariant.0 (covers_all c.args.table.now c.self.inside.lanes (rw (← c.self.view_is) at c.requires)) c.drop_expired.ensures.rows c.drop_expired.ensures.table c.remove_where.ensures.1 in
+    let first : next_where (matches c.args.selector.now) c.args.table.now c.args.now (rows_of c.self.inside.lanes) ≡ c.remove_where.ensures.0 = next_chosen (matches c.args.selector.now) c.args.table.now c.drop_expired.new.table c.args.now c.self.inside.lanes c.drop_expired.new.lanes c.self.inside.room c.remove_where.ensures.0 c.self.invariant.0 (covers_all c.args.table.now c.self.inside.lanes (rw (← c.self.view_is) at c.requires)) c.drop_expired.ensures.rows c.drop_expired.ensures.table c.remove_where.ensures.1 in
     let s = (removed_held c.args.now c.self.inside.lanes c.drop_expired.new.lanes c.remove_where.new.lanes c.self.inside.room c.remove_where.result c.remove_where.ensures.0 c.self.invariant.0 c.drop_expired.ensures.rows c.remove_where.ensures.2).1 in
     rw (← c.self.view_is, first) (some_taken c.remove_where.ensures.0 c.remove_where.result c.in_ok-row.row (record { row = c.counted.result; message = c.release-message.result }) (rows_of c.remove_where.new.lanes) (filter (stays c.args.now) (rows_of c.self.inside.lanes)) (λ r. filter (is_elsewhere r.place) (filter (stays c.args.now) (rows_of c.self.inside.lanes))) (λ r. record { row = counted r; message = last_message c.args.table.now r.place }) (λ rows. record { rows = rows; limit = c.self.inside.limit; missed = c.self.inside.missed; room = c.self.inside.room }) s c.in_ok-row.was (rw (c.counted.ensures, message) refl))
 
@@ -69,7 +69,7 @@ returns-clause-table c =
     let zs = all_rows c.remove_where.new.lanes in
     let row = c.in_ok-row.row in
     let apart' = dropped_apart c.args.now c.self.inside.lanes c.drop_expired.new.lanes c.self.inside.room c.self.invariant.0 c.drop_expired.ensures.rows in
-    let out = taken_out (is_choice (read_selects (selector_read c.args.selector.now)) c.drop_expired.new.table c.args.now) c.remove_where.result row c.drop_expired.new.lanes c.remove_where.new.lanes apart' c.remove_where.ensures c.in_ok-row.was in
+    let out = taken_out (is_choice (matches c.args.selector.now) c.drop_expired.new.table c.args.now) c.remove_where.result row c.drop_expired.new.lanes c.remove_where.new.lanes apart' c.remove_where.ensures c.in_ok-row.was in
     let left : zs ≡ filter (is_elsewhere row.place) ys = all_rows_each (filter (is_elsewhere row.place)) refl (filter-append (is_elsewhere row.place)) c.drop_expired.new.lanes c.remove_where.new.lanes out.1 in
     let gone = first_settled (is_at row.place) c.drop_expired.new.table c.release-message.new.self ys row apart' out.0 c.release-message.ensures.holders c.release-message.ensures.messages in
     rw (← c.self.view_is) (follows_all c.args.table.now c.release-message.new.self c.self.inside.lanes c.remove_where.new.lanes (follows_then c.args.table.now c.drop_expired.new.table c.release-message.new.self xs ys zs (λ p. rw left (filter_count (is_elsewhere row.place) p ys)) c.drop_expired.ensures.table (rw left gone)))

@@ -1,6 +1,6 @@
 use Rattle.std.proofs.Common.{◌≡◌}
 use Rattle.jm_pending.specs.Chosen.{next_where}
-use Rattle.jm_selector.specs.Selectors.{read_selects, selector_read}
+use Rattle.jm_selector.specs.Selectors.{matches}
 use Rattle.jm_pending.specs.Lanes.{rows_of}
 use Rattle.jm_pending.proofs.Holding.{covers_all, follows_taken}
 use Rattle.jm_pending.proofs.Taking.{dropped_apart, known_out, next_chosen, sent_held}
@@ -20,7 +20,7 @@ drop_expired-requires c = covers_all c.args.table.now c.self.inside.lanes (rw (�
 
 pub returns-clause-rows : goal.returns-clause-rows
 returns-clause-rows c =
-    let first : next_where (read_selects (selector_read c.args.selector.now)) c.args.table.now c.args.now (rows_of c.self.inside.lanes) ≡ c.take_where.ensures.0 = next_chosen (read_selects (selector_read c.args.selector.now)) c.args.table.now c.drop_expired.new.table c.args.now c.self.inside.lanes c.drop_expired.new.lanes c.self.inside.room c.take_where.ensures.0 c.self.invariant.0 (covers_all c.args.table.now c.self.inside.lanes (rw (← c.self.view_is) at c.requires)) c.drop_expired.ensures.rows c.drop_expired.ensures.table c.take_where.ensures.1 in
+    let first : next_where (matches c.args.selector.now) c.args.table.now c.args.now (rows_of c.self.inside.lanes) ≡ c.take_where.ensures.0 = next_chosen (matches c.args.selector.now) c.args.table.now c.drop_expired.new.table c.args.now c.self.inside.lanes c.drop_expired.new.lanes c.self.inside.room c.take_where.ensures.0 c.self.invariant.0 (covers_all c.args.table.now c.self.inside.lanes (rw (← c.self.view_is) at c.requires)) c.drop_expired.ensures.rows c.drop_expired.ensures.table c.take_where.ensures.1 in
     rw (← c.self.view_is, first) (sent_held c.args.now c.args.session c.args.consumer c.self.inside.lanes c.drop_expired.new.lanes c.take_where.new.lanes c.self.inside.room c.take_where.result c.take_where.ensures.0 (λ rows. record { rows = rows; limit = c.self.inside.limit; missed = c.self.inside.missed; room = c.self.inside.room }) c.self.invariant.0 c.drop_expired.ensures.rows c.take_where.ensures.2).1
 
 pub returns-clause-table : goal.returns-clause-table

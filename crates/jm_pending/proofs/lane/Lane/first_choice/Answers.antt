@@ -3,7 +3,7 @@ use Rattle.std.proofs.lemmas.List.Elements.{All-weaker}
 use Rattle.jm_pending.specs.Rows.{is_ready}
 use Rattle.jm_pending.specs.Lanes.{IsSoonestOf}
 use Rattle.jm_pending.specs.Chosen.{goes_before, is_better, is_choice, passes}
-use Rattle.jm_selector.specs.Selectors.{read_selects, selector_read}
+use Rattle.jm_selector.specs.Selectors.{matches}
 use Rattle.jm_pending.proofs.Rising.{get_found}
 use Rattle.jm_pending.proofs.Soonest.{lane_soonest, none_soonest}
 use Rattle.jm_pending.proofs.Choice.{fails_left, fails_right}
@@ -16,14 +16,14 @@ first_choice-requires-clause-same c = (c.self.inside.priority, c.self.invariant.
 pub returns-clause-soonest : goal.returns-clause-soonest
 returns-clause-soonest c =
     let rows = c.self.inside.rows.items in
-    let test = is_better c.args.best.now (read_selects (selector_read c.args.selector.now)) c.args.table.now c.args.now in
+    let test = is_better c.args.best.now (matches c.args.selector.now) c.args.table.now c.args.now in
     let is = get_found test rows c.first_choice.result c.first_choice.ensures.before c.first_choice.ensures.found in
     rw (← c.self.view_is) (subst (IsSoonestOf test rows) (sym is) (lane_soonest test rows c.self.inside.priority c.self.invariant.lane.same c.self.invariant.lane.rising))
 
 pub returns-then-get-self-clause-soonest : goal.returns-then-get-self-clause-soonest
 returns-then-get-self-clause-soonest c =
     let best = c.args.best.now in
-    let p = read_selects (selector_read c.args.selector.now) in
+    let p = matches c.args.selector.now in
     let rows = c.self.inside.rows.items in
     let early : c.args.now < c.self.inside.due = omega arith in
     let none = none_ready c.args.now c.self.inside.due rows early c.self.invariant.dues.bound in

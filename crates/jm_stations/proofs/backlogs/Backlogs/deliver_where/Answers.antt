@@ -1,6 +1,6 @@
 use Rattle.std.proofs.Common.{◌≡◌, ◌∙◌, ap, get_or, false}
 use Rattle.std.proofs.lemmas.List.{get_or-map}
-use Rattle.jm_selector.specs.Selectors.{read_selects, selector_read}
+use Rattle.jm_selector.specs.Selectors.{matches}
 use Rattle.jm_stations.specs.Backlogs.{Backlog, copy_wanted_where, delivered_where}
 use Rattle.jm_stations.specs.Kept.{shown, all_shown, sent_off_where}
 use Rattle.jm_stations.proofs.Holders.{covers_one}
@@ -15,12 +15,12 @@ send_where-row-requires-clause-covers c = λ d.
 pub invariant_of-self : goal.invariant_of-self
 invariant_of-self c =
     let inside = within_shown c.self.inside.table c.self.inside.lists.items c.args.index (rw (← c.self.view_is) at c.requires.within) in
-    rw c.send_where-row.ensures.lists (changed_kept c.self.inside.table c.send_where-row.new.table c.self.inside.next_place c.args.index (sent_off_where (read_selects (selector_read c.args.selector.now)) c.self.inside.table c.args.session c.args.consumer c.args.now) (sent_where_backlog (read_selects (selector_read c.args.selector.now)) c.self.inside.table c.self.inside.next_place c.args.session c.args.consumer c.args.now) no_rows c.self.inside.lists.items inside c.self.invariant (c.send_where-row.ensures.table no_rows))
+    rw c.send_where-row.ensures.lists (changed_kept c.self.inside.table c.send_where-row.new.table c.self.inside.next_place c.args.index (sent_off_where (matches c.args.selector.now) c.self.inside.table c.args.session c.args.consumer c.args.now) (sent_where_backlog (matches c.args.selector.now) c.self.inside.table c.self.inside.next_place c.args.session c.args.consumer c.args.now) no_rows c.self.inside.lists.items inside c.self.invariant (c.send_where-row.ensures.table no_rows))
 
 pub returns-clause-list : goal.returns-clause-list
 returns-clause-list c =
     let inside = within_shown c.self.inside.table c.self.inside.lists.items c.args.index (rw (← c.self.view_is) at c.requires.within) in
-    rw (c.send_where-row.ensures.lists, ← c.self.view_is) (changed_seen c.self.inside.table c.send_where-row.new.table c.self.inside.next_place c.args.index (sent_off_where (read_selects (selector_read c.args.selector.now)) c.self.inside.table c.args.session c.args.consumer c.args.now) (delivered_where (read_selects (selector_read c.args.selector.now)) c.args.session c.args.consumer c.args.now) (sent_where_backlog (read_selects (selector_read c.args.selector.now)) c.self.inside.table c.self.inside.next_place c.args.session c.args.consumer c.args.now) (sent_where_shown (read_selects (selector_read c.args.selector.now)) c.self.inside.table c.self.inside.next_place c.args.session c.args.consumer c.args.now) no_rows c.self.inside.lists.items inside c.self.invariant (c.send_where-row.ensures.rising no_rows) (c.send_where-row.ensures.table no_rows))
+    rw (c.send_where-row.ensures.lists, ← c.self.view_is) (changed_seen c.self.inside.table c.send_where-row.new.table c.self.inside.next_place c.args.index (sent_off_where (matches c.args.selector.now) c.self.inside.table c.args.session c.args.consumer c.args.now) (delivered_where (matches c.args.selector.now) c.args.session c.args.consumer c.args.now) (sent_where_backlog (matches c.args.selector.now) c.self.inside.table c.self.inside.next_place c.args.session c.args.consumer c.args.now) (sent_where_shown (matches c.args.selector.now) c.self.inside.table c.self.inside.next_place c.args.session c.args.consumer c.args.now) no_rows c.self.inside.lists.items inside c.self.invariant (c.send_where-row.ensures.rising no_rows) (c.send_where-row.ensures.table no_rows))
 
 pub returns-clause-room : goal.returns-clause-room
 returns-clause-room c = rw (← c.self.view_is) ((c.send_where-row.ensures.table no_rows).messages.room)
@@ -30,6 +30,6 @@ returns-clause-answer c = λ d.
     let t = c.self.inside.table in
     let lists = c.self.inside.lists.items in
     let inside = within_shown t lists c.args.index (rw (← c.self.view_is) at c.requires.within) in
-    let asked : c.args.copy ≡ copy_wanted_where (read_selects (selector_read c.args.selector.now)) false c.args.now (all_shown t lists) (get_or (all_shown t lists) c.args.index d).rows = rw (← c.self.view_is) at (c.requires.copy d) in
-    let copied = asked ∙ ap (λ (b : Backlog). copy_wanted_where (read_selects (selector_read c.args.selector.now)) false c.args.now (all_shown t lists) b.rows) (get_or-map (shown t) lists c.args.index no_rows d inside) in
-    rw (← c.self.view_is, get_or-map (shown t) lists c.args.index no_rows d inside, c.sent_out.ensures) (told_sent_where (read_selects (selector_read c.args.selector.now)) t c.self.inside.next_place c.args.session c.args.consumer c.args.now c.args.index no_rows lists c.send_where-row.result c.args.copy inside c.self.invariant (c.send_where-row.ensures.result no_rows) copied)
+    let asked : c.args.copy ≡ copy_wanted_where (matches c.args.selector.now) false c.args.now (all_shown t lists) (get_or (all_shown t lists) c.args.index d).rows = rw (← c.self.view_is) at (c.requires.copy d) in
+    let copied = asked ∙ ap (λ (b : Backlog). copy_wanted_where (matches c.args.selector.now) false c.args.now (all_shown t lists) b.rows) (get_or-map (shown t) lists c.args.index no_rows d inside) in
+    rw (← c.self.view_is, get_or-map (shown t) lists c.args.index no_rows d inside, c.sent_out.ensures) (told_sent_where (matches c.args.selector.now) t c.self.inside.next_place c.args.session c.args.consumer c.args.now c.args.index no_rows lists c.send_where-row.result c.args.copy inside c.self.invariant (c.send_where-row.ensures.result no_rows) copied)

@@ -1,7 +1,7 @@
 use Rattle.std.proofs.Common.{◌≡◌, subst, List, option_map}
 use Rattle.std.specs.List.{find}
 use Rattle.jm_machine.specs.Machine.{are_meant}
-use Rattle.jm_selector.specs.Selectors.{read_selects, selector_read}
+use Rattle.jm_selector.specs.Selectors.{matches}
 use Rattle.jm_machine.specs.declared.state.PlacedRow.{PlacedRow}
 use Rattle.jm_machine.specs.Wants.{next_chosen}
 use Rattle.jm_stations.specs.Backlogs.{next_placed}
@@ -18,4 +18,4 @@ next_where-requires-clause-own c = own_at c.self.inside.table c.self.inside.list
 pub returns : goal.returns
 returns c = λ d.
     let same = rows_seen c.self.inside.table c.self.inside.lists.items c.args.index c.index.result.now d (rw (← c.self.view_is) at c.requires) c.index.ensures in
-    rw (← c.self.view_is) (subst (λ (rows : List PlacedRow). option_map spec.row_of c.next_where.result ≡ next_chosen (read_selects (selector_read c.args.selector.now)) c.args.now rows) same c.next_where.ensures)
+    rw (← c.self.view_is) (subst (λ (rows : List PlacedRow). option_map spec.row_of c.next_where.result ≡ next_chosen (matches c.args.selector.now) c.args.now rows) same c.next_where.ensures)

@@ -1,7 +1,6 @@
 use Rattle.std.proofs.Common.{◌≡◌, subst, List, option_map}
 use Rattle.std.specs.List.{find}
 use Rattle.jm_machine.specs.Machine.{are_meant}
-use Rattle.jm_selector.specs.Selectors.{read_selects, selector_read}
 use Rattle.jm_machine.specs.declared.state.PlacedRow.{PlacedRow}
 use Rattle.jm_machine.specs.Wants.{next_chosen}
 use Rattle.jm_stations.specs.Backlogs.{next_placed}
