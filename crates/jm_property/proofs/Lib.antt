@@ -1,2 +1,3 @@
 pub mod Parsing
 pub mod Tables
+pub mod Orders

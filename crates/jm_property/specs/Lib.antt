@@ -1,5 +1,5 @@
 pub mod Identifiers
 pub mod Conversions
 pub mod Properties
-pub mod Entries
 pub mod Same
+pub mod Order

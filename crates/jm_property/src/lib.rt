@@ -3,6 +3,7 @@
 #![tactic(auto)]
 
 mod identifier;
+mod order;
 mod properties;
 mod property;
 

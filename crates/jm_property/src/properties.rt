@@ -1,26 +1,34 @@
-ghost use Rattle.std.specs.Prelude.{◌≡◌, ◌<◌, ◌↔◌, [], IfOk, IfErr, IsTrue, MatchResult, Some, None, Ok, if◌then◌else◌, is_some, length, slice_get};
+ghost use Rattle.std.specs.Prelude.{◌≡◌, ◌<◌, ◌↔◌, [], IfOk, IfErr, OnOk, OnErr, IsTrue, MatchResult, Some, None, Ok, if◌then◌else◌, is_some, length, slice_get};
 ghost use Rattle.std.specs.Option.{option_copied, option_map};
 ghost use Rattle.jm_base.specs.declared.refusal.MessageFault.TheVariants.{BadName, Memory, Unset};
 ghost use Rattle.jm_property.specs.Conversions.{as_boolean, as_byte, as_short, as_int, as_long, as_text};
+ghost use Rattle.jm_property.specs.Order.{IsPlaceOf, name_at};
 ghost use Rattle.jm_property.specs.Properties as spec;
+ghost use Rattle.jm_property.specs.Same.{names_of};
 
 use crate::identifier::is_identifier;
+use crate::order::{Entry, add_place, find};
 use crate::property::Property;
-use indexmap::IndexMap;
 use jm_base::{MessageFault, Str};
 use std::alloc::{AllocError, Global};
+use std::fmt;
 use std::marker::Model;
 
 /// The properties of a message (Jakarta Messaging 3.1, section 3.5): distinct names with values, in
 /// the order in which they were first set.
-#[derive(Debug)]
+///
+/// `order` has their places in the order of the names, once there are more than a few.
 pub struct Properties {
-    entries: IndexMap<String, Property>,
+    entries: Vec<Entry>,
+    order: Vec<usize>,
 }
 
 impl Drop for Properties {
     fn drop(self) {
-        let Properties { entries: _entries } = self;
+        let Properties {
+            entries: _entries,
+            order: _order,
+        } = self;
     }
 }
 
@@ -29,12 +37,12 @@ impl Model for Properties {
 
     ghost Value = { Table };
 
-    ghost use Rattle.jm_property.specs.Entries.{table_of};
+    ghost use Rattle.jm_property.specs.Order.{IsIndex};
     ghost use Rattle.jm_property.specs.Properties.{IsTable};
 
-    ghost view = { λ p. table_of p.entries.entries };
+    ghost view = { λ p. p.entries.items };
 
-    ghost invariant = { λ p. IsTable (table_of p.entries.entries) };
+    ghost invariant = { λ p. IsTable p.entries.items × IsIndex p.entries.items p.order.items };
 }
 
 fn is_group_property(name: &str, value: &Property) -> bool
@@ -63,13 +71,24 @@ fn is_allowed(name: &str, value: &Property) -> bool
     is_identifier(name) && (!name.as_bytes().starts_with(b"JMS") || is_group_property(name, value))
 }
 
+fn copy_entries(alloc: Global, entries: &[Entry]) -> Result<Vec<Entry>, AllocError>
+    ensures { IfOk result (λ copies. copies.items ≡ entries.now) }
+{
+    let mut copies = Vec::with_capacity(alloc, entries.len())?;
+    for (name, value) in entries {
+        copies.push((name.copy()?, value.copy()?))?;
+    }
+    Ok(copies)
+}
+
 impl Properties {
     /// No properties. Takes no memory.
     pub fn new(alloc: Global) -> Properties
         ensures { result ≡ [] }
     {
         Properties {
-            entries: IndexMap::new(alloc),
+            entries: Vec::new(alloc),
+            order: Vec::new(alloc),
         }
     }
 
@@ -92,14 +111,21 @@ impl Properties {
     pub fn get(&self, name: &str) -> Option<&Property>
         ensures { option_copied result ≡ spec.value_of self.now name.now }
     {
-        self.entries.get(name)
+        let place = self.place_of(name)?;
+        Some(&self.entries[place].1)
+    }
+
+    fn place_of(&self, name: &str) -> Option<usize>
+        ensures { IsPlaceOf self.now name.now result }
+    {
+        find(&self.entries, &self.order, name)
     }
 
     /// The name at that place, from 0, in the order of first setting.
     pub fn name_at(&self, place: usize) -> Option<&str>
         ensures { option_copied result ≡ option_map (λ entry. entry.0) (slice_get self.now place) }
     {
-        match self.entries.get_index(place) {
+        match self.entries.get(place) {
             None => None,
             Some((name, _)) => Some(name.as_str()),
         }
@@ -109,7 +135,7 @@ impl Properties {
     pub fn entry_at(&self, index: usize) -> Option<(&str, &Property)>
         ensures { option_map (λ entry. (entry.0.now, entry.1.now)) result ≡ slice_get self.now index }
     {
-        match self.entries.get_index(index) {
+        match self.entries.get(index) {
             None => None,
             Some((name, value)) => Some((name.as_str(), value)),
         }
@@ -120,6 +146,7 @@ impl Properties {
         ensures { self.new ≡ [] }
     {
         self.entries.clear();
+        self.order.clear();
     }
 
     /// Sets the property: a name that is there keeps its place, and a new one goes last.
@@ -135,10 +162,40 @@ impl Properties {
         if !is_allowed(name, &value) {
             return Err(MessageFault::BadName);
         }
-        let name = String::from_str(*self.entries.allocator(), name)?;
-        match self.entries.insert(name, value) {
-            Ok(_) => Ok(()),
-            Err(_) => Err(MessageFault::Memory),
+        match self.place_of(name) {
+            None => {
+                self.add(name, value)?;
+                Ok(())
+            }
+            Some(place) => {
+                self.replace(place, value);
+                Ok(())
+            }
+        }
+    }
+
+    /// Gives the name at that place another value.
+    fn replace(&mut self, place: usize, value: Property)
+        requires place { place < length self.old }
+        requires allowed { IsTrue (spec.is_allowed (name_at (names_of self.old) place) value) }
+        ensures { self.new ≡ spec.with_property self.old (name_at (names_of self.old) place) value }
+    {
+        self.entries[place].1 = value;
+    }
+
+    /// Puts a new name behind the others. `AllocError`, and nothing changes, where a request for memory was refused.
+    fn add(&mut self, name: &str, value: Property) -> Result<(), AllocError>
+        requires unset { spec.value_of self.old name.now ≡ None }
+        requires allowed { IsTrue (spec.is_allowed name.now value) }
+        ensures ok { OnOk result (self.new ≡ spec.with_property self.old name.now value) }
+        ensures err { OnErr result (self.new ≡ self.old) }
+    {
+        let own_name = Str::new(String::from_str(*self.entries.allocator(), name)?);
+        self.entries.reserve(1)?;
+        add_place(&self.entries, &mut self.order, name)?;
+        match self.entries.push((own_name, value)) {
+            Ok(()) => Ok(()),
+            Err(_) => Err(AllocError),
         }
     }
 
@@ -221,7 +278,8 @@ impl Properties {
         ensures { IfOk result (λ copy. copy ≡ self.now) }
     {
         Ok(Properties {
-            entries: self.entries.clone()?,
+            entries: copy_entries(*self.entries.allocator(), &self.entries)?,
+            order: self.order.clone()?,
         })
     }
 }
@@ -234,7 +292,33 @@ impl PartialEq for Properties {
     ghost laws = { table_laws };
 
     fn eq(&self, other: &Properties) -> bool {
-        self.entries.keys().as_slice() == other.entries.keys().as_slice()
-            && self.entries.values().as_slice() == other.entries.values().as_slice()
+        self.entries == other.entries
+    }
+}
+
+/// What `Debug` writes of the entries.
+#[derive(Drop)]
+struct AsMap<'a> {
+    entries: &'a [Entry],
+}
+
+impl fmt::Debug for AsMap<'_> {
+    fn fmt<W: fmt::Write>(&self, f: &mut fmt::Formatter<W>) -> fmt::Result {
+        let mut map = f.debug_map();
+        for (name, value) in self.entries {
+            map.entry(name, value);
+        }
+        map.finish()
+    }
+}
+
+impl fmt::Debug for Properties {
+    fn fmt<W: fmt::Write>(&self, f: &mut fmt::Formatter<W>) -> fmt::Result {
+        let entries = AsMap {
+            entries: &self.entries,
+        };
+        f.debug_struct("Properties")
+            .field("entries", &entries)
+            .finish()
     }
 }

@@ -329,6 +329,50 @@ fn order_is_that_of_first_setting(rt: HostRuntime) {
     holds(&rt, "no more", has_no_more(rt.alloc()));
 }
 
+/// More properties than are looked through in turn, in no order of their names.
+static MANY: [(&str, i32); 40] = [("mango", 0), ("Zulu", 1), ("kiwi", 2), ("a", 3), ("b2", 4), ("delta", 5), ("_x", 6), ("quince", 7), ("e1", 8), ("fig", 9), ("$g", 10), ("ibis", 11), ("JMSXGroupSeq", 12), ("lime", 13), ("north", 14), ("oboe", 15), ("pear", 16), ("A", 17), ("red", 18), ("sable", 19), ("tulip", 20), ("umber", 21), ("vetch", 22), ("willow", 23), ("xylem", 24), ("yew", 25), ("zinc", 26), ("aa", 27), ("Ab", 28), ("aB", 29), ("bb0", 30), ("bb1", 31), ("cc10", 32), ("cc9", 33), ("dd", 34), ("ee_", 35), ("ff$", 36), ("g", 37), ("hh", 38), ("i", 39)];
+
+/// The properties of them, each set twice.
+fn many(alloc: Global) -> Properties {
+    let mut properties = Properties::new(alloc);
+    for (name, _) in &MANY {
+        let _ = set(alloc, &mut properties, name, &Value::Int(-1));
+    }
+    for (name, value) in &MANY {
+        let _ = set(alloc, &mut properties, name, &Value::Int(*value));
+    }
+    properties
+}
+
+/// Whether each of them stands where it was first set, and nothing else.
+fn are_in_turn(properties: &Properties) -> bool {
+    for (place, (name, value)) in MANY.iter().enumerate() {
+        if !is_at(properties, place, name, *value) {
+            return false;
+        }
+    }
+    properties.len() == MANY.len() && properties.get("m").is_none()
+}
+
+#[test]
+fn many_are_found(rt: HostRuntime) {
+    let are_found = are_in_turn(&many(rt.alloc()));
+    holds(&rt, "many", are_found);
+}
+
+fn written(alloc: Global) -> Result<String, AllocError> {
+    format!(in alloc; "{:?}", in_turn(alloc))
+}
+
+#[test]
+fn properties_are_written_as_a_map(rt: HostRuntime) {
+    is_text(
+        &rt,
+        "Properties { entries: {\"a\": Int(4), \"JMSXGroupSeq\": Int(2), \"A\": Int(3)} }",
+        written(rt.alloc()),
+    );
+}
+
 /// Whether the copy is the same, and not when the first is cleared.
 fn is_same(copy: &Properties, properties: &mut Properties) -> bool {
     let is_same = copy.is(properties);
