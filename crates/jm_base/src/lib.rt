@@ -1,5 +1,10 @@
 //! The words that every crate of the provider shares: texts and lists that contracts see as their
 //! lists, the refusals, and the acknowledgement modes.
+//!
+//! # Contract
+//!
+//! `Str` is seen as its bytes, `List<T>` as the list of its elements, `Boxed<T>` as its value; a copy is equal. The
+//! names of refusals, of faults of messages, of causes of refused selectors, and the modes.
 #![tactic(auto)]
 
 mod boxed;

@@ -1,5 +1,10 @@
 //! That one lock may be shared by threads, since it owns all that it holds: `Kept_sync` of `proofs/Sent.antt`, which whoever
 //! starts threads cites. A search for it finds no end.
+//!
+//! # Contract
+//!
+//! `Kept_sync`: threads may share the lock round a `Core`, where its keeper may cross threads; `Broker_sync` is that
+//! of a core that keeps nothing; and what an event, a pass and a trace hold may cross threads.
 #![tactic(auto)]
 
 ghost use Rattle.std.specs.Prelude.{◌≡◌};

@@ -1,4 +1,22 @@
 //! What a planned step changes of what is stored: the list of row changes that a keeper is to write.
+//!
+//! # Contract
+//!
+//! `changes` lists what a planned step changes of what is stored: exactly the list that `AreChanges` of `jm_keep`
+//! asks for; where the call is not refused, it leads from what is stored before the step to what is stored after it.
+//!
+//! It reads the step and what is held before it through the trait `Planned`: the keys of subscriptions and queues by
+//! index, the first row by place from a place on that is meant (any, one that has lapsed, one that is out through
+//! given consumers), the row that a delivery takes, a session's mode and consumer, the keys that take each message,
+//! and which subscription was planned to be put or deleted.
+//!
+//! Rows go before their messages, a delivery time directly before its message, and messages and stations come before
+//! their rows, a delivery time directly after its message; whether a message is delayed is read with its row
+//! (`Standing`). A listener that is done looks at one key. A message goes with the last stored row that holds it.
+//!
+//! Listing a settling goes over all keys, and under each over the rows that are out; of each row that goes it is
+//! asked under all keys whether a stored row stays at its place (one look at each key). Nothing is listed of a
+//! message that is not PERSISTENT, nor under a subscription that is not durable.
 #![tactic(auto)]
 
 mod going;

@@ -1,5 +1,10 @@
 //! That threads may share an embedded provider, since a lock is round all that changes: `Provider_sync` of `proofs/Shared.antt`, which
 //! whoever starts threads cites. A search for it finds no end.
+//!
+//! # Contract
+//!
+//! `Provider_sync`: threads may share a provider where they may share the runtime, and where the keeper may cross
+//! threads. Whoever starts threads over a provider cites it.
 #![tactic(auto)]
 
 use jm_client::Provider;

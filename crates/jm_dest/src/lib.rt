@@ -1,5 +1,10 @@
 //! Names and numbers that are within the limits: destinations, clients, subscriptions, moments,
 //! connections, sessions, consumers, and the key of what is held for a queue or a subscription.
+//!
+//! # Contract
+//!
+//! Names, numbers, moments, sessions, destinations and keys that are within the limits: each constructor refuses
+//! exactly what the limits refuse (`BadName`, `OutOfRange`). `Key::is` is `key_eq`.
 #![tactic(auto)]
 
 mod destination;

@@ -1,5 +1,14 @@
 //! The values of selectors over messages (Jakarta Messaging 3.1, section 3.8.1): unknown, truth
 //! values, whole numbers and texts, and the selection of messages.
+//!
+//! # Contract
+//!
+//! `eval` is `value` of the tree over the message's `view`, `condition` the same as a condition; `selects` holds
+//! exactly where the selector is absent or its value is TRUE; `like` and `like_items` are `Fits`, of a pattern as it
+//! is read and of items as they are kept; `==` and `is` are the equality of what contracts see of two values. None
+//! takes memory, and none fails.
+//!
+//! `law_names`: a name that a property may have is one identifier of a selector.
 #![tactic(auto)]
 
 mod arithmetic;

@@ -1,4 +1,13 @@
 //! Why a running core refuses a call: the cause, computed from what the core holds.
+//!
+//! # Contract
+//!
+//! `why` answers of a core and a step exactly `why state who call` of `jm_why`, or that memory is wanted; it changes
+//! nothing. With `law_explained` its answer has a cause exactly where the core's reply is IllegalState or
+//! SubscriptionInUse. Where the step names a subscription it goes over all consumers that were ever made and over the
+//! rows of the subscription. Memory is wanted for no cause behind an `IllegalState`:
+//!
+//! `why` fails only where what is held under a key of a subscription is looked at (`IsNoState`).
 #![tactic(auto)]
 
 mod calls;

@@ -1,4 +1,10 @@
 //! The provider of a store: one that a service embeds, whose persistent messages and durable subscriptions outlast the process.
+//!
+//! # Contract
+//!
+//! `connect` opens the files at a path, or tells Memory or Store; `open` makes a provider over the store of a
+//! connection, which is `jm_store::open` and then `Provider::over`, so that what its lock carries by its type holds
+//! of the store.
 #![tactic(auto)]
 
 mod opening;

@@ -1,4 +1,19 @@
 //! A store is loaded (ours): the rows of its tables, which are read, decoded and made a core again.
+//!
+//! # Contract
+//!
+//! `load`: where the disk is clean, all was committed and the database serves a store (`Serves`), a core of that
+//! opening, with the limit that was given, of which just that is stored what the tables hold (`IsPersisted` of
+//! `stored_in`). Whatever it tells, nothing of the database is changed, and a crash leaves what it could leave
+//! before.
+//!
+//! A refusal is the first fault of the database (`IsFaultOf`): as Damaged, the row that is named is the first, in the
+//! order station, message, held, delayed, and in each by its key, that a store may not have (`IsStation`,
+//! `IsStoredMessage`, `IsHeldRow`, `IsDelayRow`, where the earlier tables have none); or all rows are such rows and
+//! it is the first message that nobody holds or that is delayed and has no row (`IsKept`).
+//!
+//! Memory and Store may come in place of any; no other fault does. So a database that has only what a store may have
+//! (`IsWhole`) is never told as Damaged (`whole`).
 #![tactic(auto)]
 
 mod decoding;

@@ -1,4 +1,16 @@
 //! The lone subscription, executable, and the law of isolation on a core; the laws of the definitions are given out again.
+//!
+//! # Contract
+//!
+//! `entries` is `entries_of`, and `expand` the record of events; `lone_replies` answers `alone` for every list of
+//! entries, legal or not, or `NotUnshared` exactly where the key is not unshared (`is_unshared`): a consumer's own
+//! number names something else in the opening or in a creating call of the list, or a durable one has no client, is
+//! shared in the opening, or is asked for as a shared one in the list.
+//!
+//! It feeds the subscription alone (`Lone`) entry by entry, from an opening whose rows may be out, with what the
+//! record has said so far (`Transactions`), so a commit looks nothing up but its own messages; `law_core_isolation`
+//! is the law on a core that a caller holds, also for a list that is run on the end of another. It gives the laws of
+//! `jm_law` out again.
 #![tactic(auto)]
 
 mod expanded;

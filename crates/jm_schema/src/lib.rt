@@ -1,4 +1,8 @@
 //! Whether two schemas of databases are the same.
+//!
+//! # Contract
+//!
+//! `same_schema`: true only of equal schemas; takes no memory.
 #![tactic(auto)]
 
 ghost use Rattle.std.specs.Prelude.{◌≡◌, IsTrue};

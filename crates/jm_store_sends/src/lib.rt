@@ -1,5 +1,10 @@
 //! That a store may cross threads, where its database may, and so may the one over a file: each part of a connection has its lemma in
 //! the library of the database, so a search finds it.
+//!
+//! # Contract
+//!
+//! `Store<S>` is `Send` where the database's store `S` is, and `Store<FileStore<FileFrom<Unknown>>>`, which `jmsrun`
+//! and `jm_file` use, is `Send` with nothing asked. The lemma stands in `jm_writes` itself, and a search finds it.
 #![tactic(auto)]
 
 ghost use Rattle.std.specs.Prelude.{◌≡◌};

@@ -1,6 +1,37 @@
 //! The subscriptions of topics: which of them accept a message. A
 //! subscription is found by its key, and those of a topic by the table of topics, so that a publication
 //! costs what the subscriptions of its topic cost, however many others there are.
+//!
+//! # Contract
+//!
+//! `Subs` is seen as the list of subscriptions (key and definition) in order of creation, and the room that is left.
+//!
+//! `decide_create` answers a consumer's own new subscription of the topic, the selector's text and `no_local`, or
+//! refuses exactly what `selector_refusal` does, and leaves the list; `decide_named` is for those that have a name:
+//! told whether a consumer of the key is active and whether a row is out, it answers none where the subscription
+//! stands as it is asked for, and else the new one; it refuses what `selector_refusal` does, and then as
+//! SubscriptionInUse what the machine's `may_resume`, `may_join` or `may_share` does, as the kind is (`Sharing`), and
+//! leaves the list too.
+//!
+//! `decide` is for a definition that is handed in as it stands, as one that was stored: it answers the new
+//! subscription and takes the room, and leaves the list. `decide_unsubscribe` says why the one of a key is not
+//! deleted, told the same, and takes no memory.
+//!
+//! `apply` puts a new one last, in place of any other of its key, `delete` ends the one of a key, and neither takes
+//! memory; `definition_of` finds by the hash of a key what its subscription asks for; `accepting` gives the keys of
+//! those that accept a message, published on the connection of its sender, whose client is handed in, in that order;
+//! `accepts_at` says it of one, and takes no memory; `close` ends those subscriptions that end once consumers are
+//! closed (`ended`), and takes none.
+//!
+//! `topics` is the number of distinct topics of the definitions (`number_of_topics`).
+//!
+//! Inside, a subscription is found by the hash of its key, and the keys of each topic stand in order of creation
+//! under the topic's entry in a table, found by its hash, where a topic without subscriptions has no entry
+//! (`IsTableOf`, an invariant of the type): so `position` does not scan, and `accepting` looks at the subscriptions
+//! of the message's topic alone.
+//!
+//! `close`, `delete`, and `apply` where the key stood before, walk over all once. That no other is looked at is read
+//! in the code, not proved.
 #![tactic(auto)]
 
 mod definition;

@@ -1,4 +1,15 @@
 //! The store's writes: each list of changes is one transaction.
+//!
+//! # Contract
+//!
+//! `write` makes all changes of a list in one transaction whose commit is its last call, or none of them, where the
+//! disk is clean at its end: what is stored is `changed_all`, the opening stays, and the database still serves.
+//! Whatever the moment of a crash, what is left is what could be left before or has all the changes (`LeavesOr`), and
+//! after an accepted write only the latter (`LeavesOnly`).
+//!
+//! `Store` is a `Keep` over any store of the library's: never clean once its connection is shut, it counts each
+//! `Device`; `over` takes a connection that is ours and in no transaction, and `into_connection` gives it back so. A
+//! change that the tables cannot hold is answered `Device`; that is not in the contract.
 #![tactic(auto)]
 
 mod columns;
