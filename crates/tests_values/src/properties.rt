@@ -330,7 +330,48 @@ fn order_is_that_of_first_setting(rt: HostRuntime) {
 }
 
 /// More properties than are looked through in turn, in no order of their names.
-static MANY: [(&str, i32); 40] = [("mango", 0), ("Zulu", 1), ("kiwi", 2), ("a", 3), ("b2", 4), ("delta", 5), ("_x", 6), ("quince", 7), ("e1", 8), ("fig", 9), ("$g", 10), ("ibis", 11), ("JMSXGroupSeq", 12), ("lime", 13), ("north", 14), ("oboe", 15), ("pear", 16), ("A", 17), ("red", 18), ("sable", 19), ("tulip", 20), ("umber", 21), ("vetch", 22), ("willow", 23), ("xylem", 24), ("yew", 25), ("zinc", 26), ("aa", 27), ("Ab", 28), ("aB", 29), ("bb0", 30), ("bb1", 31), ("cc10", 32), ("cc9", 33), ("dd", 34), ("ee_", 35), ("ff$", 36), ("g", 37), ("hh", 38), ("i", 39)];
+static MANY: [(&str, i32); 40] = [
+    ("mango", 0),
+    ("Zulu", 1),
+    ("kiwi", 2),
+    ("a", 3),
+    ("b2", 4),
+    ("delta", 5),
+    ("_x", 6),
+    ("quince", 7),
+    ("e1", 8),
+    ("fig", 9),
+    ("$g", 10),
+    ("ibis", 11),
+    ("JMSXGroupSeq", 12),
+    ("lime", 13),
+    ("north", 14),
+    ("oboe", 15),
+    ("pear", 16),
+    ("A", 17),
+    ("red", 18),
+    ("sable", 19),
+    ("tulip", 20),
+    ("umber", 21),
+    ("vetch", 22),
+    ("willow", 23),
+    ("xylem", 24),
+    ("yew", 25),
+    ("zinc", 26),
+    ("aa", 27),
+    ("Ab", 28),
+    ("aB", 29),
+    ("bb0", 30),
+    ("bb1", 31),
+    ("cc10", 32),
+    ("cc9", 33),
+    ("dd", 34),
+    ("ee_", 35),
+    ("ff$", 36),
+    ("g", 37),
+    ("hh", 38),
+    ("i", 39),
+];
 
 /// The properties of them, each set twice.
 fn many(alloc: Global) -> Properties {
