@@ -1,36 +1,50 @@
 -- What stays of a list of keys.
-use Rattle.std.proofs.Common.{◌≡◌, ◌+◌, ◌<◌, length, true, false, List, [], ◌∷◌, ◌++◌, get_or, take, drop, refl, append_assoc, arith, is_ok, if◌then◌else◌, Result, Ok, Err, IsOk, ◌^◌}
+use Rattle.std.proofs.Common.{◌≡◌, ◌+◌, ◌<◌, ◌≤◌, ℕ, suc, length, Bool, true, false, cond, List, [], ◌∷◌, ◌++◌, None, Some, take, drop, refl, sym, ap, ◌∙◌, arith}
+use Rattle.std.specs.Prelude.{nat_lt, position}
+use Rattle.std.specs.List.{position_or_len}
+use Rattle.std.proofs.lemmas.Bool.Decides.{nat_tests}
+use Rattle.std.proofs.lemmas.List.{append-nil, take_all}
+use Rattle.std.proofs.Math.ListN.{drop_of_length-le}
 use Rattle.jm_dest.specs.declared.key.Key.{Key}
 use Rattle.jm_sub.specs.declared.ending.Ending.{Ending}
 use Rattle.jm_sub.specs.Topics.{ends, left}
 
--- the first key ends
-pub first_ends : (ending : Ending) (keys : List Key) (k : Key) → 0 < length keys → k ≡ get_or keys 0 k → ends ending k ≡ true → left ending (drop 1 keys) ≡ left ending keys
-first_ends ending [] k h at e = absurd (omega arith)
-first_ends ending (x ∷ keys) k h at e = rw (← at, e) refl
+module _ (ending : Ending) where
+  -- where the first key that ends stands, or the length
+  abbrev first : List Key → ℕ
+  first keys = position_or_len (ends ending) keys
 
--- the first key stays
-pub first_stays : (ending : Ending) (keys : List Key) (k : Key) → 0 < length keys → k ≡ get_or keys 0 k → ends ending k ≡ false → take 1 keys ++ left ending (drop 1 keys) ≡ left ending keys
-first_stays ending [] k h at e = absurd (omega arith)
-first_stays ending (x ∷ keys) k h at e = rw (← at, e) refl
+  -- before it stands what stays
+  split : (keys : List Key) → take (first keys) keys ++ left ending (drop 1 (drop (first keys) keys)) ≡ left ending keys
+  split [] = refl
+  split (k ∷ keys) = by (ends ending k) refl (split keys)
+    where
+      next : 1 + first keys ≡ suc (first keys)
+      next = omega arith
 
--- without the first key there is one less
-pub one_less : (keys : List Key) → 0 < length keys → (length (drop 1 keys) + 1 ≡ length keys) × (length (take 1 keys) ≡ 1)
-one_less [] h = absurd (omega arith)
-one_less (x ∷ keys) h = (omega arith, refl)
+      by : (b : Bool) → ends ending k ≡ b → take (first keys) keys ++ left ending (drop 1 (drop (first keys) keys)) ≡ left ending keys →
+          take (first (k ∷ keys)) (k ∷ keys) ++ left ending (drop 1 (drop (first (k ∷ keys)) (k ∷ keys))) ≡ left ending (k ∷ keys)
+      by true e rest = rw e refl
+      by false e rest = rw (e, next) (ap (λ ks. k ∷ ks) rest)
 
-module _ (ending : Ending) (all kept keys others kept' : List Key) (k : Key) (present : 0 < length keys) (at : k ≡ get_or keys 0 k) (rest : others ≡ drop 1 keys)
-    (so_far : kept ++ left ending keys ≡ left ending all) where
-  -- a step at a key that ends
-  pub step_ends : kept' ≡ kept → ends ending k ≡ true → kept' ++ left ending others ≡ left ending all
-  step_ends same e = rw (same, rest, first_ends ending keys k present at e) so_far
+  -- where one was found
+  pub first_found : (keys : List Key) (at : ℕ) → position (ends ending) keys ≡ Some at → (at < length keys) × (take at keys ++ left ending (drop 1 (drop at keys)) ≡ left ending keys)
+  first_found keys at h = by (nat_lt (first keys) (length keys)) refl h
+    where
+      by : (b : Bool) → nat_lt (first keys) (length keys) ≡ b → cond b (Some (first keys)) None ≡ Some at →
+          (at < length keys) × (take at keys ++ left ending (drop 1 (drop at keys)) ≡ left ending keys)
+      by true within is =
+          let same : first keys ≡ at = cc in
+          let lt : first keys < length keys = grind (arith, nat_tests) in
+          (rw (← same) lt, rw (← same) (split keys))
+      by false out is = cc
 
-  -- a step at a key that stays
-  pub step_stays : kept' ≡ kept ++ take 1 keys → ends ending k ≡ false → kept' ++ left ending others ≡ left ending all
-  step_stays more e = rw (more, rest, append_assoc, first_stays ending keys k present at e) so_far
-
--- an append that there is room for
-pub appended : {E : Type 0} (r : Result (Unit {0}) E) (kept more kept' : List Key) → kept' ≡ (if is_ok r then kept ++ more else kept) → (length kept + length more < 2 ^ 63 → IsOk r) →
-    length kept + length more < 2 ^ 63 → kept' ≡ kept ++ more
-appended (Ok x) kept more kept' h s fits = h
-appended (Err e) kept more kept' h s fits = let never : false ≡ true = s fits in cc
+  -- where none was, each stays
+  pub none_ends : (keys : List Key) → position (ends ending) keys ≡ None → left ending keys ≡ keys
+  none_ends keys h = by (nat_lt (first keys) (length keys)) refl h
+    where
+      by : (b : Bool) → nat_lt (first keys) (length keys) ≡ b → cond b (Some (first keys)) None ≡ None → left ending keys ≡ keys
+      by true within is = cc
+      by false out is =
+          let past : length keys ≤ first keys = grind (arith, nat_tests) in
+          sym (split keys) ∙ (λ i. take_all (first keys) keys past i ++ left ending (drop 1 (drop_of_length-le keys past i))) ∙ append-nil keys

@@ -1,5 +1,6 @@
 mod Left
 mod Entries
 mod Table
+mod Shared
 mod Listed
 mod Accepting

@@ -1,7 +1,8 @@
 -- The table of topics agrees with the list.
-use Rattle.std.proofs.Common.{◌≡◌, ◌+◌, ◌≤◌, ◌<◌, ◌^◌, ℕ, suc, length, Bool, true, false, true≢false, cond, List, [], ◌∷◌, ◌++◌, None, Some, refl, sym, ap, ◌∙◌, arith, is_some, unwrap_or}
+use Rattle.std.proofs.Common.{◌≡◌, ◌+◌, ◌≤◌, ◌<◌, ◌^◌, ℕ, suc, length, Bool, true, false, true≢false, cond, List, [], ◌∷◌, ◌++◌, Bor, None, Some, refl, sym, ap, subst, ◌∙◌, arith, is_some, unwrap_or}
 use Rattle.std.specs.Prelude.{not, filter, map, option_and_then}
-use Rattle.std.specs.Map.{lookup}
+use Rattle.std.specs.List.{AllByRecursion, IsDistinct, list_any}
+use Rattle.std.specs.Map.{keys_of, lookup, remove_entry}
 use Rattle.std.specs.Set.{is_member}
 use Rattle.std.proofs.lemmas.Cmp.{nat_list_eq_equiv}
 use Rattle.jm_dest.specs.declared.key.Key.{Key}
@@ -9,11 +10,12 @@ use Rattle.jm_dest.specs.Keys.{key_eq}
 use Rattle.jm_dest.specs.Names.{text_eq}
 use Rattle.jm_machine.specs.declared.state.Definition.{Definition}
 use Rattle.jm_sub.specs.declared.ending.Ending.{Ending}
+use Rattle.jm_sub.specs.declared.ending.Ending.TheVariants.{Of}
 use Rattle.jm_sub.specs.declared.topics.Topics.{Topics}
 use Rattle.jm_sub.specs.Entries.{IsNew, subscription_of, subscriptions_of}
 use Rattle.jm_sub.specs.Subscriptions.{Subscription, without}
 use Rattle.jm_sub.specs.Topics.{IsTableOf, at_least_one, ends, keys_at, keys_to, left}
-use Rattle.jm_machine.proofs.Keys.{key_sym, set_eq, set_is, text_same}
+use Rattle.jm_machine.proofs.Keys.{key_same, key_sym, set_eq, set_is, text_same}
 
 -- those of the subscriptions that stay
 abbrev pub staying : Ending → List Subscription → List Subscription
@@ -63,6 +65,71 @@ without_absent key (e ∷ es) h = by (set_eq key e.0) refl (without_absent key e
         let apart : key_eq e.0 key ≡ false = key_sym e.0 key ∙ sym (set_is key e.0) ∙ this in
         let later : is_some (lookup (set_eq key) es) ≡ false = sym (ap (λ b. is_some (cond b (Some e.1) (lookup (set_eq key) es))) this) ∙ h in
         rw apart (ap (λ ss. subscription_of e ∷ ss) (rest later))
+
+-- no entry has a key that differs from all
+absent : (key : Key) (es : List (Key × Definition)) → AllByRecursion (λ k. set_eq key k ≡ false) (keys_of es) → is_some (lookup (set_eq key) es) ≡ false
+absent key [] apart = refl
+absent key (e ∷ es) apart = rw apart.0 (absent key es apart.1)
+
+-- the entry of a key is its subscription alone
+pub without_entry : (key : Key) (es : List (Key × Definition)) → IsDistinct set_eq (keys_of es) → subscriptions_of (remove_entry (set_eq key) es) ≡ without key (subscriptions_of es)
+unfolding IsDistinct
+without_entry key [] d = refl
+without_entry key (e ∷ es) d = by (set_eq key e.0) refl (without_entry key es d.1)
+  where
+    by : (b : Bool) → set_eq key e.0 ≡ b → subscriptions_of (remove_entry (set_eq key) es) ≡ without key (subscriptions_of es) → subscriptions_of (remove_entry (set_eq key) (e ∷ es)) ≡ without key (subscriptions_of (e ∷ es))
+    by true this rest =
+        let same : e.0 ≡ key = sym (key_same key e.0 (sym (set_is key e.0) ∙ this)) in
+        rw (this, key_sym e.0 key ∙ sym (set_is key e.0) ∙ this) (without_absent key es (absent key es (subst (λ k. AllByRecursion (λ x. set_eq k x ≡ false) (keys_of es)) same d.0)))
+    by false this rest = rw (this, key_sym e.0 key ∙ sym (set_is key e.0) ∙ this) (ap (λ ss. subscription_of e ∷ ss) rest)
+
+-- the keys of a topic, after one subscription before them
+keys_behind : (topic : List ℕ) (s : Subscription) (ss ss' : List Subscription) → keys_to topic ss ≡ keys_to topic ss' → keys_to topic (s ∷ ss) ≡ keys_to topic (s ∷ ss')
+keys_behind topic s ss ss' rest = by (text_eq s.definition.topic topic)
+  where
+    by : (b : Bool) → map (λ (x : Subscription). x.key) (cond b (s ∷ filter (λ x. text_eq x.definition.topic topic) ss) (filter (λ x. text_eq x.definition.topic topic) ss))
+        ≡ map (λ (x : Subscription). x.key) (cond b (s ∷ filter (λ x. text_eq x.definition.topic topic) ss') (filter (λ x. text_eq x.definition.topic topic) ss'))
+    by true = ap (λ ks. s.key ∷ ks) rest
+    by false = rest
+
+-- without a subscription of another topic they are the same
+keys_elsewhere : (key : Key) (topic : List ℕ) (d : Definition) → text_eq d.topic topic ≡ false → (es : List (Key × Definition)) → lookup (set_eq key) es ≡ Some d →
+    keys_to topic (subscriptions_of (remove_entry (set_eq key) es)) ≡ keys_to topic (subscriptions_of es)
+keys_elsewhere key topic d other [] is = cc
+keys_elsewhere key topic d other (e ∷ es) is = by (set_eq key e.0) refl is (keys_elsewhere key topic d other es)
+  where
+    by : (b : Bool) → set_eq key e.0 ≡ b → cond b (Some e.1) (lookup (set_eq key) es) ≡ Some d →
+        (lookup (set_eq key) es ≡ Some d → keys_to topic (subscriptions_of (remove_entry (set_eq key) es)) ≡ keys_to topic (subscriptions_of es)) →
+        keys_to topic (subscriptions_of (remove_entry (set_eq key) (e ∷ es))) ≡ keys_to topic (subscriptions_of (e ∷ es))
+    by true this found rest =
+        let same : e.1 ≡ d = cc in
+        let apart : text_eq e.1.topic topic ≡ false = ap (λ (x : Definition). text_eq x.topic topic) same ∙ other in
+        rw (this, apart) refl
+    by false that found rest = rw that (keys_behind topic (subscription_of e) (subscriptions_of (remove_entry (set_eq key) es)) (subscriptions_of es) (rest found))
+
+-- the table after the subscription of a key ended
+pub deleted_table : (key : Bor Key) (d : Definition) (old new : Topics) (es es' : List (Key × Definition)) → IsDistinct set_eq (keys_of es) → lookup (set_eq key.now) es ≡ Some d →
+    es' ≡ remove_entry (set_eq key.now) es → IsTableOf (subscriptions_of es) old →
+    ((t : List ℕ) → keys_at new t ≡ cond (text_eq d.topic t) (option_and_then (λ keys. at_least_one (left (Of key) keys)) (keys_at old t)) (keys_at old t)) → IsTableOf (subscriptions_of es') new
+deleted_table key d old new es es' distinct found gone table after = λ t.
+    after t ∙ by t (text_eq d.topic t) refl ∙ ap (λ xs. at_least_one (keys_to t (subscriptions_of xs))) (sym gone)
+  where
+    by : (t : List ℕ) (b : Bool) → text_eq d.topic t ≡ b → cond (text_eq d.topic t) (option_and_then (λ keys. at_least_one (left (Of key) keys)) (keys_at old t)) (keys_at old t)
+        ≡ at_least_one (keys_to t (subscriptions_of (remove_entry (set_eq key.now) es)))
+    by t true there = rw there (
+        ap (option_and_then (λ keys. at_least_one (left (Of key) keys))) (table t) ∙ cut_entry (Of key) (keys_to t (subscriptions_of es))
+        ∙ ap at_least_one (sym (keys_left (Of key) t (subscriptions_of es))) ∙ ap (λ xs. at_least_one (keys_to t xs)) (sym (without_entry key.now es distinct)))
+    by t false other = rw other (table t ∙ ap at_least_one (sym (keys_elsewhere key.now t d other es found)))
+
+-- where no key ends, all stay
+pub all_stay : (ending : Ending) (es : List (Key × Definition)) → list_any (ends ending) (keys_of es) ≡ false → subscriptions_of es ≡ staying ending (subscriptions_of es)
+all_stay ending [] h = refl
+all_stay ending (e ∷ es) h = by (ends ending e.0) refl (all_stay ending es)
+  where
+    by : (b : Bool) → ends ending e.0 ≡ b → (list_any (ends ending) (keys_of es) ≡ false → subscriptions_of es ≡ staying ending (subscriptions_of es)) →
+        subscriptions_of (e ∷ es) ≡ staying ending (subscriptions_of (e ∷ es))
+    by true goes rest = absurd (true≢false (rw goes at h))
+    by false stays rest = rw stays (ap (λ ss. subscription_of e ∷ ss) (rest (rw stays at h)))
 
 -- the key of what was taken out is new
 pub new_without : (key : Key) (ss : List Subscription) → IsNew key (without key ss)

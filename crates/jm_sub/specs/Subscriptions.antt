@@ -1,10 +1,11 @@
 -- Subscriptions in order of creation, at most one a key.
-use Rattle.std.specs.Prelude.{ℕ, Bool, ◌&&◌, not, Option, None, Some, List, [], ◌∷◌, ◌++◌, filter, find, is_some, map, option_map, if◌then◌else◌}
+use Rattle.std.specs.Prelude.{ℕ, Bool, true, false, ◌&&◌, not, Option, None, Some, List, [], ◌∷◌, ◌++◌, filter, find, is_some, map, option_map, count_by, if◌then◌else◌}
 use Rattle.std.specs.Set.{distinct_count}
 use Rattle.jm_base.specs.declared.refusal.Refusal.{Refusal}
 use Rattle.jm_base.specs.declared.refusal.Refusal.TheVariants.{InvalidDestination, SubscriptionInUse}
 use Rattle.jm_dest.specs.Names.{text_eq}
 use Rattle.jm_dest.specs.declared.key.Key.{Key}
+use Rattle.jm_dest.specs.declared.key.Key.TheVariants.{Queue, Own, SharedOwn, Durable}
 use Rattle.jm_dest.specs.Keys.{key_eq}
 use Rattle.jm_header.specs.declared.content.Content.{Content}
 use Rattle.jm_machine.specs.declared.state.Definition.{Definition}
@@ -67,3 +68,14 @@ without_ended which left subscriptions = filter (λ s. not (ended which left s.k
 -- how many topics the subscriptions have, where those of one topic count once
 abbrev pub number_of_topics : List Subscription → ℕ
 number_of_topics subscriptions = distinct_count text_eq (map (λ s. s.definition.topic) subscriptions)
+
+-- the key is of a shared subscription that is not durable
+abbrev pub is_shared_own : Key → Bool
+is_shared_own (Queue name) = false
+is_shared_own (Own s c) = false
+is_shared_own (SharedOwn client name) = true
+is_shared_own (Durable client name) = false
+
+-- how many of the subscriptions are shared and not durable
+abbrev pub number_of_shared : List Subscription → ℕ
+number_of_shared subscriptions = count_by (λ s. is_shared_own s.key) subscriptions

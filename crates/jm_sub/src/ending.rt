@@ -1,6 +1,7 @@
 //! Which subscriptions end.
 
-ghost use Rattle.std.specs.Prelude.{◌≡◌};
+ghost use Rattle.std.specs.Prelude.{◌≡◌, if◌then◌else◌};
+ghost use Rattle.jm_sub.specs.Subscriptions.{is_shared_own};
 ghost use Rattle.jm_sub.specs.Topics as spec;
 
 use jm_dest::Key;
@@ -24,5 +25,15 @@ impl Ending<'_> {
             Ending::With(which, attached) => attached.ends(which, key),
             Ending::Of(other) => key.is(other),
         }
+    }
+}
+
+/// How many shared subscriptions that are not durable have the key: one, or none by its kind.
+pub(crate) fn shared_own(key: &Key) -> usize
+    ensures { result ≡ (if is_shared_own key.now then 1 else 0) }
+{
+    match key {
+        Key::SharedOwn(_, _) => 1,
+        Key::Queue(_) | Key::Own(_, _) | Key::Durable(_, _) => 0,
     }
 }

@@ -30,8 +30,10 @@
 //! (`IsTableOf`, an invariant of the type): so `position` does not scan, and `accepting` looks at the subscriptions
 //! of the message's topic alone.
 //!
-//! `close`, `delete`, and `apply` where the key stood before, walk over all once. That no other is looked at is read
-//! in the code, not proved.
+//! `delete`, `apply` where the key stood before, and `close` of one consumer go over the keys of one topic alone;
+//! `close` of several, and of one where a subscription is shared and not durable, looks through all keys, and changes
+//! the list and the table in a walk over each only where one ends. That no other is looked at is read in the code,
+//! not proved.
 #![tactic(auto)]
 
 mod definition;

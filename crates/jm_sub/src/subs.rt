@@ -1,11 +1,14 @@
 //! The subscriptions in order of creation.
 
-ghost use Rattle.std.specs.Prelude.{◌≡◌, ◌≢◌, ◌+◌, ◌<◌, ◌≤◌, ◌==◌, ◌++◌, [], ◌∷◌, true, false, length, not, filter, slice_get, option_map, position, IfOk, IfErr, IfSome, MatchResult, OnOk, None, Some};
+ghost use Rattle.std.specs.Prelude.{◌≡◌, ◌≢◌, ◌+◌, ◌<◌, ◌≤◌, ◌==◌, ◌++◌, [], ◌∷◌, true, false, length, not, filter, count_by, slice_get, option_map, position, IfOk, IfErr, IfSome, MatchResult, OnOk, None, Some};
+ghost use Rattle.std.specs.List.{list_any};
 ghost use Rattle.std.specs.Option.{option_copied};
-ghost use Rattle.indexmap.specs.IndexMap.{spare};
+ghost use Rattle.indexmap.specs.IndexMap.{keys, spare};
 ghost use Rattle.jm_base.specs.declared.refusal.Refusal.TheVariants.{Memory, SubscriptionInUse};
 ghost use Rattle.jm_dest.specs.declared.key.Key.{Key};
+ghost use Rattle.jm_dest.specs.declared.key.Key.TheVariants.{Own};
 ghost use Rattle.jm_dest.specs.Keys.{key_eq};
+ghost use Rattle.jm_machine.specs.declared.consumers.Consumers.TheVariants.{One};
 ghost use Rattle.jm_machine.specs.Machine as machine;
 ghost use Rattle.jm_machine.specs.Machine.{first_cause, unless};
 ghost use Rattle.jm_selector.specs.Selectors.{selector_refusal};
@@ -16,24 +19,26 @@ ghost use Rattle.jm_sub.specs.Subscriptions.{needed, number_of_topics, publisher
 ghost use Rattle.jm_sub.specs.Topics.{ends};
 
 use crate::definition::{accepts, defined, is_same, wants};
-use crate::ending::Ending;
+use crate::ending::{Ending, shared_own};
 use crate::sharing::Sharing;
 use crate::topics::Topics;
 use indexmap::IndexMap;
 use jm_base::{Refusal, Str};
-use jm_dest::{ClientId, Destination, Key, Name};
+use jm_dest::{ClientId, ConsumerId, Destination, Key, Name, SessionId};
 use jm_header::Message;
 use jm_machine::{Attached, Consumers, Definition};
 use std::alloc::{AllocError, Global};
 use std::collections::LinkedList;
 use std::marker::Model;
 
-/// The subscriptions in order of creation, each found by its key, and those of each topic by the table of topics. Contracts see the list of keys and
-/// definitions, and `spare`, for how many more there is room.
+/// The subscriptions in order of creation, each found by its key, and those of each topic by the table of topics;
+/// `shared` is how many are shared and not durable: such a one may end with any consumer. Contracts see the list of keys
+/// and definitions, and `spare`, for how many more there is room.
 pub struct Subs {
     alloc: Global,
     items: IndexMap<Key, Definition>,
     topics: Topics,
+    shared: usize,
 }
 
 impl Drop for Subs {
@@ -42,15 +47,16 @@ impl Drop for Subs {
             alloc: _alloc,
             items: _items,
             topics: _topics,
+            shared: _shared,
         } = self;
     }
 }
 
 impl Model for Subs {
-    ghost use Rattle.std.specs.Prelude.{min};
+    ghost use Rattle.std.specs.Prelude.{◌≡◌, min};
     ghost use Rattle.indexmap.specs.IndexMap.{spare};
     ghost use Rattle.jm_sub.specs.Entries.{subscriptions_of};
-    ghost use Rattle.jm_sub.specs.Subscriptions.{Subscriptions};
+    ghost use Rattle.jm_sub.specs.Subscriptions.{Subscriptions, number_of_shared};
     ghost use Rattle.jm_sub.specs.Topics.{IsTableOf, room};
 
     ghost Value = { Subscriptions };
@@ -60,7 +66,8 @@ impl Model for Subs {
       spare = min (spare s.items) (room s.topics);
     } };
 
-    ghost invariant = { λ s. IsTableOf (subscriptions_of s.items.entries) s.topics };
+    ghost invariant = { λ s. IsTableOf (subscriptions_of s.items.entries) s.topics
+        × (s.shared ≡ number_of_shared (subscriptions_of s.items.entries)) };
 }
 
 /// A change that was decided: the creation of a subscription, with all that the table of topics takes for
@@ -126,6 +133,24 @@ fn put_last(items: &mut IndexMap<Key, Definition>, key: Key, created: Definition
     ensures spare { spare items.old ≤ spare items.new + 1 }
 {
     drop(items.insert(key, created));
+}
+
+/// Whether the key of one of them ends.
+fn is_any_ending(items: &IndexMap<Key, Definition>, ending: &Ending) -> bool
+    ensures { result ≡ list_any (ends ending.now) (keys items.now) }
+{
+    items.keys().any(|key| ending.ends(key))
+}
+
+/// How many of them are shared and not durable.
+fn number_of_shared(items: &IndexMap<Key, Definition>) -> usize
+    ensures { result ≡ count_by spec.is_shared_own (keys items.now) }
+{
+    let mut number = 0;
+    for key in items.keys().as_slice() {
+        number += shared_own(key);
+    }
+    number
 }
 
 /// The key, as a list of its own.
@@ -195,6 +220,7 @@ impl Subs {
             alloc,
             items: IndexMap::new(alloc),
             topics: Topics::new(alloc),
+            shared: 0,
         }
     }
 
@@ -390,14 +416,19 @@ impl Subs {
         self.add(decision);
     }
 
-    /// Ends the subscription of the key, if there is one. It is found by its hash. Takes no memory.
+    /// Ends the subscription of the key, if there is one. It is found by its hash, and in the table of topics only the
+    /// keys of its topic are gone over. Takes no memory.
     pub fn delete(&mut self, key: &Key)
         ensures list { self.new.list ≡ without key.now self.old.list }
         ensures spare { self.old.spare ≤ self.new.spare }
     {
-        if self.items.contains_key(key) {
-            self.remove(&Ending::Of(key));
-        }
+        // The length is what says that each key stands once.
+        let _number = self.items.len();
+        let Some(definition) = self.items.shift_remove(key) else {
+            return;
+        };
+        self.shared -= shared_own(key);
+        self.topics.leave(&definition.topic, &Ending::Of(key));
     }
 
     /// Ends the subscriptions that end once these consumers are closed, where `attached` has the numbers of those that
@@ -406,7 +437,35 @@ impl Subs {
         ensures list { self.new.list ≡ without_ended which.now attached.now self.old.list }
         ensures spare { self.old.spare ≤ self.new.spare }
     {
-        self.remove(&Ending::With(which, attached));
+        match which {
+            Consumers::One(session, id) => self.close_one(session, *id, attached),
+            Consumers::OfConnection(_) | Consumers::OfSession(_) => {
+                self.remove(&Ending::With(which, attached));
+            }
+        }
+    }
+
+    /// Ends the subscriptions that end once that consumer is closed: its own, which is found by its hash; the others are
+    /// looked at only where one of them is shared and not durable. Takes no memory.
+    fn close_one(&mut self, session: &SessionId, id: ConsumerId, attached: &Attached)
+        ensures list { self.new.list ≡ without_ended (One session.now id) attached.now self.old.list }
+        ensures spare { self.old.spare ≤ self.new.spare }
+    {
+        self.delete_own(session, id);
+        if self.shared == 0 {
+            return;
+        }
+        let which = Consumers::One(*session, id);
+        self.remove(&Ending::With(&which, attached));
+    }
+
+    /// Ends the own subscription of the session's consumer of that number, if there is one. Takes no memory.
+    fn delete_own(&mut self, session: &SessionId, id: ConsumerId)
+        ensures list { self.new.list ≡ without (Own session.now id) self.old.list }
+        ensures spare { self.old.spare ≤ self.new.spare }
+    {
+        let own = Key::Own(*session, id);
+        self.delete(&own);
     }
 
     /// Adds the subscription that was decided, of which no other has the key. Takes no memory.
@@ -422,19 +481,25 @@ impl Subs {
             topic,
             keys,
         } = decision;
+        let more = shared_own(&key);
         put_last(&mut self.items, key, created);
-        // The length is what says that the keys of a topic, which are as many at most, can be counted.
+        // The length is what says that what is as many at most, as the keys of a topic, can be counted.
         let _number = self.items.len();
+        self.shared += more;
         self.topics.join(topic, keys);
     }
 
-    /// Ends the subscriptions that are meant, in a walk over all; the others stay, in their order. Takes no
-    /// memory.
+    /// Ends the subscriptions that are meant, in a walk over all; the others stay, in their order. Where none is meant,
+    /// that is found in a walk over the keys, and nothing moves. Takes no memory.
     fn remove(&mut self, ending: &Ending)
         ensures list { self.new.list ≡ filter (λ s. not (ends ending.now s.key)) self.old.list }
         ensures spare { self.old.spare ≤ self.new.spare }
     {
+        if !is_any_ending(&self.items, ending) {
+            return;
+        }
         self.items.retain(|key, _| !ending.ends(key));
         self.topics.remove(ending);
+        self.shared = number_of_shared(&self.items);
     }
 }

@@ -1,10 +1,10 @@
 //! The table of topics.
 
-ghost use Rattle.std.specs.Prelude.{◌≡◌, [], ◌+◌, ◌<◌, ◌≤◌, ◌++◌, ◌^◌, ℕ, List, length, true, false, not, is_some, filter, IfOk, OnOk, None, Some, unwrap_or, option_and_then, if◌then◌else◌};
+ghost use Rattle.std.specs.Prelude.{◌≡◌, [], ◌+◌, ◌<◌, ◌≤◌, ◌++◌, ◌^◌, ℕ, List, length, true, false, not, is_some, filter, position, IfOk, MatchOption, OnOk, None, Some, unwrap_or, option_and_then, if◌then◌else◌};
 ghost use Rattle.std.specs.Option.{option_copied};
 ghost use Rattle.std.specs.Set.{distinct_count, is_member};
 ghost use Rattle.jm_dest.specs.Names.{text_eq};
-ghost use Rattle.jm_sub.specs.Topics.{at_least_one, keys_at, left, room};
+ghost use Rattle.jm_sub.specs.Topics.{at_least_one, ends, keys_at, left, room};
 
 use crate::ending::Ending;
 use indexmap::IndexMap;
@@ -29,24 +29,41 @@ impl Drop for Topics {
     }
 }
 
-/// Takes the keys that end out, and leaves the others in their order. Takes no memory.
+/// Where the first key that ends stands, if there is one.
+fn first_that_ends(keys: &LinkedList<Key>, ending: &Ending) -> Option<usize>
+    ensures { result ≡ position (ends ending.now) keys.now }
+{
+    keys.iter().position(|key| ending.ends(key))
+}
+
+/// Takes the first key that ends out, where there is one: those before it stay, and those behind it are handed out.
+/// Takes no memory.
+fn split_at_end(keys: &mut LinkedList<Key>, ending: &Ending) -> Option<LinkedList<Key>>
+    ensures { MatchOption result
+        ((keys.new ≡ keys.old) × (left ending.now keys.old ≡ keys.old))
+        (λ behind. (keys.new ++ left ending.now behind ≡ left ending.now keys.old) × (length keys.new + length behind + 1 ≡ length keys.old)) }
+{
+    let at = first_that_ends(keys, ending)?;
+    let Ok(mut behind) = keys.split_off(at) else {
+        return None;
+    };
+    drop(behind.pop_front());
+    Some(behind)
+}
+
+/// Takes the keys that end out, and leaves the others in their order: what stands between two that end moves as one, and
+/// where none ends, nothing changes. Takes no memory.
 fn remove_from(alloc: Global, keys: &mut LinkedList<Key>, ending: &Ending)
     ensures { keys.new ≡ left ending.now keys.old }
 {
+    // The length is what says that the keys can be counted.
+    let _number = keys.len();
     let mut kept = LinkedList::new(alloc);
-    for _ in 0..keys.len() {
-        let Some(key) = keys.front() else {
-            break;
-        };
-        let ends = ending.ends(key);
-        let Ok(others) = keys.split_off(1) else {
-            break;
-        };
-        if !ends {
-            let _ = kept.append(keys);
-        }
-        *keys = others;
+    while let Some(behind) = split_at_end(keys, ending) {
+        let _ = kept.append(keys);
+        *keys = behind;
     }
+    let _ = kept.append(keys);
     *keys = kept;
 }
 
@@ -100,6 +117,24 @@ impl Topics {
             None => {
                 let _ = self.entries.insert(topic, keys);
             }
+        }
+    }
+
+    /// Takes the keys that end out of those of the topic, and the topic's entry where it has none left; the entries of
+    /// other topics are not looked at. Takes no memory.
+    pub(crate) fn leave(&mut self, topic: &Name, ending: &Ending)
+        ensures keys { (t : List ℕ) → keys_at self.new t ≡
+            (if text_eq topic.now t then option_and_then (λ keys. at_least_one (left ending.now keys)) (keys_at self.old t) else keys_at self.old t) }
+        ensures room { room self.old ≤ room self.new }
+    {
+        let alloc = self.alloc;
+        let Some(keys) = self.entries.get_mut(topic) else {
+            return;
+        };
+        remove_from(alloc, keys, ending);
+        let is_empty = keys.is_empty();
+        if is_empty {
+            drop(self.entries.swap_remove(topic));
         }
     }
 

@@ -2,9 +2,11 @@ use Rattle.std.proofs.Common.{◌≡◌, ◌+◌, ◌≤◌, ◌++◌, length}
 use Rattle.jm_sub.specs.Topics.{left}
 use Rattle.jm_sub.proofs.topics.remove_from.Given as goal
 
-abbrev pub invariant-loop : goal.invariant-loop
-invariant-loop l = record {
+abbrev pub invariant-loop-behind : goal.invariant-loop-behind
+invariant-loop-behind l = record {
   stay : l.kept ++ left l.ending l.keys ≡ left l.ending l.initial.keys;
-  number : l.counter + length l.keys ≡ l.end;
-  room : length l.kept ≤ l.counter;
+  room : length l.kept + length l.keys ≤ length l.initial.keys;
 }
+
+abbrev pub decreases-loop-behind : goal.decreases-loop-behind
+decreases-loop-behind l = length l.keys

@@ -6,4 +6,4 @@ use Rattle.jm_sub.proofs.subs.Subs.topics.Goals as goal
 
 pub returns : goal.returns
 returns c =
-    rw (← c.self.view_is) (c.len.ensures (map (λ s. s.definition.topic) (subscriptions_of c.self.inside.items.entries)) (λ t. ap is_some (c.self.invariant t) ∙ entry_there t (subscriptions_of c.self.inside.items.entries)))
+    rw (← c.self.view_is) (c.len.ensures (map (λ s. s.definition.topic) (subscriptions_of c.self.inside.items.entries)) (λ t. ap is_some (c.self.invariant.0 t) ∙ entry_there t (subscriptions_of c.self.inside.items.entries)))
