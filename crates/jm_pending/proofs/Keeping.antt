@@ -1,6 +1,6 @@
 -- What all lanes keep through each call.
-use Rattle.std.proofs.Common.{◌≡◌, ℕ, ◌^◌, ◌<◌, ◌≤◌, List, [], ◌∷◌, length, get_or, map, Bool, refl, ap, ◌∙◌, arith, suc}
-use Rattle.std.specs.List.{filter, All}
+use Rattle.std.proofs.Common.{◌≡◌, ℕ, ◌^◌, ◌<◌, ◌≤◌, List, [], ◌∷◌, length, get_or, map, Bool, refl, ap, ◌∙◌, arith, suc, zero}
+use Rattle.std.specs.List.{filter, All, AllZip}
 use Rattle.std.proofs.lemmas.List.{map-append}
 use Rattle.std.proofs.lemmas.List.Elements.{filter-append, All-filter, All-map, All-weaker}
 use Rattle.jm_pending.specs.declared.row.Row.{Row}
@@ -11,8 +11,11 @@ use Rattle.jm_pending.proofs.Places.{sorted-filter, sorted-map}
 use Rattle.jm_pending.proofs.Edited.{all_rows_each}
 
 -- the parts that do not speak of rows
-each_number : (f : List Row → List Row) (xs ys : List Lane) (room : ℕ) → IsHeld xs room → EachBecomes f xs ys → length ys ≡ 30
-each_number f xs ys room h e = e.len ∙ h.number
+each_number : (f : List Row → List Row) (xs ys : List Lane) (room : ℕ) → IsHeld xs room → EachBecomes f xs ys → 0 < length ys → length ys ≡ 30
+each_number f xs ys room h e some = e.len ∙ h.number (omega (arith, e.len))
+
+each_made : (f : List Row → List Row) (xs ys : List Lane) (room : ℕ) → IsHeld xs room → EachBecomes f xs ys → 0 < room → length ys ≡ 30
+each_made f xs ys room h e some = e.len ∙ h.made some
 
 each_priorities : (f : List Row → List Row) (xs ys : List Lane) (room : ℕ) → IsHeld xs room → EachBecomes f xs ys → (k : ℕ) (d : Lane) → k < length ys → IsLaneOf k (get_or ys k d).priority
 each_priorities f xs ys room h e k d l =
@@ -33,6 +36,7 @@ held_filter p xs ys room h e =
     let rows : rows_of ys ≡ filter p (rows_of xs) = ap (sorted is_lower) all ∙ sorted-filter p (all_rows xs) h.rising in (
       record {
         number = each_number (filter p) xs ys room h e;
+        made = each_made (filter p) xs ys room h e;
         priorities = each_priorities (filter p) xs ys room h e;
         rising = rw rows (rising-filter p (rows_of xs) h.rising);
         bounded = rw all (All-filter p (λ (r : Row). r.place < 2 ^ 63) (all_rows xs) h.bounded);
@@ -47,6 +51,7 @@ held_map f place priority xs ys room h e =
     let rows : rows_of ys ≡ map f (rows_of xs) = ap (sorted is_lower) all ∙ sorted-map f place (all_rows xs) in (
       record {
         number = each_number (map f) xs ys room h e;
+        made = each_made (map f) xs ys room h e;
         priorities = each_priorities (map f) xs ys room h e;
         rising = rw rows (rising-map f place (rows_of xs) h.rising);
         bounded = rw all (All-map (λ (r : Row). r.place < 2 ^ 63) f (all_rows xs) (All-weaker (λ (r : Row). r.place < 2 ^ 63) (λ (r : Row). (f r).place < 2 ^ 63) (λ r b. omega (arith, place r, b)) (all_rows xs) h.bounded));
@@ -60,6 +65,7 @@ held_same xs ys room h e =
     let all : all_rows ys ≡ all_rows xs = all_rows_each (λ rs. rs) refl (λ us vs. refl) xs ys e in (
       record {
         number = each_number (λ rs. rs) xs ys room h e;
+        made = each_made (λ rs. rs) xs ys room h e;
         priorities = each_priorities (λ rs. rs) xs ys room h e;
         rising = rw all h.rising;
         bounded = rw all h.bounded;
@@ -68,25 +74,39 @@ held_same xs ys room h e =
       ap (sorted is_lower) all,
     )
 
--- more room
-pub held_room : (xs : List Lane) (room more : ℕ) → IsHeld xs room → All (λ (l : Lane). more ≤ l.spare) xs → IsHeld xs more
-held_room xs room more h a =
-    record { number = h.number; priorities = h.priorities; rising = h.rising; bounded = h.bounded; spare = a }
+-- more room, in lanes that are there
+pub held_room : (xs : List Lane) (room more : ℕ) → IsHeld xs room → 0 < length xs → All (λ (l : Lane). more ≤ l.spare) xs → IsHeld xs more
+held_room xs room more h there a =
+    record { number = h.number; made = λ some. h.number there; priorities = h.priorities; rising = h.rising; bounded = h.bounded; spare = a }
 
 -- lanes with the same rows
-all_rows_copied : (xs ys : List Lane) → length ys ≡ length xs → ((k : ℕ) (d : Lane) → k < length xs → IsCopied (get_or xs k d) (get_or ys k d)) → all_rows ys ≡ all_rows xs
-all_rows_copied [] [] n e = refl
-all_rows_copied [] (y ∷ ys) n e = absurd (omega (arith, n))
-all_rows_copied (x ∷ xs) [] n e = absurd (omega (arith, n))
-all_rows_copied (x ∷ xs) (y ∷ ys) n e =
-    rw ((e 0 x (omega arith)).rows, all_rows_copied xs ys (omega (arith, n)) (λ k d l. e (suc k) d (omega (arith, l)))) refl
+copied_number : (xs ys : List Lane) → AllZip IsCopied xs ys → length ys ≡ length xs
+copied_number [] [] e = refl
+copied_number [] (y ∷ ys) e = absurd e
+copied_number (x ∷ xs) [] e = absurd e
+copied_number (x ∷ xs) (y ∷ ys) e = omega (arith, copied_number xs ys e.1)
 
-pub held_copied : (xs ys : List Lane) (room : ℕ) → IsHeld xs room → length ys ≡ length xs → ((k : ℕ) (d : Lane) → k < length xs → IsCopied (get_or xs k d) (get_or ys k d)) → IsHeld ys 0 × (rows_of ys ≡ rows_of xs)
-held_copied xs ys room h n e =
-    let all : all_rows ys ≡ all_rows xs = all_rows_copied xs ys n e in (
+copied_priority : (xs ys : List Lane) (k : ℕ) (d : Lane) → AllZip IsCopied xs ys → (get_or ys k d).priority ≡ (get_or xs k d).priority
+copied_priority [] [] k d e = refl
+copied_priority [] (y ∷ ys) k d e = absurd e
+copied_priority (x ∷ xs) [] k d e = absurd e
+copied_priority (x ∷ xs) (y ∷ ys) zero d e = e.0.priority
+copied_priority (x ∷ xs) (y ∷ ys) (suc k) d e = copied_priority xs ys k d e.1
+
+all_rows_copied : (xs ys : List Lane) → AllZip IsCopied xs ys → all_rows ys ≡ all_rows xs
+all_rows_copied [] [] e = refl
+all_rows_copied [] (y ∷ ys) e = absurd e
+all_rows_copied (x ∷ xs) [] e = absurd e
+all_rows_copied (x ∷ xs) (y ∷ ys) e = rw (e.0.rows, all_rows_copied xs ys e.1) refl
+
+pub held_copied : (xs ys : List Lane) (room : ℕ) → IsHeld xs room → AllZip IsCopied xs ys → IsHeld ys 0 × (rows_of ys ≡ rows_of xs)
+held_copied xs ys room h e =
+    let n : length ys ≡ length xs = copied_number xs ys e in
+    let all : all_rows ys ≡ all_rows xs = all_rows_copied xs ys e in (
       record {
-        number = n ∙ h.number;
-        priorities = λ k d l. rw (e k d (omega (arith, n, l))).priority (h.priorities k d (omega (arith, n, l)));
+        number = λ some. n ∙ h.number (omega (arith, n));
+        made = λ some. absurd (omega arith);
+        priorities = λ k d l. rw (copied_priority xs ys k d e) (h.priorities k d (omega (arith, n, l)));
         rising = rw all h.rising;
         bounded = rw all h.bounded;
         spare = λ k d l. omega arith;

@@ -10,6 +10,7 @@ mod Found
 mod Keeping
 mod Order
 mod Pushing
+mod Making
 mod Letting
 pub mod Holding
 mod Ranks
@@ -24,3 +25,4 @@ pub mod Choice
 mod Spots
 mod Taking
 pub mod Lowest
+mod Written

@@ -60,7 +60,8 @@ held_push xs room at row after h some bound above l pushed =
     let last : rows_of (set xs at after) ≡ rows_of xs ++ row ∷ [] =
     ap (sorted is_lower) all ∙ sorted-last (fronts ++ rows) row backs (subst (All (λ (r : Row). r.place < row.place)) split below) ∙ ap (λ zs. sorted is_lower zs ++ row ∷ []) (sym split) in (
       record {
-        number = length-set xs at after ∙ h.number;
+        number = λ there. length-set xs at after ∙ h.made some;
+        made = λ more. length-set xs at after ∙ h.made some;
         priorities = λ k d kl. elim (eqb_tells k at) [
           | inl e ↦ rw (e.1, get_or-set_same xs at after d l, pushed.priority) (h.priorities at after l)
           | inr n ↦ rw (get_or-set_other xs at k after d n.1) (h.priorities k d (omega (arith, length-set xs at after)))

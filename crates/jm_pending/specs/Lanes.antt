@@ -1,4 +1,4 @@
--- How rows stand in lanes: three for each priority, from 9 down, each by place.
+-- How rows stand in lanes, once these are made: three for each priority, from 9 down, each by place.
 use Rattle.std.specs.Prelude.{◌≡◌, ◌≢◌, ℕ, ◌+◌, ◌*◌, ◌++◌, ◌≤◌, ◌<◌, ◌==◌, nat_lt, nat_le, Bool, true, false, not, ◌&&◌, ◌||◌, List, [], ◌∷◌, All, Contains, find, Option, Some, None, MatchOption, if◌then◌else◌, IsSome, take, drop, length, slice_index_or}
 use Rattle.std.specs.List.{flat_map}
 use Rattle.jm_pending.specs.Lists.{sorted}
@@ -99,10 +99,17 @@ abbrev pub IsApart : List Row → Type 0
 IsApart [] = Unit {0}
 IsApart (x ∷ xs) = All (λ (y : Row). y.place ≢ x.place) xs × IsApart xs
 
--- three lanes for each priority, from the highest on, no two rows of one place, places below 2^63, and room for `room`
--- more rows in each
+-- so many lanes, three for each priority, from the highest on, that have no rows
+pub record AreEmptyLanes (lanes : List Lane) (count : ℕ) : Type 0 where
+  pub number : length lanes ≡ count
+  pub priorities : (k : ℕ) (d : Lane) → k < length lanes → IsLaneOf k (slice_index_or lanes k d).priority
+  pub none : all_rows lanes ≡ []
+
+-- no lanes, as before room is first made for a row, or three for each priority, from the highest on, no two rows of one
+-- place, places below 2^63, and room for `room` more rows in each
 pub record IsHeld (lanes : List Lane) (room : ℕ) : Type 0 where
-  pub number : length lanes ≡ 30
+  pub number : 0 < length lanes → length lanes ≡ 30
+  pub made : 0 < room → length lanes ≡ 30
   pub priorities : (k : ℕ) (d : Lane) → k < length lanes → IsLaneOf k (slice_index_or lanes k d).priority
   pub rising : IsRising (rows_of lanes)
   pub bounded : All (λ (r : Row). r.place < long_end) (all_rows lanes)

@@ -32,8 +32,9 @@ pub struct Taken {
 
 /// The rows that a subscription holds (ours). Contracts see them as a list by place, with the limit of
 /// their number, how many publications were missed at the limit, and for how many more rows there is room.
+/// The lanes are made when room is first made for a row.
 pub struct Held {
-    lanes: [Lane; 30],
+    lanes: Vec<Lane>,
     receivers: Receivers,
     limit: Option<u32>,
     missed: u64,
@@ -59,9 +60,9 @@ impl Model for Held {
 
     ghost Value = { HeldShown };
 
-    ghost view = { λ h. record { rows = rows_of h.lanes; limit = h.limit; missed = h.missed; room = h.room } };
+    ghost view = { λ h. record { rows = rows_of h.lanes.items; limit = h.limit; missed = h.missed; room = h.room } };
 
-    ghost invariant = { λ h. IsHeld h.lanes h.room × AreKnown h.receivers (rows_of h.lanes) };
+    ghost invariant = { λ h. IsHeld h.lanes.items h.room × AreKnown h.receivers (rows_of h.lanes.items) };
 }
 
 impl Held {
@@ -70,38 +71,7 @@ impl Held {
         ensures { result ≡ record { rows = []; limit = limit; missed = 0; room = 0 } }
     {
         Held {
-            lanes: [
-                Lane::new(alloc, 9),
-                Lane::new(alloc, 9),
-                Lane::new(alloc, 9),
-                Lane::new(alloc, 8),
-                Lane::new(alloc, 8),
-                Lane::new(alloc, 8),
-                Lane::new(alloc, 7),
-                Lane::new(alloc, 7),
-                Lane::new(alloc, 7),
-                Lane::new(alloc, 6),
-                Lane::new(alloc, 6),
-                Lane::new(alloc, 6),
-                Lane::new(alloc, 5),
-                Lane::new(alloc, 5),
-                Lane::new(alloc, 5),
-                Lane::new(alloc, 4),
-                Lane::new(alloc, 4),
-                Lane::new(alloc, 4),
-                Lane::new(alloc, 3),
-                Lane::new(alloc, 3),
-                Lane::new(alloc, 3),
-                Lane::new(alloc, 2),
-                Lane::new(alloc, 2),
-                Lane::new(alloc, 2),
-                Lane::new(alloc, 1),
-                Lane::new(alloc, 1),
-                Lane::new(alloc, 1),
-                Lane::new(alloc, 0),
-                Lane::new(alloc, 0),
-                Lane::new(alloc, 0),
-            ],
+            lanes: Vec::new(alloc),
             receivers: Receivers::Nobody,
             limit,
             missed: 0,
@@ -211,15 +181,19 @@ impl Held {
         self.receivers.is_nobody() || lanes::are_home(&self.lanes)
     }
 
-    /// Makes room for that many more rows. `AllocError` where a request for memory was refused. Either
-    /// way the rows are as before.
+    /// Makes room for that many more rows, and the lanes, where they are not there. `AllocError` where a request for
+    /// memory was refused. Either way the rows are as before. Where there is room for so many, no lane is looked at.
     pub fn reserve(&mut self, additional: usize) -> Result<(), AllocError>
         ensures ok { OnOk result (additional ≤ self.new.room) }
         ensures same { self.new ≡ record self.old { room = self.new.room } }
         ensures kept { self.old.room ≤ self.new.room }
     {
+        if additional <= self.room {
+            return Ok(());
+        }
+        lanes::make(&mut self.lanes)?;
         lanes::reserve(&mut self.lanes, additional)?;
-        self.room = self.room.max(additional);
+        self.room = additional;
         Ok(())
     }
 

@@ -2,14 +2,14 @@
 //! free: rows that expire in turn stand together, so that a delivery drops those of them that are expired from the front;
 //! and those that are delayed stand apart, so that a delivery passes over all that are held back.
 
-ghost use Rattle.std.specs.Prelude.{◌≡◌, ℕ, ◌+◌, ◌-◌, ◌^◌, ◌<◌, ◌≤◌, ◌++◌, List, [], length, All, IfSome, find, filter, map, take, true, false, None, Some, Option, OnOk, MatchOption, slice_get, slice_index_or, slice_set};
+ghost use Rattle.std.specs.Prelude.{◌≡◌, ℕ, ◌+◌, ◌-◌, ◌^◌, ◌<◌, ◌≤◌, ◌++◌, List, [], length, All, IfOk, IfSome, find, filter, map, take, true, false, None, Some, Option, OnOk, MatchOption, slice_get, slice_index_or, slice_set};
 ghost use Rattle.jm_dest.specs.Numbers.{long_end};
 ghost use Rattle.jm_pending.specs.declared.row.Row.{Row};
 ghost use Rattle.jm_pending.specs.Rows.{IsRising, back, is_among, is_elsewhere, is_ready, keeps, sent_at, stays};
 ghost use Rattle.jm_pending.specs.Rows as spec;
 ghost use Rattle.jm_pending.specs.Chosen.{IsSpot, is_choice, row_of};
 ghost use Rattle.jm_selector.specs.Selectors.{matches};
-ghost use Rattle.jm_pending.specs.Lanes.{EachBecomes, IsApart, IsLaneOf, IsPlaceFrom, IsPushed, IsSoonestOf, Lane, all_rows, is_at, is_below, rows_of};
+ghost use Rattle.jm_pending.specs.Lanes.{AreEmptyLanes, EachBecomes, IsApart, IsHeld, IsLaneOf, IsPlaceFrom, IsPushed, IsSoonestOf, Lane, all_rows, is_at, is_below, rows_of};
 ghost use Rattle.jm_pending.specs.Holders.{Covers, Follows};
 
 use crate::lane::Lane;
@@ -18,7 +18,7 @@ use crate::spot::{self, Spot};
 use crate::table::Table;
 use jm_dest::{ConsumerId, Moment, SessionId};
 use jm_selector::Selector;
-use std::alloc::AllocError;
+use std::alloc::{AllocError, Global};
 
 /// How many rows the lanes have.
 pub(crate) fn len(lanes: &[Lane]) -> usize
@@ -126,6 +126,31 @@ pub(crate) fn are_home(lanes: &[Lane]) -> bool
     true
 }
 
+/// Thirty lanes without rows.
+fn empty_lanes(alloc: Global) -> Result<Vec<Lane>, AllocError>
+    ensures { IfOk result (λ lanes. AreEmptyLanes lanes.items 30) }
+{
+    let mut lanes = Vec::with_capacity(alloc, 30)?;
+    for index in 0..30 {
+        lanes.push_reserved(Lane::new(alloc, 9 - index / 3));
+    }
+    Ok(lanes)
+}
+
+/// Makes the lanes, where they are not there. Where a request for memory was refused, they are not there as before.
+pub(crate) fn make(lanes: &mut Vec<Lane>) -> Result<(), AllocError>
+    ensures there { OnOk result (0 < length lanes.new.items) }
+    ensures held { (room : ℕ) → IsHeld lanes.old.items room → IsHeld lanes.new.items room }
+    ensures rows { rows_of lanes.new.items ≡ rows_of lanes.old.items }
+{
+    if !lanes.is_empty() {
+        return Ok(());
+    }
+    *lanes = empty_lanes(*lanes.allocator())?;
+    Ok(())
+}
+
+/// Makes room for that many more rows in each lane.
 pub(crate) fn reserve(lanes: &mut [Lane], additional: usize) -> Result<(), AllocError>
     ensures same { EachBecomes (λ rows. rows) lanes.old lanes.new }
     ensures ok { OnOk result (All (λ l. additional ≤ l.spare) lanes.new) }
