@@ -26,3 +26,4 @@ mod Spots
 mod Taking
 pub mod Lowest
 mod Written
+mod Number

@@ -1,12 +1,11 @@
 -- Lanes are made.
-use Rattle.std.proofs.Common.{◌≡◌, ℕ, ◌+◌, ◌<◌, List, [], ◌∷◌, ◌++◌, length, get_or, refl, ap, ◌∙◌, arith, suc, zero, inl, inr}
+use Rattle.std.proofs.Common.{◌≡◌, ℕ, ◌+◌, ◌<◌, List, [], ◌∷◌, ◌++◌, length, refl, ap, arith, suc, zero, inl, inr}
 use Rattle.std.proofs.lemmas.Bool.Decides.{eqb_tells}
 use Rattle.std.proofs.lemmas.Grind.{flat_map-append}
 use Rattle.std.proofs.lemmas.List.{length-append, get_or_append_left, get_or_push}
 use Rattle.std.proofs.lemmas.List.Elements.{All-nil}
 use Rattle.jm_pending.specs.Lists.{sorted}
-use Rattle.jm_pending.specs.declared.row.Row.{Row}
-use Rattle.jm_pending.specs.Lanes.{AreEmptyLanes, IsHeld, IsLaneOf, Lane, all_rows, is_lower, rows_of}
+use Rattle.jm_pending.specs.Lanes.{AreEmptyLanes, IsHeld, IsLaneOf, Lane, is_lower, rows_of}
 
 -- one more lane without rows
 pub empty_more : (xs : List Lane) (i : ℕ) (lane : Lane) → AreEmptyLanes xs i → IsLaneOf i lane.priority → lane.rows ≡ [] → AreEmptyLanes (xs ++ lane ∷ []) (i + 1)

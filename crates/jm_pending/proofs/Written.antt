@@ -1,5 +1,5 @@
 -- Lanes are written back to where they stand.
-use Rattle.std.proofs.Common.{◌≡◌, ℕ, ◌≤◌, List, ◌++◌, length, set, take, drop, ap, arith, refl, ◌∙◌, Option, Some, None}
+use Rattle.std.proofs.Common.{◌≡◌, ℕ, List, ◌++◌, length, set, take, drop, ap, arith, ◌∙◌, Option, Some, None}
 use Rattle.std.proofs.lemmas.List.{length-set, take-append-le, take_all}
 use Rattle.jm_dest.specs.declared.session.SessionId.{SessionId}
 use Rattle.jm_pending.specs.declared.row.Row.{Row}

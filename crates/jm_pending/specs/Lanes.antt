@@ -1,5 +1,5 @@
 -- How rows stand in lanes, once these are made: three for each priority, from 9 down, each by place.
-use Rattle.std.specs.Prelude.{◌≡◌, ◌≢◌, ℕ, ◌+◌, ◌*◌, ◌++◌, ◌≤◌, ◌<◌, ◌==◌, nat_lt, nat_le, Bool, true, false, not, ◌&&◌, ◌||◌, List, [], ◌∷◌, All, Contains, find, Option, Some, None, MatchOption, if◌then◌else◌, IsSome, take, drop, length, slice_index_or}
+use Rattle.std.specs.Prelude.{◌≡◌, ◌≢◌, ℕ, ◌+◌, ◌*◌, ◌++◌, ◌≤◌, ◌<◌, ◌==◌, nat_lt, nat_le, Bool, true, false, not, ◌&&◌, ◌||◌, List, [], ◌∷◌, All, Contains, find, Option, MatchOption, IsSome, take, drop, length, slice_index_or}
 use Rattle.std.specs.List.{flat_map}
 use Rattle.jm_pending.specs.Lists.{sorted}
 use Rattle.jm_dest.specs.Numbers.{long_end}

@@ -32,9 +32,11 @@ pub struct Taken {
 
 /// The rows that a subscription holds (ours). Contracts see them as a list by place, with the limit of
 /// their number, how many publications were missed at the limit, and for how many more rows there is room.
-/// The lanes are made when room is first made for a row.
+/// The lanes are made when room is first made for a row, and how many rows there are is kept, so that where there is
+/// none, no lane is looked at.
 pub struct Held {
     lanes: Vec<Lane>,
+    count: usize,
     receivers: Receivers,
     limit: Option<u32>,
     missed: u64,
@@ -45,6 +47,7 @@ impl Drop for Held {
     fn drop(self) {
         let Held {
             lanes: _lanes,
+            count: _,
             receivers: _,
             limit: _,
             missed: _,
@@ -54,6 +57,7 @@ impl Drop for Held {
 }
 
 impl Model for Held {
+    ghost use Rattle.std.specs.Prelude.{◌≡◌, length};
     ghost use Rattle.jm_pending.specs.Lanes.{IsHeld, rows_of};
     ghost use Rattle.jm_pending.specs.Receivers.{AreKnown};
     ghost use Rattle.jm_pending.specs.Rows.{Held as HeldShown};
@@ -62,7 +66,7 @@ impl Model for Held {
 
     ghost view = { λ h. record { rows = rows_of h.lanes.items; limit = h.limit; missed = h.missed; room = h.room } };
 
-    ghost invariant = { λ h. IsHeld h.lanes.items h.room × AreKnown h.receivers (rows_of h.lanes.items) };
+    ghost invariant = { λ h. IsHeld h.lanes.items h.room × AreKnown h.receivers (rows_of h.lanes.items) × (h.count ≡ length (rows_of h.lanes.items)) };
 }
 
 impl Held {
@@ -72,6 +76,7 @@ impl Held {
     {
         Held {
             lanes: Vec::new(alloc),
+            count: 0,
             receivers: Receivers::Nobody,
             limit,
             missed: 0,
@@ -86,6 +91,7 @@ impl Held {
     {
         Ok(Held {
             lanes: self.lanes.clone()?,
+            count: self.count,
             receivers: self.receivers,
             limit: self.limit,
             missed: self.missed,
@@ -93,13 +99,19 @@ impl Held {
         })
     }
 
-    /// How many rows there are.
-    #[tactic(auto, using(crate::proofs::Shown::length_shown))]
+    /// How many rows there are. No lane is looked at.
     pub fn len(&self) -> usize
         ensures len { result ≡ length self.now.rows }
         ensures rising { spec.IsRising self.now.rows }
     {
-        lanes::len(&self.lanes)
+        self.count
+    }
+
+    /// Whether there is no row. No lane is looked at.
+    fn is_empty(&self) -> bool
+        ensures { result ≡ true → self.now.rows ≡ [] }
+    {
+        self.count == 0
     }
 
     /// How many publications were missed at the limit; at 18,446,744,073,709,551,615 it stays.
@@ -113,7 +125,11 @@ impl Held {
     pub fn row_at(&self, index: usize) -> Option<Row>
         ensures { result ≡ slice_get self.now.rows index }
     {
-        lanes::row_at(&self.lanes, index)
+        if index < self.count {
+            lanes::row_at(&self.lanes, index)
+        } else {
+            None
+        }
     }
 
     /// The first row by place of those from that place on. All rows are met in turn from 0 on, each looked for from the
@@ -124,6 +140,9 @@ impl Held {
         ensures place { IfSome result (λ r. r.place < long_end) }
         ensures rising { spec.IsRising self.now.rows }
     {
+        if self.is_empty() {
+            return None;
+        }
         lanes::row_from(&self.lanes, place)
     }
 
@@ -132,6 +151,9 @@ impl Held {
     pub fn row_of(&self, place: u64) -> Option<Row>
         ensures { result ≡ find (is_at place) self.now.rows }
     {
+        if self.is_empty() {
+            return None;
+        }
         lanes::at(&self.lanes, place)
     }
 
@@ -145,6 +167,9 @@ impl Held {
         ensures place { IfSome result (λ r. r.place < long_end) }
         ensures rising { spec.IsRising self.now.rows }
     {
+        if self.is_empty() {
+            return None;
+        }
         cursors::lapsed_from(&self.lanes, place, now)
     }
 
@@ -157,6 +182,9 @@ impl Held {
         ensures place { IfSome result (λ r. r.place < long_end) }
         ensures rising { spec.IsRising self.now.rows }
     {
+        if self.is_empty() {
+            return None;
+        }
         if self.receivers.include(which) {
             cursors::out_from(&self.lanes, place, which)
         } else {
@@ -169,15 +197,18 @@ impl Held {
         ensures { result ≡ spec.is_at_limit self.now.limit (length self.now.rows) }
     {
         match self.limit {
-            Some(limit) => limit as usize <= self.len(),
+            Some(limit) => limit as usize <= self.count,
             None => false,
         }
     }
 
-    /// Whether no row is out. Where it is known that none is, no row is looked at. Takes no memory.
+    /// Whether no row is out. Where there is none, or it is known that none is out, no lane is looked at. Takes no memory.
     pub fn is_home(&self) -> bool
         ensures { result ≡ spec.are_home self.now.rows }
     {
+        if self.is_empty() {
+            return true;
+        }
         self.receivers.is_nobody() || lanes::are_home(&self.lanes)
     }
 
@@ -220,6 +251,7 @@ impl Held {
         table.hold(row.place);
         self.receivers = self.receivers.with(row.state);
         lanes::push(&mut self.lanes, row);
+        self.count += 1;
         self.room -= 1;
     }
 
@@ -230,6 +262,9 @@ impl Held {
         ensures next { result ≡ spec.next now self.now.rows }
         ensures rising { spec.IsRising self.now.rows }
     {
+        if self.is_empty() {
+            return None;
+        }
         lanes::next(&self.lanes, now)
     }
 
@@ -241,6 +276,9 @@ impl Held {
         ensures next { result ≡ next_where (matches selector.now) table.now now self.now.rows }
         ensures rising { spec.IsRising self.now.rows }
     {
+        if self.is_empty() {
+            return None;
+        }
         lanes::next_where(&self.lanes, table, now, selector)
     }
 
@@ -264,7 +302,10 @@ impl Held {
         ensures table { Follows table.old table.new self.old.rows self.new.rows }
         ensures rising { spec.IsRising self.old.rows }
     {
-        lanes::drop_expired(&mut self.lanes, table, now);
+        if self.is_empty() {
+            return None;
+        }
+        self.count = lanes::drop_expired(&mut self.lanes, table, now);
         self.receivers = self.receivers.with_one(&session, consumer);
         lanes::take_first(&mut self.lanes, now, session, consumer)
     }
@@ -284,8 +325,12 @@ impl Held {
         ensures table { Follows table.old table.new self.old.rows self.new.rows }
         ensures rising { spec.IsRising self.old.rows }
     {
-        lanes::drop_expired(&mut self.lanes, table, now);
+        if self.is_empty() {
+            return None;
+        }
+        self.count = lanes::drop_expired(&mut self.lanes, table, now);
         let row = lanes::remove_first(&mut self.lanes, now)?;
+        self.count -= 1;
         let message = table.release(row.place);
         Some(Taken {
             row: row.counted(),
@@ -314,7 +359,10 @@ impl Held {
         ensures table { Follows table.old table.new self.old.rows self.new.rows }
         ensures rising { spec.IsRising self.old.rows }
     {
-        lanes::drop_expired(&mut self.lanes, table, now);
+        if self.is_empty() {
+            return None;
+        }
+        self.count = lanes::drop_expired(&mut self.lanes, table, now);
         self.receivers = self.receivers.with_one(&session, consumer);
         lanes::take_where(&mut self.lanes, table, now, selector, session, consumer)
     }
@@ -339,8 +387,12 @@ impl Held {
         ensures table { Follows table.old table.new self.old.rows self.new.rows }
         ensures rising { spec.IsRising self.old.rows }
     {
-        lanes::drop_expired(&mut self.lanes, table, now);
+        if self.is_empty() {
+            return None;
+        }
+        self.count = lanes::drop_expired(&mut self.lanes, table, now);
         let row = lanes::remove_where(&mut self.lanes, table, now, selector)?;
+        self.count -= 1;
         let message = table.release(row.place);
         Some(Taken {
             row: row.counted(),
@@ -356,8 +408,12 @@ impl Held {
         ensures rows { self.new ≡ record self.old { rows = filter (λ r. not (spec.is_out (are_meant which.now) r)) self.old.rows } }
         ensures table { Follows table.old table.new self.old.rows self.new.rows }
     {
+        if self.is_empty() {
+            self.receivers = Receivers::Nobody;
+            return;
+        }
         if self.receivers.include(which) {
-            lanes::settle(&mut self.lanes, table, &Outs::Of(*which));
+            self.count = lanes::settle(&mut self.lanes, table, &Outs::Of(*which));
             self.receivers = self.receivers.without(which);
         }
     }
@@ -379,7 +435,10 @@ impl Held {
         } }
         ensures table { Follows table.old table.new self.old.rows self.new.rows }
     {
-        lanes::settle(
+        if self.is_empty() {
+            return;
+        }
+        self.count = lanes::settle(
             &mut self.lanes,
             table,
             &Outs::Through(session, consumer, place),
@@ -392,6 +451,10 @@ impl Held {
     pub fn give_back(&mut self, which: &Consumers)
         ensures { self.new ≡ record self.old { rows = map (spec.back (spec.is_out (are_meant which.now))) self.old.rows } }
     {
+        if self.is_empty() {
+            self.receivers = Receivers::Nobody;
+            return;
+        }
         if self.receivers.include(which) {
             lanes::give_back(&mut self.lanes, &Outs::Of(*which));
             self.receivers = self.receivers.without(which);
@@ -407,6 +470,9 @@ impl Held {
               map (spec.back (spec.is_out_through session consumer place)) self.old.rows;
         } }
     {
+        if self.is_empty() {
+            return;
+        }
         lanes::give_back(&mut self.lanes, &Outs::Through(session, consumer, place));
     }
 
@@ -416,7 +482,12 @@ impl Held {
         ensures rows { self.new ≡ record self.old { rows = [] } }
         ensures table { Follows table.old table.new self.old.rows self.new.rows }
     {
+        if self.is_empty() {
+            self.receivers = Receivers::Nobody;
+            return;
+        }
         lanes::clear(&mut self.lanes, table);
+        self.count = 0;
         self.receivers = Receivers::Nobody;
     }
 }

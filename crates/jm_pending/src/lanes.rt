@@ -20,18 +20,6 @@ use jm_dest::{ConsumerId, Moment, SessionId};
 use jm_selector::Selector;
 use std::alloc::{AllocError, Global};
 
-/// How many rows the lanes have.
-pub(crate) fn len(lanes: &[Lane]) -> usize
-    requires { length (all_rows lanes.now) < 2 ^ 64 }
-    ensures { result ≡ length (all_rows lanes.now) }
-{
-    let mut total = 0;
-    for lane in lanes.iter() {
-        total += lane.len();
-    }
-    total
-}
-
 /// How many rows are of lower places.
 fn below(lanes: &[Lane], place: u64) -> usize
     requires { length (all_rows lanes.now) < 2 ^ 64 }
@@ -81,15 +69,12 @@ fn place_after(lanes: &[Lane], count: usize) -> u64
 /// The row that so many stand before by place.
 pub(crate) fn row_at(lanes: &[Lane], index: usize) -> Option<Row>
     requires few { length (all_rows lanes.now) < 2 ^ 64 }
+    requires some { index < length (all_rows lanes.now) }
     requires bounded { All (λ (r : Row). r.place < long_end) (all_rows lanes.now) }
     requires rising { IsRising (rows_of lanes.now) }
     ensures { result ≡ slice_get (rows_of lanes.now) index }
 {
-    if index < len(lanes) {
-        at(lanes, place_after(lanes, index))
-    } else {
-        None
-    }
+    at(lanes, place_after(lanes, index))
 }
 
 /// The least place of the rows from that place on, or 2^63 where there is none.
@@ -293,16 +278,21 @@ pub(crate) fn next_where(
     spot::row_of(&best_spot(lanes, table, now, selector))
 }
 
-/// Drops the waiting rows that are expired, and looks anew when others are due.
-pub(crate) fn drop_expired(lanes: &mut [Lane], table: &mut Table, now: Moment)
-    requires { Covers table.old (all_rows lanes.old) }
+/// Drops the waiting rows that are expired, and looks anew when others are due. Returns how many rows are left.
+pub(crate) fn drop_expired(lanes: &mut [Lane], table: &mut Table, now: Moment) -> usize
+    requires covered { Covers table.old (all_rows lanes.old) }
+    requires few { length (all_rows lanes.old) < 2 ^ 64 }
+    ensures left { result ≡ length (all_rows lanes.new) }
     ensures rows { EachBecomes (filter (stays now)) lanes.old lanes.new }
     ensures table { Follows table.old table.new (all_rows lanes.old) (all_rows lanes.new) }
 {
+    let mut left = 0;
     for lane in lanes.iter_mut() {
         lane.drop_expired(table, now);
         lane.look_ahead(now);
+        left += lane.len();
     }
+    left
 }
 
 /// Sends the row that goes first of those that are ready.
@@ -374,15 +364,20 @@ pub(crate) fn remove_where(
     Some(spot.row)
 }
 
-/// Removes the rows that are among those.
-pub(crate) fn settle(lanes: &mut [Lane], table: &mut Table, outs: &Outs)
-    requires { Covers table.old (all_rows lanes.old) }
+/// Removes the rows that are among those. Returns how many rows are left.
+pub(crate) fn settle(lanes: &mut [Lane], table: &mut Table, outs: &Outs) -> usize
+    requires covered { Covers table.old (all_rows lanes.old) }
+    requires few { length (all_rows lanes.old) < 2 ^ 64 }
+    ensures left { result ≡ length (all_rows lanes.new) }
     ensures rows { EachBecomes (filter (keeps outs.now)) lanes.old lanes.new }
     ensures table { Follows table.old table.new (all_rows lanes.old) (all_rows lanes.new) }
 {
+    let mut left = 0;
     for lane in lanes.iter_mut() {
         lane.settle(table, outs);
+        left += lane.len();
     }
+    left
 }
 
 /// Makes the rows wait again that are among those.

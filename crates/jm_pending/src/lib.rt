@@ -6,7 +6,8 @@
 //!
 //! `Table` is seen as its messages by place with the number of their holders; a message goes with its last holder.
 //! `Held` is seen as the list of its rows by place, with limit, missed count and room; inside they stand in thirty
-//! lanes, of which nothing is said outside.
+//! lanes, made when room is first made for a row, of which nothing is said outside; where there are no rows, none is
+//! looked at.
 //!
 //! A row waits, or is out to a session through one of its consumers, and `add` takes it in either state, behind all
 //! others; rows in both states count at the limit, where a row is missed instead and counted. `add`, `take`,

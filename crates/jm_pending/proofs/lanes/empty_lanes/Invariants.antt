@@ -1,4 +1,4 @@
-use Rattle.std.proofs.Common.{◌≤◌, vec_len}
+use Rattle.std.proofs.Common.{◌≤◌}
 use Rattle.std.specs.Vec.{vec_capacity}
 use Rattle.jm_pending.specs.Lanes.{AreEmptyLanes}
 use Rattle.jm_pending.proofs.lanes.empty_lanes.Given as goal

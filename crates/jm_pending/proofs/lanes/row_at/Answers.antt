@@ -1,17 +1,10 @@
 use Rattle.std.proofs.Common.{arith, ◌+◌, ◌∙◌, sym}
-use Rattle.std.proofs.lemmas.Option.{slice_get_past}
 use Rattle.jm_pending.specs.Lanes.{all_rows, rows_of}
-use Rattle.jm_pending.proofs.Pushing.{length_sorted}
 use Rattle.jm_pending.proofs.Ranks.{ranked, below_sorted, at_sorted}
 use Rattle.jm_pending.proofs.lanes.row_at.Goals as goal
 
-pub returns-then-index-len : goal.returns-then-index-len
-returns-then-index-len c =
+pub returns : goal.returns
+returns c =
     let xs = all_rows c.args.lanes.now in
     let p = c.place_after.result in
     c.at.ensures ∙ sym (at_sorted p xs c.requires.rising) ∙ sym (ranked (rows_of c.args.lanes.now) p c.args.index c.requires.rising (omega (arith, below_sorted p xs c.requires.rising, c.place_after.ensures.low)) (omega (arith, below_sorted (p + 1) xs c.requires.rising, c.place_after.ensures.high)))
-
-pub returns-else-index-len : goal.returns-else-index-len
-returns-else-index-len c =
-    let xs = all_rows c.args.lanes.now in
-    sym (slice_get_past (rows_of c.args.lanes.now) c.args.index (omega (arith, length_sorted xs, c.len.ensures)))

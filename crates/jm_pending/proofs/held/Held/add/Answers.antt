@@ -1,12 +1,14 @@
-use Rattle.std.proofs.Common.{arith, length, ◌≡◌, ◌<◌, ◌-◌, ◌^◌, ℕ, refl, set, get_or, ◌++◌, ◌∷◌, [], List}
+use Rattle.std.proofs.Common.{arith, length, ◌≡◌, ◌<◌, ◌-◌, ◌^◌, ℕ, refl, set, get_or, ◌++◌, ◌∷◌, [], List, ap}
 use Rattle.std.specs.List.{All}
 use Rattle.jm_pending.specs.declared.row.Row.{Row}
 use Rattle.jm_pending.specs.Lanes.{Lane, all_rows, rows_of, IsHeld, IsPushed}
 use Rattle.jm_pending.proofs.Places.{all_unsorted}
 use Rattle.jm_pending.proofs.Holding.{follows_held}
-use Rattle.jm_pending.proofs.Pushing.{held_push}
+use Rattle.jm_pending.proofs.Pushing.{held_push, few_rows}
 use Rattle.jm_pending.proofs.Receiving.{known_added}
 use Rattle.jm_pending.proofs.Written.{pushed_lanes, written}
+use Rattle.std.proofs.lemmas.List.{length-append}
+use Rattle.jm_pending.proofs.Shown.{length_shown}
 use Rattle.jm_pending.proofs.held.Held.add.Goals as goal
 
 pushed : (xs ys : List Lane) (room : ℕ) (row : Row) → IsHeld xs room → 0 < room → row.place < 2 ^ 63 → All (λ (r : Row). r.place < row.place) (rows_of xs) → (at : ℕ) × (after : Lane) × (at < length xs) × (ys ≡ set xs at after) × IsPushed row (get_or xs at after) after → IsHeld ys (room - 1) × (rows_of ys ≡ rows_of xs ++ row ∷ [])
@@ -30,7 +32,7 @@ push-requires-clause-above c =
 pub invariant_of-self-2 : goal.invariant_of-self-2
 invariant_of-self-2 c =
     let more = pushed c.self.inside.lanes.items c.push.new.lanes c.self.inside.room c.args.row c.self.invariant.0 (rw (← c.self.view_is) at c.requires.room) c.requires.place (rw (← c.self.view_is) at c.requires.above) (rw c.deref_mut.ensures.value at c.push.ensures) in
-    rw (written _ _ _ _ c.deref_mut.ensures.value c.deref_mut.ensures.len (pushed_lanes _ _ c.push.ensures.0 c.push.ensures.1 c.push.ensures.3)) (more.0, known_added c.self.inside.receivers c.with-self-inside.result (rows_of c.self.inside.lanes.items) (rows_of c.push.new.lanes) c.args.row more.1 c.with-self-inside.ensures.row c.with-self-inside.ensures.others c.self.invariant.1)
+    rw (written _ _ _ _ c.deref_mut.ensures.value c.deref_mut.ensures.len (pushed_lanes _ _ c.push.ensures.0 c.push.ensures.1 c.push.ensures.3)) (more.0, known_added c.self.inside.receivers c.with-self-inside.result (rows_of c.self.inside.lanes.items) (rows_of c.push.new.lanes) c.args.row more.1 c.with-self-inside.ensures.row c.with-self-inside.ensures.others c.self.invariant.1, omega (arith, c.self.invariant.2, ap length more.1, length-append (rows_of c.self.inside.lanes.items) (c.args.row ∷ [])))
 
 pub returns-clause-added : goal.returns-clause-added
 returns-clause-added c = λ no.
@@ -39,3 +41,6 @@ returns-clause-added c = λ no.
 pub returns-clause-table : goal.returns-clause-table
 returns-clause-table c =
     rw (← c.self.view_is, written _ _ _ _ c.deref_mut.ensures.value c.deref_mut.ensures.len (pushed_lanes _ _ c.push.ensures.0 c.push.ensures.1 c.push.ensures.3), (pushed c.self.inside.lanes.items c.push.new.lanes c.self.inside.room c.args.row c.self.invariant.0 (rw (← c.self.view_is) at c.requires.room) c.requires.place (rw (← c.self.view_is) at c.requires.above) (rw c.deref_mut.ensures.value at c.push.ensures)).1) (follows_held c.args.table.now c.hold.new.self (rows_of c.self.inside.lanes.items) c.args.row c.hold.ensures.holders c.hold.ensures.messages)
+
+pub overflow_add-self : goal.overflow_add-self
+overflow_add-self c = omega (arith, c.self.invariant.2, length_shown c.self.inside.lanes.items, few_rows c.self.inside.lanes.items c.self.inside.room c.self.invariant.0)

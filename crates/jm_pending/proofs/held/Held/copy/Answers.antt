@@ -1,4 +1,4 @@
-use Rattle.std.proofs.Common.{refl}
+use Rattle.std.proofs.Common.{refl, ◌∙◌, ap, length, sym}
 use Rattle.jm_pending.proofs.Keeping.{held_copied}
 use Rattle.jm_pending.proofs.Receiving.{known_same}
 use Rattle.jm_pending.proofs.held.Held.copy.Goals as goal
@@ -6,7 +6,7 @@ use Rattle.jm_pending.proofs.held.Held.copy.Goals as goal
 pub invariant_of-result : goal.invariant_of-result
 invariant_of-result c =
     let kept = held_copied c.self.inside.lanes.items c.in_ok-clone.field-0.items c.self.inside.room c.self.invariant.0 c.in_ok-clone.ensures.cases.0 in
-    (kept.0, known_same _ _ _ kept.1 c.self.invariant.1)
+    (kept.0, known_same _ _ _ kept.1 c.self.invariant.1, c.self.invariant.2 ∙ sym (ap length kept.1))
 
 pub returns : goal.returns
 returns c =

@@ -1,4 +1,4 @@
-use Rattle.std.proofs.Common.{◌∙◌, sym}
+use Rattle.std.proofs.Common.{◌∙◌, sym, refl}
 use Rattle.jm_pending.specs.Lanes.{rows_of}
 use Rattle.jm_pending.proofs.Home.{home_known, home_shown}
 use Rattle.jm_pending.proofs.held.Held.is_home.Goals as goal
@@ -9,3 +9,6 @@ returns-then-is_nobody c =
 
 pub returns-else-is_nobody : goal.returns-else-is_nobody
 returns-else-is_nobody c = rw (← c.self.view_is) ((rw c.deref.ensures.value at c.are_home.ensures) ∙ sym (home_shown c.self.inside.lanes.items))
+
+pub returns-then-is_empty : goal.returns-then-is_empty
+returns-then-is_empty c = rw (c.is_empty.ensures c.if-is_empty.true) refl

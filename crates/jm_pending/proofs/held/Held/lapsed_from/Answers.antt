@@ -1,4 +1,4 @@
-use Rattle.std.proofs.Common.{◌<◌}
+use Rattle.std.proofs.Common.{◌<◌, refl}
 use Rattle.jm_dest.specs.Numbers.{long_end}
 use Rattle.jm_pending.specs.declared.row.Row.{Row}
 use Rattle.jm_pending.specs.Cursors.{lapsed_from}
@@ -9,3 +9,7 @@ use Rattle.jm_pending.proofs.held.Held.lapsed_from.Goals as goal
 pub returns-clause-place : goal.returns-clause-place
 returns-clause-place c =
     rw (rw c.deref.ensures.value at c.lapsed_from.ensures) (find_has (λ (r : Row). r.place < long_end) (lapsed_from c.args.place c.args.now) (rows_of c.self.inside.lanes.items) (all_sorted (λ (r : Row). r.place < long_end) (all_rows c.self.inside.lanes.items) c.self.invariant.0.bounded))
+
+pub returns-then-is_empty-clause-row : goal.returns-then-is_empty-clause-row
+returns-then-is_empty-clause-row c =
+    rw (c.is_empty.ensures c.if-is_empty.true) refl

@@ -1,6 +1,6 @@
-use Rattle.std.proofs.Common.{[], ap}
+use Rattle.std.proofs.Common.{ap, refl}
 use Rattle.jm_pending.specs.declared.receivers.Receivers.TheVariants.{Nobody}
-use Rattle.jm_pending.specs.Lanes.{IsHeld, rows_of}
+use Rattle.jm_pending.specs.Lanes.{rows_of}
 use Rattle.jm_pending.proofs.Making.{none_held}
 use Rattle.jm_pending.proofs.Receiving.{known_no_rows}
 use Rattle.jm_pending.proofs.held.Held.new.Goals as goal
@@ -8,4 +8,4 @@ use Rattle.jm_pending.proofs.held.Held.new.Goals as goal
 pub invariant_of-result : goal.invariant_of-result
 invariant_of-result c =
     let none = c.new.ensures.items in
-    (rw none none_held, known_no_rows Nobody _ (ap rows_of none))
+    (rw none none_held, known_no_rows Nobody _ (ap rows_of none), rw none refl)

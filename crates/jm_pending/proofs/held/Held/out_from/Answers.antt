@@ -1,4 +1,4 @@
-use Rattle.std.proofs.Common.{◌<◌}
+use Rattle.std.proofs.Common.{◌<◌, refl}
 use Rattle.jm_dest.specs.Numbers.{long_end}
 use Rattle.jm_machine.specs.Machine.{are_meant}
 use Rattle.jm_pending.specs.declared.row.Row.{Row}
@@ -15,3 +15,7 @@ returns-then-include-clause-place c =
 pub returns-else-include-clause-row : goal.returns-else-include-clause-row
 returns-else-include-clause-row c =
     rw (← c.self.view_is) (none_out (are_meant c.args.which.now) c.args.place c.self.inside.receivers (rows_of c.self.inside.lanes.items) (c.include.ensures c.if-include.false) c.self.invariant.1)
+
+pub returns-then-is_empty-clause-row : goal.returns-then-is_empty-clause-row
+returns-then-is_empty-clause-row c =
+    rw (c.is_empty.ensures c.if-is_empty.true) refl
