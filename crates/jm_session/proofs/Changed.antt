@@ -1,5 +1,5 @@
 -- What a change of values leaves, one after the other, or of one alone that is found by its number.
-use Rattle.std.proofs.Common.{◌≡◌, ◌<◌, ◌≤◌, ◌+◌, ℕ, zero, suc, length, Bool, true, false, true≢false, cond, List, [], ◌∷◌, None, Some, refl, sym, ap, subst, ◌∙◌, arith, add-one}
+use Rattle.std.proofs.Common.{◌≡◌, ◌<◌, ◌≤◌, ℕ, zero, suc, length, Bool, true, false, true≢false, cond, List, [], ◌∷◌, None, Some, refl, sym, ap, subst, ◌∙◌, arith}
 use Rattle.std.specs.Prelude.{◌==◌, ◌&&◌, map, slice_get, position, nat_lt}
 use Rattle.std.proofs.lemmas.Bool.Decides.{nat_tests}
 use Rattle.std.proofs.lemmas.Bool.{eqb-true}
@@ -18,40 +18,6 @@ use Rattle.jm_session.specs.Numbers.{IsNumbered, number_of, with_changed}
 use Rattle.jm_session.proofs.Found.{found_at, number_eq}
 
 module _ {K V : Type 0} (f : V → V) where
-  -- the entries, of which so many from the front on are changed
-  abbrev pub begun : ℕ → List (K × V) → List (K × V)
-  begun zero entries = entries
-  begun (suc n) [] = []
-  begun (suc n) (e ∷ entries) = (e.0, f e.1) ∷ begun n entries
-
-  -- they are as many
-  pub length_begun : (n : ℕ) (entries : List (K × V)) → length (begun n entries) ≡ length entries
-  length_begun zero entries = refl
-  length_begun (suc n) [] = refl
-  length_begun (suc n) (e ∷ entries) = ap suc (length_begun n entries)
-
-  -- one more is changed where it stands
-  changed_next : (n : ℕ) (entries : List (K × V)) (v : V) → slice_get (values_of (begun n entries)) n ≡ Some v → set_value_at (begun n entries) n (f v) ≡ begun (suc n) entries
-  changed_next zero [] v is = cc
-  changed_next zero (e ∷ entries) v is = let same : e.1 ≡ v = cc in λ i. (e.0, f (sym same i)) ∷ entries
-  changed_next (suc n) [] v is = cc
-  changed_next (suc n) (e ∷ entries) v is = ap (λ es. (e.0, f e.1) ∷ es) (changed_next n entries v is)
-
-  pub begun_next : (n : ℕ) (entries now : List (K × V)) (v : V) → now ≡ begun n entries → slice_get (values_of now) n ≡ Some v → set_value_at now n (f v) ≡ begun (n + 1) entries
-  begun_next n entries now v same is = rw (same, add-one) (changed_next n entries v (rw same at is))
-
-  -- the next one stands among them
-  pub begun_within : (n m : ℕ) (entries now : List (K × V)) → now ≡ begun n entries → m ≡ length entries → n < m → n < length now
-  begun_within n m entries now same all h = omega (arith, ap length same, length_begun n entries)
-
-  -- all are changed
-  all_begun : (entries : List (K × V)) → begun (length entries) entries ≡ with_changed f entries
-  all_begun [] = refl
-  all_begun (e ∷ entries) = ap (λ es. (e.0, f e.1) ∷ es) (all_begun entries)
-
-  pub begun_all : (n : ℕ) (entries : List (K × V)) → n ≡ length entries → begun n entries ≡ with_changed f entries
-  begun_all n entries e = ap (λ m. begun m entries) e ∙ all_begun entries
-
   -- the values of changed entries
   pub values_changed : (entries : List (K × V)) → values_of (with_changed f entries) ≡ map f (values_of entries)
   values_changed [] = refl
@@ -162,3 +128,19 @@ session_keeps p x = left (λ (y : SessionState). y.id) (p x.id) (record x { is_o
 -- a consumer that closes keeps its number
 pub consumer_keeps : (p : SessionId → ℕ → Bool) (x : Consumer) → number_of (closed_consumer p x) ≡ number_of x
 consumer_keeps p x = left number_of (p x.session x.id) (record x { is_active = false }) x refl
+
+-- a session that is closed stays as it is where it closes
+pub session_stays : (p : SessionId → Bool) (x : SessionState) → x.is_open ≡ false → closed_where p x ≡ x
+session_stays p x closed = go (p x.id)
+  where
+    go : (b : Bool) → cond b (record x { is_open = false }) x ≡ x
+    go true = λ i. record x { is_open = sym closed i }
+    go false = refl
+
+-- a consumer that is closed stays as it is where it closes
+pub consumer_stays : (p : SessionId → ℕ → Bool) (x : Consumer) → x.is_active ≡ false → closed_consumer p x ≡ x
+consumer_stays p x closed = go (p x.session x.id)
+  where
+    go : (b : Bool) → cond b (record x { is_active = false }) x ≡ x
+    go true = λ i. record x { is_active = sym closed i }
+    go false = refl

@@ -3,3 +3,4 @@ mod Changed
 mod Counts
 mod Found
 mod Counted
+mod Walked

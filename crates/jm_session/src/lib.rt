@@ -22,8 +22,10 @@
 //! key has none. Look-ups by number do not scan and take no memory, nor do `start`, `stop` and the three closes, and
 //! no call does for which room was reserved.
 //!
-//! What is closed stays known, and its number is never free again; closing it again does nothing. `of_one` holds the
-//! connection, the session and the consumer that are given, as they are, and nothing else.
+//! Where the active consumers and the open sessions stand is kept (`AreActive`, `AreOpen`, invariants of the types),
+//! so a close looks at those alone, and a consumer that closes alone is found by its number. What is closed stays
+//! known, and its number is never free again; closing it again does nothing. `of_one` holds the connection, the
+//! session and the consumer that are given, as they are, and nothing else.
 //!
 //! `Sends` is seen as a function from sessions to how many sends of each were stamped, and the room that is left: it
 //! gives the number of the next send, `None` where the count is at its end, and counts one; that takes memory at a

@@ -1,10 +1,11 @@
-//! One connection, session or consumer, or none, by its number.
+//! One connection, session or consumer, or none, by its number, and its position.
 
-ghost use Rattle.std.specs.Prelude.{◌≡◌, map, option_to_list, IfOk};
+ghost use Rattle.std.specs.Prelude.{◌≡◌, ◌==◌, ◌&&◌, ℕ, map, nat_eq, option_to_list, IfOk};
+ghost use Rattle.indexmap.specs.IndexSet.{contains};
 ghost use Rattle.jm_session.specs.Numbers.{number_of};
 
 use crate::number::ConsumerNumber;
-use indexmap::IndexMap;
+use indexmap::{IndexMap, IndexSet};
 use jm_dest::{ConnectionId, SessionId};
 use jm_machine::{ConnectionState, Consumer, SessionState};
 use std::alloc::{AllocError, Global};
@@ -48,6 +49,17 @@ pub(crate) fn one_consumer(
             consumer: consumer.id,
         };
         drop(one.insert(number, consumer)?);
+    }
+    Ok(one)
+}
+
+/// The first position, where what stands there is open.
+pub(crate) fn one_position(alloc: Global, is_open: bool) -> Result<IndexSet<usize>, AllocError>
+    ensures { IfOk result (λ one. (at : ℕ) → contains nat_eq one at ≡ (is_open && (0 == at))) }
+{
+    let mut one = IndexSet::new(alloc);
+    if is_open {
+        one.insert(0)?;
     }
     Ok(one)
 }

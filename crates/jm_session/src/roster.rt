@@ -1,27 +1,30 @@
 //! The consumers, by number, and how many active ones the subscriptions that have names have.
 
-ghost use Rattle.std.specs.Prelude.{◌≡◌, ◌+◌, ◌<◌, ◌≤◌, ◌++◌, [], ◌∷◌, map, false, is_some, option_to_list, IfOk, OnOk, IsOk};
+ghost use Rattle.std.specs.Prelude.{◌≡◌, ◌+◌, ◌<◌, ◌≤◌, ◌++◌, [], ◌∷◌, map, true, false, is_some, option_to_list, IfOk, OnOk, IsOk};
 ghost use Rattle.std.specs.Option.{option_copied};
 ghost use Rattle.indexmap.specs.IndexMap.{spare, values};
+ghost use Rattle.indexmap.specs.IndexSet as index_set;
 ghost use Rattle.jm_machine.specs.Attached.{AreCounted};
 ghost use Rattle.jm_machine.specs.Machine as machine;
 ghost use Rattle.jm_session.specs.Numbers.{IsNumbered, number_of};
+ghost use Rattle.jm_session.specs.Positions.{AreActive};
 
 use crate::closing::{close_consumer, close_consumers};
 use crate::marks::{mark_busy, mark_listening};
 use crate::number::ConsumerNumber;
-use crate::one::one_consumer;
+use crate::one::{one_consumer, one_position};
 use crate::source::Source;
-use indexmap::IndexMap;
+use indexmap::{IndexMap, IndexSet};
 use jm_dest::{ConsumerId, SessionId};
 use jm_machine::{Attached, Consumer, Consumers};
 use std::alloc::{AllocError, Global};
 use std::marker::Model;
 
-/// The consumers that were made, each in order and found by its number, and of the keys that have names how many active
-/// ones each has. Contracts see the consumers as the machine's list, and `spare`, for how many more there is room.
+/// The consumers that were made, each in order and found by its number, where the active ones stand, and of the keys that
+/// have names how many active ones each has. Contracts see the consumers as the machine's list, and `spare`, for how many more there is room.
 pub(crate) struct Roster {
     consumers: IndexMap<ConsumerNumber, Consumer>,
+    active: IndexSet<usize>,
     attached: Attached,
     /// For so many more keys there is room in `attached`.
     room: usize,
@@ -31,6 +34,7 @@ impl Drop for Roster {
     fn drop(self) {
         let Roster {
             consumers: _consumers,
+            active: _active,
             attached: _attached,
             room: _,
         } = self;
@@ -40,33 +44,46 @@ impl Drop for Roster {
 impl Model for Roster {
     ghost use Rattle.std.specs.Prelude.{◌≤◌, min};
     ghost use Rattle.indexmap.specs.IndexMap.{spare, values};
+    ghost use Rattle.indexmap.specs.IndexSet as index_set;
     ghost use Rattle.jm_machine.specs.Attached.{AreCounted};
     ghost use Rattle.jm_session.specs.Known.{Listed};
     ghost use Rattle.jm_session.specs.Numbers.{IsNumbered, number_of};
+    ghost use Rattle.jm_session.specs.Positions.{AreActive};
 
     ghost Value = { Listed };
 
-    ghost view = { λ r. record { consumers = values r.consumers; spare = min (spare r.consumers) r.room } };
+    ghost view = { λ r. record { consumers = values r.consumers; spare = min (min (spare r.consumers) (index_set.spare r.active)) r.room } };
 
     ghost invariant = { λ r.
         IsNumbered number_of r.consumers.entries
         × AreCounted (values r.consumers) r.attached
-        × (r.room ≤ r.attached.spare) };
+        × (r.room ≤ r.attached.spare)
+        × AreActive (values r.consumers) r.active };
 }
 
-/// Adds the consumer, whose number none has yet. Takes no memory.
-fn append(consumers: &mut IndexMap<ConsumerNumber, Consumer>, consumer: Consumer)
+/// Adds the consumer, which is active, and whose number none has yet. Takes no memory.
+fn append(
+    consumers: &mut IndexMap<ConsumerNumber, Consumer>,
+    active: &mut IndexSet<usize>,
+    consumer: Consumer,
+)
     requires room { 0 < spare consumers.old }
+    requires positions_room { 0 < index_set.spare active.old }
     requires new { is_some (machine.consumer_of (values consumers.old) consumer.session consumer.id) ≡ false }
     requires numbered { IsNumbered number_of consumers.old.entries }
+    requires is_active { consumer.is_active ≡ true }
+    requires positions { AreActive (values consumers.old) active.old }
     ensures values { values consumers.new ≡ values consumers.old ++ consumer ∷ [] }
     ensures numbered { IsNumbered number_of consumers.new.entries }
+    ensures positions { AreActive (values consumers.new) active.new }
     ensures spare { spare consumers.old ≤ spare consumers.new + 1 }
+    ensures positions_spare { index_set.spare active.old ≤ index_set.spare active.new + 1 }
 {
     let number = ConsumerNumber {
         session: consumer.session,
         consumer: consumer.id,
     };
+    drop(active.insert(consumers.len()));
     drop(consumers.insert(number, consumer));
 }
 
@@ -87,6 +104,7 @@ impl Roster {
     {
         Roster {
             consumers: IndexMap::new(alloc),
+            active: IndexSet::new(alloc),
             attached: Attached::new(alloc),
             room: 0,
         }
@@ -96,10 +114,16 @@ impl Roster {
     pub(crate) fn of_one(alloc: Global, consumer: Option<Consumer>) -> Result<Roster, AllocError>
         ensures { IfOk result (λ one. one.consumers ≡ option_to_list consumer) }
     {
+        let is_active = match &consumer {
+            Some(consumer) => consumer.is_active,
+            None => false,
+        };
+        let active = one_position(alloc, is_active)?;
         let consumers = one_consumer(alloc, consumer)?;
         let attached = Attached::of(alloc, consumers.values().as_slice())?;
         Ok(Roster {
             consumers,
+            active,
             attached,
             room: 0,
         })
@@ -110,8 +134,10 @@ impl Roster {
         ensures { IfOk result (λ copy. copy.consumers ≡ self.now.consumers) }
     {
         let attached = Attached::of(alloc, self.as_slice())?;
+        let active = self.active.clone()?;
         Ok(Roster {
             consumers: copied_consumers(&self.consumers)?,
+            active,
             attached,
             room: 0,
         })
@@ -150,6 +176,7 @@ impl Roster {
         ensures consumers { self.new.consumers ≡ self.old.consumers }
     {
         self.consumers.reserve(n)?;
+        self.active.reserve(n)?;
         if self.room < n {
             self.attached.reserve(n)?;
             self.room = n;
@@ -175,7 +202,7 @@ impl Roster {
             is_listening: false,
             is_busy: false,
         };
-        append(&mut self.consumers, consumer);
+        append(&mut self.consumers, &mut self.active, consumer);
         // The length is what says that one more can be counted.
         let _number = self.consumers.len();
         if let Some(key) = counted {
@@ -184,12 +211,17 @@ impl Roster {
         }
     }
 
-    /// Closes those that are meant, in a walk over all. Takes no memory.
+    /// Closes those that are meant, in a walk over the active ones. Takes no memory.
     pub(crate) fn close(&mut self, which: &Consumers)
         ensures consumers { self.new.consumers ≡ map (machine.closed_consumer (machine.are_meant which.now)) self.old.consumers }
         ensures spare { self.old.spare ≤ self.new.spare }
     {
-        close_consumers(&mut self.consumers, &mut self.attached, which);
+        close_consumers(
+            &mut self.consumers,
+            &mut self.active,
+            &mut self.attached,
+            which,
+        );
     }
 
     /// Closes the session's consumer of that number, where it was made. Takes no memory.
@@ -201,7 +233,12 @@ impl Roster {
             session: *session,
             consumer: id,
         };
-        close_consumer(&mut self.consumers, &mut self.attached, number);
+        close_consumer(
+            &mut self.consumers,
+            &mut self.active,
+            &mut self.attached,
+            number,
+        );
     }
 
     /// The session's consumer of that number, where it was made, has that mark of its listener. Takes no memory.

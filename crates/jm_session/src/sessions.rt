@@ -14,10 +14,10 @@ ghost use Rattle.jm_session.specs.Known.{cause, life_set, may_set_busy, open_cau
 
 use crate::clients::Clients;
 use crate::closing::{close_session, close_sessions};
-use crate::one::{one_connection, one_session};
+use crate::one::{one_connection, one_position, one_session};
 use crate::roster::Roster;
 use crate::source::Source;
-use indexmap::IndexMap;
+use indexmap::{IndexMap, IndexSet};
 use jm_base::{Mode, Refusal};
 use jm_dest::{ClientId, ConnectionId, ConsumerId, Key, SessionId};
 use jm_machine::{Attached, ConnectionState, Consumer, Consumers, SessionState};
@@ -25,12 +25,13 @@ use std::alloc::{AllocError, Global};
 use std::marker::Model;
 
 /// The connections and sessions that were opened, and the consumers that were made in them, each in
-/// order and found by its number. Contracts see the connections and sessions as the machine's `Life`,
-/// the consumers as its list, and `spare`, for how many more calls there is room.
+/// order and found by its number, and where the open sessions stand. Contracts see the connections and
+/// sessions as the machine's `Life`, the consumers as its list, and `spare`, for how many more calls there is room.
 pub struct Sessions {
     alloc: Global,
     connections: IndexMap<ConnectionId, ConnectionState>,
     sessions: IndexMap<SessionId, SessionState>,
+    opened: IndexSet<usize>,
     roster: Roster,
     clients: Clients,
 }
@@ -41,6 +42,7 @@ impl Drop for Sessions {
             alloc: _alloc,
             connections: _connections,
             sessions: _sessions,
+            opened: _opened,
             roster: _roster,
             clients: _clients,
         } = self;
@@ -50,24 +52,27 @@ impl Drop for Sessions {
 impl Model for Sessions {
     ghost use Rattle.std.specs.Prelude.{◌≡◌, min, true};
     ghost use Rattle.indexmap.specs.IndexMap.{spare, values};
+    ghost use Rattle.indexmap.specs.IndexSet as index_set;
     ghost use Rattle.jm_session.specs.Clients.{AreClientsApart, IsIndexOf, room};
     ghost use Rattle.jm_session.specs.Known.{Known};
 
     ghost Value = { Known };
 
     ghost use Rattle.jm_session.specs.Numbers.{IsNumbered};
+    ghost use Rattle.jm_session.specs.Positions.{AreOpen};
 
     ghost view = { λ s. record {
       life = record { connections = values s.connections; sessions = values s.sessions };
       consumers = s.roster.consumers;
-      spare = min (min (spare s.connections) (room s.clients)) (min (spare s.sessions) s.roster.spare);
+      spare = min (min (spare s.connections) (room s.clients)) (min (min (spare s.sessions) (index_set.spare s.opened)) s.roster.spare);
     } };
 
     ghost invariant = { λ s.
         IsNumbered (λ x. x.id) s.connections.entries
         × IsNumbered (λ x. x.id) s.sessions.entries
         × AreClientsApart (values s.connections)
-        × (s.clients.has_all ≡ true → IsIndexOf (values s.connections) s.clients) };
+        × (s.clients.has_all ≡ true → IsIndexOf (values s.connections) s.clients)
+        × AreOpen (values s.sessions) s.opened };
 }
 
 /// The same connections, under the same numbers. `AllocError` where a request for memory was refused.
@@ -112,6 +117,7 @@ impl Sessions {
             alloc,
             connections: IndexMap::new(alloc),
             sessions: IndexMap::new(alloc),
+            opened: IndexSet::new(alloc),
             roster: Roster::new(alloc),
             clients: Clients::new(alloc),
         }
@@ -129,6 +135,11 @@ impl Sessions {
         ensures consumers { IfOk result (λ one. one.consumers ≡ option_to_list consumer) }
     {
         let roster = Roster::of_one(alloc, consumer)?;
+        let is_open = match &session {
+            Some(session) => session.is_open,
+            None => false,
+        };
+        let opened = one_position(alloc, is_open)?;
         let sessions = one_session(alloc, session)?;
         let connections = one_connection(alloc, connection)?;
         let clients = Clients::of(alloc, connections.values().as_slice())?;
@@ -136,6 +147,7 @@ impl Sessions {
             alloc,
             connections,
             sessions,
+            opened,
             roster,
             clients,
         })
@@ -148,11 +160,13 @@ impl Sessions {
     {
         let clients = Clients::of(self.alloc, self.connections())?;
         let roster = self.roster.copy(self.alloc)?;
+        let opened = self.opened.clone()?;
         let sessions = copied_sessions(&self.sessions)?;
         Ok(Sessions {
             alloc: self.alloc,
             connections: copied_connections(&self.connections)?,
             sessions,
+            opened,
             roster,
             clients,
         })
@@ -409,6 +423,7 @@ impl Sessions {
     {
         self.connections.reserve(n)?;
         self.sessions.reserve(n)?;
+        self.opened.reserve(n)?;
         self.roster.reserve(n)?;
         let connections = self.connections.values().as_slice();
         self.clients.reserve(self.alloc, connections, n)
@@ -496,8 +511,8 @@ impl Sessions {
     }
 
     /// Closes the connection, its sessions and their consumers, which stay known. `IllegalState` where it
-    /// was never opened; closing a closed one does nothing. Takes no memory. It walks over the sessions and
-    /// the consumers.
+    /// was never opened; closing a closed one does nothing. Takes no memory. It walks over the open sessions
+    /// and the active consumers.
     pub fn close_connection(&mut self, id: ConnectionId) -> Result<(), Refusal>
         ensures ok { is_ok result ≡ is_some (life.connection_of self.old.life.connections id) }
         ensures refused { IfErr result (λ refusal. refusal ≡ IllegalState) }
@@ -513,7 +528,7 @@ impl Sessions {
         self.clients.free(connection);
         connection.is_started = false;
         connection.is_open = false;
-        close_sessions(&mut self.sessions, id);
+        close_sessions(&mut self.sessions, &mut self.opened, id);
         self.roster.close(&Consumers::OfConnection(id));
         Ok(())
     }
@@ -538,15 +553,16 @@ impl Sessions {
             mode,
             is_open: true,
         };
-        match self.sessions.insert(*id, session) {
-            Ok(_) => Ok(()),
-            Err(_) => Err(Refusal::Memory),
-        }
+        self.sessions.reserve(1)?;
+        self.opened.reserve(1)?;
+        drop(self.opened.insert(self.sessions.len()));
+        drop(self.sessions.insert(*id, session));
+        Ok(())
     }
 
     /// Closes the session and its consumers, which stay known. `IllegalState` where it was never opened,
     /// unless its connection is closed; closing a closed one does nothing. Takes no memory. It walks over
-    /// the consumers.
+    /// the active consumers.
     pub fn close_session(&mut self, id: &SessionId) -> Result<(), Refusal>
         ensures ok { is_ok result ≡ machine.may_close_session self.old.life id.now }
         ensures refused { IfErr result (λ refusal. refusal ≡ IllegalState) }
@@ -558,7 +574,7 @@ impl Sessions {
         if !self.may_close_session(id) {
             return Err(Refusal::IllegalState);
         }
-        close_session(&mut self.sessions, id);
+        close_session(&mut self.sessions, &mut self.opened, id);
         self.roster.close(&Consumers::OfSession(*id));
         Ok(())
     }

@@ -12,6 +12,7 @@ invariant_of-self c = (
   subst (IsNumbered number_of) (sym c.close_consumers.ensures.entries) (numbered_changed (closed_consumer (are_meant c.args.which.now)) number_of (consumer_keeps (are_meant c.args.which.now)) c.self.inside.consumers.entries c.self.invariant.0),
   c.close_consumers.ensures.counted,
   omega (arith, c.self.invariant.2, c.close_consumers.ensures.counts_spare),
+  c.close_consumers.ensures.positions,
 )
 
 pub returns-clause-consumers : goal.returns-clause-consumers

@@ -9,6 +9,7 @@ invariant_of-self c = (
   (c.close_consumer.ensures.entries c.self.invariant.0).1,
   c.close_consumer.ensures.counted,
   omega (arith, c.self.invariant.2, c.close_consumer.ensures.counts_spare),
+  c.close_consumer.ensures.positions,
 )
 
 pub returns-clause-consumers : goal.returns-clause-consumers

@@ -29,6 +29,7 @@ invariant_of-self c = (
   apart_closed (record c.index_mut-connection.result.now { is_started = false; is_open = false }) c.self.inside.connections.entries c.in-Some.at c.index_mut-connection.result.now c.index_mut-connection.ensures.value refl c.self.invariant.2,
   λ all. index_closed (record c.index_mut-connection.result.now { is_started = false; is_open = false }) c.self.inside.connections.entries c.in-Some.at c.index_mut-connection.result.now c.self.inside.clients c.free.new.self c.index_mut-connection.ensures.value refl c.self.invariant.2
       c.free.ensures.clients (c.self.invariant.3 (sym c.free.ensures.all ∙ all)),
+  c.close_sessions.ensures.positions,
 )
 
 pub returns-clause-ok : goal.returns-clause-ok

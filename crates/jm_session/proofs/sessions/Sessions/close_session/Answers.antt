@@ -15,6 +15,7 @@ invariant_of-self c = (
   (c.close_session.ensures.entries c.self.invariant.1).1,
   c.self.invariant.2,
   c.self.invariant.3,
+  c.close_session.ensures.positions,
 )
 
 pub returns-clause-life : goal.returns-clause-life

@@ -27,6 +27,7 @@ invariant_of-self-2 c =
       λ all. subst (λ xs. IsIndexOf xs c.note.new.self) (sym after.0)
           (index_of_more (values c.self.inside.connections) x c.self.inside.clients c.note.new.self (c.self.invariant.3 (c.note.ensures.all all))
           (λ client. c.note.ensures.clients all client ∙ ap (λ (s : ConnectionState). is_indexed c.self.inside.clients client || has_client s client) c.new_connection-connection.ensures)),
+      c.self.invariant.4,
     )
 
 pub returns-clause-life : goal.returns-clause-life

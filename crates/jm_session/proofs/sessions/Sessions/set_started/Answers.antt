@@ -30,6 +30,7 @@ invariant_of-self c = (
   c.self.invariant.1,
   apart_kept (record c.index_mut.result.now { is_started = c.args.on }) c.self.inside.connections.entries c.in-Some.at c.index_mut.result.now c.index_mut.ensures.value (λ client. refl) c.self.invariant.2,
   λ all. index_kept (record c.index_mut.result.now { is_started = c.args.on }) c.self.inside.connections.entries c.in-Some.at c.index_mut.result.now c.self.inside.clients c.index_mut.ensures.value (λ client. refl) (c.self.invariant.3 all),
+  c.self.invariant.4,
 )
 
 pub returns-clause-ok : goal.returns-clause-ok
