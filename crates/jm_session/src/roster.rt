@@ -21,7 +21,8 @@ use std::alloc::{AllocError, Global};
 use std::marker::Model;
 
 /// The consumers that were made, each in order and found by its number, where the active ones stand, and of the keys that
-/// have names how many active ones each has. Contracts see the consumers as the machine's list, and `spare`, for how many more there is room.
+/// have names how many active ones each has. Contracts see the consumers as the machine's list, and `spare`, for how many
+/// more there is room.
 pub(crate) struct Roster {
     consumers: IndexMap<ConsumerNumber, Consumer>,
     active: IndexSet<usize>,
