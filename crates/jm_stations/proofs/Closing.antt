@@ -1,124 +1,136 @@
--- Keys that go with what is held under them, from the last on.
-use Rattle.std.proofs.Common.{◌≡◌, ◌<◌, ◌≤◌, ◌-◌, ℕ, zero, suc, List, [], ◌∷◌, length, get_or, Bool, true, false, not, cond, refl, ap, sym, subst, ◌∙◌, arith}
-use Rattle.std.specs.List.{filter}
+-- Keys that go with what is held under them.
+use Rattle.std.proofs.Common.{◌≡◌, ◌<◌, ◌≤◌, ℕ, zero, suc, List, [], ◌∷◌, length, get_or, set, take, Bool, true, false, not, cond, refl, ap, sym, subst, ◌∙◌, arith}
+use Rattle.std.specs.List.{All, filter, items_where_true}
+use Rattle.std.specs.List.Retain.{IsFiltered, ReturnsInTurn}
+use Rattle.std.proofs.lemmas.List.Elements.{All-nil, All-cons, All-head, All-tail}
+use Rattle.std.proofs.lemmas.List.Sums.{sum_by-cons}
 use Rattle.jm_dest.specs.declared.key.Key.{Key}
+use Rattle.jm_pending.specs.Rows.{Held}
+use Rattle.jm_pending.specs.Holders.{Messages, KeepsMessages, Follows, rows_at}
+use Rattle.jm_pending.specs.Counts.{all_at, IsCounted}
 use Rattle.jm_stations.specs.Backlogs.{Backlog, kept_under}
-use Rattle.jm_stations.specs.Kept.{keys_without, list_without}
+use Rattle.jm_stations.specs.Kept.{all_rows, shown, all_shown, cleared, cleared_under, lists_under, IsBacklog, IsKept, IsTaken}
+use Rattle.jm_stations.proofs.Each.{keeps_then}
+use Rattle.jm_stations.proofs.Shown.{all_covered, all_backlogs_kept, all_shown_kept}
 
--- the keys, of which those from an index on go where they pass
-abbrev pub keys_from : (Key → Bool) → ℕ → List Key → List Key
-keys_from p zero keys = filter (λ k. not (p k)) keys
-keys_from p (suc n) [] = []
-keys_from p (suc n) (k ∷ keys) = k ∷ keys_from p n keys
+-- no key is looked at yet
+pub cleared_none : (p : Key → Bool) (keys : List Key) (lists : List Held) → lists ≡ cleared_under p (take 0 keys) lists
+cleared_none p [] lists = refl
+cleared_none p (k ∷ keys) lists = refl
 
--- and what is held under them
-abbrev pub list_from : (Key → Bool) → ℕ → List Key → List Backlog → List Backlog
-list_from p zero keys list = kept_under (λ k. not (p k)) keys list
-list_from p (suc n) [] list = []
-list_from p (suc n) (k ∷ keys) [] = []
-list_from p (suc n) (k ∷ keys) (b ∷ list) = b ∷ list_from p n keys list
+pub length-cleared : (p : Key → Bool) (keys : List Key) (lists : List Held) → length (cleared_under p keys lists) ≡ length lists
+length-cleared p [] lists = refl
+length-cleared p (k ∷ keys) [] = refl
+length-cleared p (k ∷ keys) (h ∷ lists) = ap suc (length-cleared p keys lists)
 
-keys_all : (p : Key → Bool) (keys : List Key) → keys_from p (length keys) keys ≡ keys
-keys_all p [] = refl
-keys_all p (k ∷ keys) = ap (λ xs. k ∷ xs) (keys_all p keys)
+-- one key more is
+pub cleared_more : (p : Key → Bool) (keys : List Key) (lists : List Held) (i : ℕ) (d : Key) (h h' : Held) → i < length keys → length keys ≡ length lists → h ≡ get_or (cleared_under p (take i keys) lists) i h → h' ≡ cleared (p (get_or keys i d)) h → set (cleared_under p (take i keys) lists) i h' ≡ cleared_under p (take (suc i) keys) lists
+cleared_more p [] lists i d h h' l n e is = absurd (omega (arith, l))
+cleared_more p (k ∷ keys) [] i d h h' l n e is = absurd (omega (arith, n))
+cleared_more p (k ∷ keys) (x ∷ lists) zero d h h' l n e is = ap (λ (y : Held). y ∷ lists) (is ∙ ap (cleared (p k)) e)
+cleared_more p (k ∷ keys) (x ∷ lists) (suc i) d h h' l n e is = ap (λ (ys : List Held). cleared (p k) x ∷ ys) (cleared_more p keys lists i d h h' (omega (arith, l)) (omega (arith, n)) e is)
 
-list_all : (p : Key → Bool) (keys : List Key) (list : List Backlog) → length keys ≡ length list → list_from p (length keys) keys list ≡ list
-list_all p [] [] e = refl
-list_all p [] (b ∷ list) e = absurd (omega (arith, e))
-list_all p (k ∷ keys) [] e = absurd (omega (arith, e))
-list_all p (k ∷ keys) (b ∷ list) e = ap (λ xs. b ∷ xs) (list_all p keys list (omega (arith, e)))
+-- messages that are kept stay kept where a list is cleared
+cleared_fewer : (b : Bool) (q : ℕ) (h : Held) → rows_at q (cleared b h).rows ≤ rows_at q h.rows
+cleared_fewer true q h = omega arith
+cleared_fewer false q h = omega arith
 
--- a key that was not looked at is the one that was there
-key_there : (p : Key → Bool) (keys : List Key) (n : ℕ) (d : Key) → n < length keys → get_or (keys_from p (suc n) keys) n d ≡ get_or keys n d
-key_there p [] n d l = absurd (omega (arith, l))
-key_there p (k ∷ keys) zero d l = refl
-key_there p (k ∷ keys) (suc n) d l = key_there p keys n d (omega (arith, l))
+pub cleared_keeps : (e : Bool) (a b c : Messages) (h h' : Held) → h' ≡ cleared e h → KeepsMessages a b → Follows b c h.rows h'.rows → KeepsMessages a c
+cleared_keeps e a b c h h' is k f =
+    keeps_then a b c h.rows h'.rows (λ q. subst (λ (x : Held). rows_at q x.rows ≤ rows_at q h.rows) (sym is) (cleared_fewer e q h)) k f
 
--- one key more is looked at
-key_more : (p : Key → Bool) (keys : List Key) (n : ℕ) (d : Key) → n < length keys → keys_without (p (get_or keys n d)) n (keys_from p (suc n) keys) ≡ keys_from p n keys
-key_more p [] n d l = absurd (omega (arith, l))
-key_more p (k ∷ keys) zero d l = go (p k)
+-- a list that goes is not looked at any more
+left_same : (p : Key → Bool) (keys : List Key) (lists : List Held) → lists_under (λ k. not (p k)) keys (cleared_under p keys lists) ≡ lists_under (λ k. not (p k)) keys lists
+left_same p [] lists = refl
+left_same p (k ∷ keys) [] = refl
+left_same p (k ∷ keys) (h ∷ lists) = go (p k) (lists_under (λ k. not (p k)) keys (cleared_under p keys lists)) (lists_under (λ k. not (p k)) keys lists) (left_same p keys lists)
   where
-    go : (b : Bool) → keys_without b 0 (k ∷ filter (λ k. not (p k)) keys) ≡ cond (not b) (k ∷ filter (λ k. not (p k)) keys) (filter (λ k. not (p k)) keys)
-    go true = refl
-    go false = refl
-key_more p (k ∷ keys) (suc n) d l = go (p (get_or keys n d)) ∙ ap (λ xs. k ∷ xs) (key_more p keys n d (omega (arith, l)))
-  where
-    go : (b : Bool) → keys_without b (suc n) (k ∷ keys_from p (suc n) keys) ≡ k ∷ keys_without b n (keys_from p (suc n) keys)
-    go true = refl
-    go false = refl
+    go : (b : Bool) (xs ys : List Held) → xs ≡ ys → cond (not b) (cleared b h ∷ xs) xs ≡ cond (not b) (h ∷ ys) ys
+    go true xs ys e = e
+    go false xs ys e = ap (λ (zs : List Held). h ∷ zs) e
 
-backlog_more : (p : Key → Bool) (keys : List Key) (list : List Backlog) (n : ℕ) (d : Key) → n < length keys → length keys ≡ length list → list_without (p (get_or keys n d)) n (list_from p (suc n) keys list) ≡ list_from p n keys list
-backlog_more p [] list n d l e = absurd (omega (arith, l))
-backlog_more p (k ∷ keys) [] n d l e = absurd (omega (arith, e))
-backlog_more p (k ∷ keys) (b ∷ list) zero d l e = go (p k)
-  where
-    go : (c : Bool) → list_without c 0 (b ∷ kept_under (λ k. not (p k)) keys list) ≡ cond (not c) (b ∷ kept_under (λ k. not (p k)) keys list) (kept_under (λ k. not (p k)) keys list)
-    go true = refl
-    go false = refl
-backlog_more p (k ∷ keys) (b ∷ list) (suc n) d l e = go (p (get_or keys n d)) ∙ ap (λ xs. b ∷ xs) (backlog_more p keys list n d (omega (arith, l)) (omega (arith, e)))
-  where
-    go : (c : Bool) → list_without c (suc n) (b ∷ list_from p (suc n) keys list) ≡ b ∷ list_without c n (list_from p (suc n) keys list)
-    go true = refl
-    go false = refl
+pub left_cleared : (p : Key → Bool) (keys : List Key) (lists a b : List Held) → a ≡ cleared_under p keys lists → b ≡ lists_under (λ k. not (p k)) keys a → b ≡ lists_under (λ k. not (p k)) keys lists
+left_cleared p keys lists a b e f = f ∙ ap (lists_under (λ k. not (p k)) keys) e ∙ left_same p keys lists
 
--- the keys from an index on are looked at, of lists that were as long as each other
-pub record IsClosed (p : Key → Bool) (n : ℕ) (old_keys keys : List Key) (old_list list : List Backlog) : Type 0 where
-  pub number : length old_keys ≡ length old_list
-  pub bound : n ≤ length old_keys
-  pub left : keys ≡ keys_from p n old_keys
-  pub under : list ≡ list_from p n old_keys old_list
+-- what goes has no rows
+rows_left : (q : ℕ) (p : Key → Bool) (keys : List Key) (lists : List Held) → length keys ≡ length lists → all_at q (all_rows (lists_under (λ k. not (p k)) keys (cleared_under p keys lists))) ≡ all_at q (all_rows (cleared_under p keys lists))
+rows_left q p [] [] e = refl
+rows_left q p [] (h ∷ lists) e = absurd (omega (arith, e))
+rows_left q p (k ∷ keys) [] e = refl
+rows_left q p (k ∷ keys) (h ∷ lists) e = go (p k) (lists_under (λ k. not (p k)) keys (cleared_under p keys lists)) (cleared_under p keys lists) (rows_left q p keys lists (omega (arith, e)))
+  where
+    go : (b : Bool) (xs ys : List Held) → all_at q (all_rows xs) ≡ all_at q (all_rows ys) → all_at q (all_rows (cond (not b) (cleared b h ∷ xs) xs)) ≡ all_at q (all_rows (cleared b h ∷ ys))
+    go true xs ys e = omega (arith, sum_by-cons (λ rows. rows_at q rows) [] (all_rows ys), e)
+    go false xs ys e = omega (arith, sum_by-cons (λ rows. rows_at q rows) h.rows (all_rows xs), sum_by-cons (λ rows. rows_at q rows) h.rows (all_rows ys), e)
 
-pub closed_none : (p : Key → Bool) (n : ℕ) (keys : List Key) (list : List Backlog) → n ≡ length keys → n ≡ length list → IsClosed p n keys keys list list
-closed_none p n keys list e f = record {
-  number = sym e ∙ f;
-  bound = omega (arith, e);
-  left = sym (ap (λ m. keys_from p m keys) e ∙ keys_all p keys);
-  under = sym (ap (λ m. list_from p m keys list) e ∙ list_all p keys list (sym e ∙ f));
+pub left_counted : (t : Messages) (p : Key → Bool) (keys : List Key) (lists a b : List Held) → length keys ≡ length lists → a ≡ cleared_under p keys lists → b ≡ lists_under (λ k. not (p k)) keys a → IsCounted t (all_rows a) → IsCounted t (all_rows b)
+left_counted t p keys lists a b n e f c =
+    let left : b ≡ lists_under (λ k. not (p k)) keys (cleared_under p keys lists) = f ∙ ap (lists_under (λ k. not (p k)) keys) e in
+    record { each = λ q. c.each q ∙ ap (λ xs. all_at q (all_rows xs)) e ∙ sym (rows_left q p keys lists n) ∙ sym (ap (λ xs. all_at q (all_rows xs)) left) }
+
+-- what is left keeps what each list keeps
+left_each : (P : Held → Type 0) (p : Key → Bool) (keys : List Key) (lists : List Held) → All P lists → All P (lists_under p keys lists)
+left_each P p [] lists a = All-nil P
+left_each P p (k ∷ keys) [] a = All-nil P
+left_each P p (k ∷ keys) (h ∷ lists) a = go (p k) (lists_under p keys lists) (left_each P p keys lists (All-tail P h lists a))
+  where
+    go : (b : Bool) (xs : List Held) → All P xs → All P (cond b (h ∷ xs) xs)
+    go true xs rest = All-cons P h xs (All-head P h lists a) rest
+    go false xs rest = rest
+
+-- and what callers see of it
+left_shown : (t : Messages) (p : Key → Bool) (keys : List Key) (lists : List Held) → all_shown t (lists_under p keys lists) ≡ kept_under p keys (all_shown t lists)
+left_shown t p [] lists = refl
+left_shown t p (k ∷ keys) [] = refl
+left_shown t p (k ∷ keys) (h ∷ lists) = go (p k) (lists_under p keys lists) (kept_under p keys (all_shown t lists)) (left_shown t p keys lists)
+  where
+    go : (b : Bool) (xs : List Held) (ys : List Backlog) → all_shown t xs ≡ ys → all_shown t (cond b (h ∷ xs) xs) ≡ cond b (shown t h ∷ ys) ys
+    go true xs ys e = ap (λ (zs : List Backlog). shown t h ∷ zs) e
+    go false xs ys e = e
+
+-- what is held after all
+pub closed_kept : (t t' : Messages) (place : ℕ) (p : Key → Bool) (keys : List Key) (lists : List Held) → IsKept t lists place → IsCounted t' (all_rows (lists_under p keys lists)) → KeepsMessages t t' → IsKept t' (lists_under p keys lists) place
+closed_kept t t' place p keys lists w counted keeps = record {
+  counted = counted;
+  each = all_backlogs_kept t t' place (lists_under p keys lists) keeps (all_covered t' (lists_under p keys lists) counted) (left_each (IsBacklog t place) p keys lists w.each);
+  places = w.places;
 }
 
-within_list : (p : Key → Bool) (keys : List Key) (list : List Backlog) (n : ℕ) → n < length keys → length keys ≡ length list → n < length (list_from p (suc n) keys list)
-within_list p [] list n l e = absurd (omega (arith, l))
-within_list p (k ∷ keys) [] n l e = absurd (omega (arith, e))
-within_list p (k ∷ keys) (b ∷ list) zero l e = omega arith
-within_list p (k ∷ keys) (b ∷ list) (suc n) l e =
-    let more : n < length (list_from p (suc n) keys list) = within_list p keys list n (omega (arith, l)) (omega (arith, e)) in
-    omega (arith, more)
+pub closed_shown : (t t' : Messages) (p : Key → Bool) (keys : List Key) (lists : List Held) → IsCounted t' (all_rows (lists_under p keys lists)) → KeepsMessages t t' → all_shown t' (lists_under p keys lists) ≡ kept_under p keys (all_shown t lists)
+closed_shown t t' p keys lists counted keeps = all_shown_kept t t' (lists_under p keys lists) keeps (all_covered t' (lists_under p keys lists) counted) ∙ left_shown t p keys lists
 
--- the index before is within
-closed_before : (p : Key → Bool) (n : ℕ) (old_keys keys : List Key) (old_list list : List Backlog) → IsClosed p (suc n) old_keys keys old_list list → n < length list
-closed_before p n old_keys keys old_list list w =
-    subst (λ (xs : List Backlog). n < length xs) (sym w.under) (within_list p old_keys old_list n (omega (arith, w.bound)) w.number)
+-- as many keys are left as lists
+pub as_many_left : (p : Key → Bool) (keys : List Key) (list : List Backlog) → length keys ≡ length list → length (filter p keys) ≡ length (kept_under p keys list)
+as_many_left p [] list e = refl
+as_many_left p (k ∷ keys) [] e = absurd (omega (arith, e))
+as_many_left p (k ∷ keys) (b ∷ list) e = go (p k) (filter p keys) (kept_under p keys list) (as_many_left p keys list (omega (arith, e)))
+  where
+    go : (c : Bool) (xs : List Key) (ys : List Backlog) → length xs ≡ length ys → length (cond c (k ∷ xs) xs) ≡ length (cond c (b ∷ ys) ys)
+    go true xs ys e = ap suc e
+    go false xs ys e = e
 
--- and the key there is looked at next
-closed_suc : (p : Key → Bool) (n : ℕ) (old_keys keys keys' : List Key) (old_list list list' : List Backlog) → IsClosed p (suc n) old_keys keys old_list list → ((d : Key) → keys' ≡ keys_without (p (get_or keys n d)) n keys) → ((d : Key) → list' ≡ list_without (p (get_or keys n d)) n list) → IsClosed p n old_keys keys' old_list list'
-closed_suc p n [] keys keys' old_list list list' w more under = absurd (omega (arith, w.bound))
-closed_suc p n (k ∷ old_keys) keys keys' old_list list list' w more under =
-    let inside : n < length (k ∷ old_keys) = omega (arith, w.bound) in
-    let there : get_or keys n k ≡ get_or (k ∷ old_keys) n k = ap (λ (xs : List Key). get_or xs n k) w.left ∙ key_there p (k ∷ old_keys) n k inside in
-    record {
-      number = w.number;
-      bound = omega (arith, w.bound);
-      left = more k ∙ ap (λ (x : Key). keys_without (p x) n keys) there ∙ ap (keys_without (p (get_or (k ∷ old_keys) n k)) n) w.left ∙ key_more p (k ∷ old_keys) n k inside;
-      under = under k ∙ ap (λ (x : Key). list_without (p x) n list) there ∙ ap (list_without (p (get_or (k ∷ old_keys) n k)) n) w.under ∙ backlog_more p (k ∷ old_keys) old_list n k inside w.number;
-    }
+-- a list stays where its key, which is taken in its turn, passes
+first_left : (p : Key → Bool) (k : Key) (h : Held) (lists : List Held) (answers : List Bool) (keys : List Key) (b : Bool) → b ≡ p k → items_where_true answers lists ≡ lists_under p keys lists → items_where_true (b ∷ answers) (h ∷ lists) ≡ lists_under p (k ∷ keys) (h ∷ lists)
+first_left p k h lists answers keys true e rest = ap (λ (xs : List Held). h ∷ xs) rest ∙ ap (λ a. cond a (h ∷ lists_under p keys lists) (lists_under p keys lists)) e
+first_left p k h lists answers keys false e rest = rest ∙ ap (λ a. cond a (h ∷ lists_under p keys lists) (lists_under p keys lists)) e
 
-before_is : (n : ℕ) → 0 < n → n ≡ suc (n - 1)
-before_is n l = omega (arith, l)
+none_left : (p : Key → Bool) (h : Held) (lists : List Held) (answers : List Bool) (b : Bool) → b ≡ false → items_where_true answers lists ≡ lists_under p [] lists → items_where_true (b ∷ answers) (h ∷ lists) ≡ lists_under p [] (h ∷ lists)
+none_left p h lists answers true e rest = cc
+none_left p h lists answers false e rest = rest
 
--- of keys that are left, the last is within
-pub closed_within : (p : Key → Bool) (n : ℕ) (old_keys keys : List Key) (old_list list : List Backlog) → 0 < n → IsClosed p n old_keys keys old_list list → n - 1 < length list
-closed_within p n old_keys keys old_list list l w =
-    closed_before p (n - 1) old_keys keys old_list list (subst (λ m. IsClosed p m old_keys keys old_list list) (before_is n l) w)
+module _ {F : Type 0} (R : F → Held → Bool → F → Type 0) (p : Key → Bool) (left : F → List Key) (I : F → Type 0) (step : (f : F) (h : Held) (b : Bool) (f' : F) → I f → R f h b f' → I f' × IsTaken p (left f) (left f') b) where
+  told_in_turn : (answers : List Bool) (lists : List Held) (keys : List Key) (f q : F) → I f → left f ≡ keys → length answers ≡ length lists → ReturnsInTurn R f answers lists q → items_where_true answers lists ≡ lists_under p keys lists
+  told_in_turn [] [] [] f q i e l k = refl
+  told_in_turn [] [] (a ∷ keys) f q i e l k = refl
+  told_in_turn [] (h ∷ lists) keys f q i e l k = absurd (omega (arith, l))
+  told_in_turn (b ∷ answers) [] keys f q i e l k = absurd k
+  told_in_turn (b ∷ answers) (h ∷ lists) [] f q i e l k =
+      let one = step f h b k.0 i k.1 in
+      none_left p h lists answers b (one.1.none e).0 (told_in_turn answers lists [] k.0 q one.0 (one.1.none e).1 (omega (arith, l)) k.2)
+  told_in_turn (b ∷ answers) (h ∷ lists) (a ∷ keys) f q i e l k =
+      let one = step f h b k.0 i k.1 in
+      first_left p a h lists answers keys b (one.1.one a keys e).0 (told_in_turn answers lists keys k.0 q one.0 (one.1.one a keys e).1 (omega (arith, l)) k.2)
 
--- and it is looked at
-pub closed_more : (p : Key → Bool) (n : ℕ) (old_keys keys keys' : List Key) (old_list list list' : List Backlog) → 0 < n → IsClosed p n old_keys keys old_list list → ((d : Key) → keys' ≡ keys_without (p (get_or keys (n - 1) d)) (n - 1) keys) → ((d : Key) → list' ≡ list_without (p (get_or keys (n - 1) d)) (n - 1) list) → IsClosed p (n - 1) old_keys keys' old_list list'
-closed_more p n old_keys keys keys' old_list list list' l w more under =
-    closed_suc p (n - 1) old_keys keys keys' old_list list list' (subst (λ m. IsClosed p m old_keys keys old_list list) (before_is n l) w) more under
-
--- all were looked at
-pub closed_keys : (p : Key → Bool) (n : ℕ) (old_keys keys : List Key) (old_list list : List Backlog) → n ≡ 0 → IsClosed p n old_keys keys old_list list → keys ≡ filter (λ k. not (p k)) old_keys
-closed_keys p n old_keys keys old_list list e w = w.left ∙ ap (λ m. keys_from p m old_keys) e
-
-pub closed_list : (p : Key → Bool) (n : ℕ) (old_keys keys : List Key) (old_list list : List Backlog) → n ≡ 0 → IsClosed p n old_keys keys old_list list → list ≡ kept_under (λ k. not (p k)) old_keys old_list
-closed_list p n old_keys keys old_list list e w = w.under ∙ ap (λ m. list_from p m old_keys old_list) e
+  -- what a walk leaves that takes a key for each list
+  pub left_in_turn : (f : F) (lists after : List Held) (keys : List Key) → I f → left f ≡ keys → IsFiltered R f lists after → after ≡ lists_under p keys lists
+  left_in_turn f lists after keys i e k = k.4 ∙ told_in_turn k.0 lists keys f k.1 i e k.2 k.3

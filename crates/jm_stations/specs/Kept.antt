@@ -1,6 +1,5 @@
 -- What is held inside: the rows of each key, over one table of messages.
-use Rattle.std.specs.Prelude.{◌≡◌, ◌≤◌, ◌<◌, ◌+◌, ◌-◌, ◌&&◌, ◌==◌, ℕ, Bool, true, not, List, [], ◌∷◌, ◌++◌, map, filter, length, slice_index_or, All, Option, Some, None, option_map, if◌then◌else◌}
-use Rattle.std.specs.List.{remove}
+use Rattle.std.specs.Prelude.{◌≡◌, ◌≤◌, ◌<◌, ◌+◌, ◌-◌, ◌&&◌, ◌==◌, ℕ, Bool, true, false, not, List, [], ◌∷◌, ◌++◌, map, filter, length, slice_index_or, All, Option, Some, None, option_map, if◌then◌else◌}
 use Rattle.jm_dest.specs.Numbers.{long_end}
 use Rattle.jm_dest.specs.declared.key.Key.{Key}
 use Rattle.jm_dest.specs.declared.session.SessionId.{SessionId}
@@ -112,10 +111,23 @@ abbrev pub copied : Bool → Messages → Option Row → Option Content
 copied settles t None = None
 copied settles t (Some r) = if settles && (holders_of t r.place == 1) then None else message_of t r.place
 
--- keys without the one at an index, where it goes
-abbrev pub keys_without : Bool → ℕ → List Key → List Key
-keys_without goes index keys = if goes then remove keys index else keys
+-- the rows of a list go, where it ends
+abbrev pub cleared : Bool → Held → Held
+cleared ends h = if ends then record h { rows = [] } else h
 
--- what is held under them
-abbrev pub list_without : Bool → ℕ → List Backlog → List Backlog
-list_without goes index list = if goes then remove list index else list
+-- the rows go of the lists whose keys pass
+abbrev pub cleared_under : (Key → Bool) → List Key → List Held → List Held
+cleared_under p [] lists = lists
+cleared_under p (k ∷ keys) [] = []
+cleared_under p (k ∷ keys) (h ∷ lists) = cleared (p k) h ∷ cleared_under p keys lists
+
+-- the lists whose keys pass
+abbrev pub lists_under : (Key → Bool) → List Key → List Held → List Held
+lists_under p [] lists = []
+lists_under p (k ∷ keys) [] = []
+lists_under p (k ∷ keys) (h ∷ lists) = if p k then h ∷ lists_under p keys lists else lists_under p keys lists
+
+-- a key was taken of those that are left, and the answer is whether it passes; where none is left it is `false`
+pub record IsTaken (p : Key → Bool) (before after : List Key) (answer : Bool) : Type 0 where
+  pub none : before ≡ [] → (answer ≡ false) × (after ≡ [])
+  pub one : (k : Key) (keys : List Key) → before ≡ k ∷ keys → (answer ≡ p k) × (after ≡ keys)

@@ -1,7 +1,8 @@
 //! The rows and the messages of all keys.
 
-ghost use Rattle.std.specs.Prelude.{◌≡◌, ◌≤◌, ◌<◌, ◌+◌, ◌-◌, ◌++◌, [], ◌∷◌, true, false, nat_eq, All, length, map, slice_index_or, is_some, IfOk, OnOk, OnErr};
+ghost use Rattle.std.specs.Prelude.{◌≡◌, ◌≤◌, ◌<◌, ◌+◌, ◌-◌, ◌++◌, [], ◌∷◌, true, false, not, nat_eq, All, length, map, slice_index_or, is_some, IfOk, OnOk, OnErr};
 ghost use Rattle.std.specs.List.{IsDistinct, remove};
+ghost use Rattle.jm_machine.specs.Attached.{ended};
 ghost use Rattle.jm_machine.specs.Machine.{are_meant, places_end};
 ghost use Rattle.jm_selector.specs.Selectors.{matches};
 ghost use Rattle.jm_stations.specs.Backlogs as spec;
@@ -15,9 +16,9 @@ ghost use Rattle.jm_stations.specs.Standing as standing;
 use crate::loading::{self, StoredRow};
 use crate::standing::{self, Standing};
 use crate::{copies, lists};
-use jm_dest::{ConsumerId, Moment, SessionId};
+use jm_dest::{ConsumerId, Key, Moment, SessionId};
 use jm_header::Message;
-use jm_machine::{Answer, Consumers, Delivery, PlacedRow, Row as MachineRow, RowState};
+use jm_machine::{Answer, Attached, Consumers, Delivery, PlacedRow, Row as MachineRow, RowState};
 use jm_pending::{Held, Row, Table, Taken};
 use jm_selector::Selector;
 use std::alloc::{AllocError, Global};
@@ -219,6 +220,18 @@ impl Backlogs {
     {
         let mut held = self.lists.remove(index);
         held.clear(&mut self.table);
+    }
+
+    /// The lists whose keys end with those consumers go with their rows, and each message that no other list holds with
+    /// them. Takes no memory.
+    pub fn close(&mut self, keys: &[Key], which: &Consumers, attached: &Attached)
+        requires { length keys.now ≡ length self.old.list }
+        ensures list { self.new.list ≡ spec.kept_under (λ k. not (ended which.now attached.now k)) keys.now self.old.list }
+        ensures next_place { self.new.next_place ≡ self.old.next_place }
+        ensures message_room { self.old.message_room ≤ self.new.message_room }
+        ensures list_room { self.old.list_room ≤ self.new.list_room }
+    {
+        lists::close_each(&mut self.lists, &mut self.table, keys, which, attached);
     }
 
     /// Makes room for that many more messages, and for as many more rows in each list with one of those indexes.

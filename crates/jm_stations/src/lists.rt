@@ -1,8 +1,9 @@
 //! Many lists of rows over one table.
 
-ghost use Rattle.std.specs.Prelude.{◌≡◌, ◌≤◌, ◌<◌, ◌+◌, ℕ, true, nat_eq, All, length, slice_index_or, map, option_map, OnOk};
+ghost use Rattle.std.specs.Prelude.{◌≡◌, ◌≤◌, ◌<◌, ◌+◌, ◌-◌, ℕ, true, not, nat_eq, All, length, slice_index_or, map, option_map, OnOk, vec_capacity, vec_len};
 ghost use Rattle.std.specs.List.{IsDistinct};
 ghost use Rattle.jm_dest.specs.Numbers.{long_end};
+ghost use Rattle.jm_machine.specs.Attached.{ended};
 ghost use Rattle.jm_machine.specs.Machine.{are_meant};
 ghost use Rattle.jm_pending.specs.Counts.{IsCounted};
 ghost use Rattle.jm_pending.specs.Rows.{Held, IsRising, next, sent};
@@ -12,8 +13,8 @@ ghost use Rattle.jm_selector.specs.Selectors.{matches};
 ghost use Rattle.jm_stations.specs.Backlogs.{changed_at};
 ghost use Rattle.jm_stations.specs.Kept as kept;
 
-use jm_dest::{ConsumerId, Moment, SessionId};
-use jm_machine::Consumers;
+use jm_dest::{ConsumerId, Key, Moment, SessionId};
+use jm_machine::{Attached, Consumers};
 use jm_pending::{Held, Row, Table, Taken};
 use jm_selector::Selector;
 use std::alloc::AllocError;
@@ -158,6 +159,72 @@ pub(crate) fn give_back_at(lists: &mut Vec<Held>, index: usize, which: &Consumer
 {
     let held = &mut lists[index];
     held.give_back(which);
+}
+
+/// All rows of the list go, where it ends.
+fn clear_where(held: &mut Held, table: &mut Table, ends: bool)
+    requires { Covers table.old held.old.rows }
+    ensures rows { held.new ≡ kept.cleared ends held.old }
+    ensures table { Follows table.old table.new held.old.rows held.new.rows }
+{
+    if ends {
+        held.clear(table);
+    }
+}
+
+/// All rows go of the lists whose keys end with those consumers.
+fn clear_each(
+    lists: &mut Vec<Held>,
+    table: &mut Table,
+    keys: &[Key],
+    which: &Consumers,
+    attached: &Attached,
+)
+    requires number { length keys.now ≡ length lists.old.items }
+    requires counted { IsCounted table.old (kept.all_rows lists.old.items) }
+    ensures lists { lists.new.items ≡ kept.cleared_under (ended which.now attached.now) keys.now lists.old.items }
+    ensures counted { IsCounted table.new (kept.all_rows lists.new.items) }
+    ensures messages { KeepsMessages table.old table.new }
+    ensures capacity { vec_capacity lists.new ≡ vec_capacity lists.old }
+{
+    for index in 0..lists.len() {
+        let ends = attached.ends(which, &keys[index]);
+        let held = &mut lists[index];
+        clear_where(held, table, ends);
+    }
+}
+
+/// The lists whose keys do not end with those consumers are brought together, in their order, in one pass. Where no key
+/// ends no list is moved.
+fn keep_each(lists: &mut Vec<Held>, keys: &[Key], which: &Consumers, attached: &Attached)
+    ensures lists { lists.new.items ≡ kept.lists_under (λ k. not (ended which.now attached.now k)) keys.now lists.old.items }
+    ensures len { vec_len lists.new ≤ vec_len lists.old }
+    ensures capacity { vec_capacity lists.new ≡ vec_capacity lists.old }
+{
+    let mut keys = keys.iter();
+    lists.retain(|_| match keys.next() {
+        Some(key) => !attached.ends(which, key),
+        None => false,
+    });
+}
+
+/// The lists whose keys end with those consumers go with their rows.
+pub(crate) fn close_each(
+    lists: &mut Vec<Held>,
+    table: &mut Table,
+    keys: &[Key],
+    which: &Consumers,
+    attached: &Attached,
+)
+    requires number { length keys.now ≡ length lists.old.items }
+    requires counted { IsCounted table.old (kept.all_rows lists.old.items) }
+    ensures lists { lists.new.items ≡ kept.lists_under (λ k. not (ended which.now attached.now k)) keys.now lists.old.items }
+    ensures counted { IsCounted table.new (kept.all_rows lists.new.items) }
+    ensures messages { KeepsMessages table.old table.new }
+    ensures room { vec_capacity lists.old - vec_len lists.old ≤ vec_capacity lists.new - vec_len lists.new }
+{
+    clear_each(lists, table, keys, which, attached);
+    keep_each(lists, keys, which, attached);
 }
 
 /// Makes room for that many more rows in each of the lists with those indexes.

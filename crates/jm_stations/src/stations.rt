@@ -9,7 +9,6 @@ ghost use Rattle.jm_machine.specs.Machine.{are_meant, places_end};
 ghost use Rattle.jm_selector.specs.Selectors.{matches};
 ghost use Rattle.jm_stations.specs.Backlogs as spec;
 ghost use Rattle.jm_stations.specs.Backlogs.{Backlog};
-ghost use Rattle.jm_stations.specs.Kept as kept;
 ghost use Rattle.jm_stations.specs.Loading.{AreLoaded};
 ghost use Rattle.jm_stations.specs.Stations.{index_in};
 ghost use Rattle.std.specs.Prelude.{find, option_map};
@@ -208,36 +207,6 @@ impl Stations {
         self.backlogs.remove(index);
     }
 
-    /// The key with that index goes, as `remove` takes it out, where it is to go.
-    fn remove_if(&mut self, index: usize, goes: bool)
-        requires { index < length self.old.list }
-        ensures removed { self.new ≡ record self.old {
-          keys = kept.keys_without goes index self.old.keys;
-          list = kept.list_without goes index self.old.list;
-          message_room = self.new.message_room;
-          key_room = self.new.key_room;
-        } }
-        ensures message_room { self.old.message_room ≤ self.new.message_room }
-        ensures key_room { self.old.key_room ≤ self.new.key_room }
-    {
-        if goes {
-            self.remove(index);
-        }
-    }
-
-    /// The key with that index goes, as `remove` takes it out, where its subscription ends with those consumers.
-    fn close_at(&mut self, which: &Consumers, attached: &Attached, index: usize)
-        requires { index < length self.old.list }
-        ensures keys { (d : Key) → self.new.keys ≡ kept.keys_without (ended which.now attached.now (slice_index_or self.old.keys index d)) index self.old.keys }
-        ensures list { (d : Key) → self.new.list ≡ kept.list_without (ended which.now attached.now (slice_index_or self.old.keys index d)) index self.old.list }
-        ensures next_place { self.new.next_place ≡ self.old.next_place }
-        ensures message_room { self.old.message_room ≤ self.new.message_room }
-        ensures key_room { self.old.key_room ≤ self.new.key_room }
-    {
-        let goes = ends_at(self.keys.as_slice(), which, attached, index);
-        self.remove_if(index, goes);
-    }
-
     /// The keys of the subscriptions that end once those consumers are closed, as `Attached::ends` has it, go with the rows
     /// under them, and each message that no other row holds with them; the others move up, in their order. Goes over all
     /// keys. Takes no memory.
@@ -248,7 +217,8 @@ impl Stations {
         ensures message_room { self.old.message_room ≤ self.new.message_room }
         ensures key_room { self.old.key_room ≤ self.new.key_room }
     {
-        close_each(self, which, attached);
+        self.backlogs.close(self.keys.as_slice(), which, attached);
+        self.keys.retain(|key| !attached.ends(which, key));
     }
 
     /// Makes room for that many more messages, and for as many more rows under each key with one of those indexes.
@@ -588,28 +558,5 @@ impl Stations {
         ensures { (d : Backlog) → result ≡ (slice_index_or self.now.list index d).missed }
     {
         self.backlogs.missed(index)
-    }
-}
-
-/// Whether the subscription of the key with that index ends with those consumers.
-fn ends_at(keys: &[Key], which: &Consumers, attached: &Attached, index: usize) -> bool
-    requires { index < length keys.now }
-    ensures { (d : Key) → result ≡ ended which.now attached.now (slice_index_or keys.now index d) }
-{
-    attached.ends(which, &keys[index])
-}
-
-/// The keys of the subscriptions that end with those consumers go, from the last on.
-fn close_each(stations: &mut Stations, which: &Consumers, attached: &Attached)
-    ensures keys { stations.new.keys ≡ filter (λ k. not (ended which.now attached.now k)) stations.old.keys }
-    ensures list { stations.new.list ≡ spec.kept_under (λ k. not (ended which.now attached.now k)) stations.old.keys stations.old.list }
-    ensures next_place { stations.new.next_place ≡ stations.old.next_place }
-    ensures message_room { stations.old.message_room ≤ stations.new.message_room }
-    ensures key_room { stations.old.key_room ≤ stations.new.key_room }
-{
-    let mut end = stations.len();
-    while end > 0 {
-        end -= 1;
-        stations.close_at(which, attached, end);
     }
 }
