@@ -30,7 +30,7 @@ taken a b x y e = ap (λ r. cond r x y) (eq-eqb a b e)
 passed : {A : Type 0} (a b : ℕ) (x y : A) → (a ≡ b → ⊥) → cond (nat_eq a b) x y ≡ y
 passed a b x y ne = ap (λ r. cond r x y) (ne_eqb a b ne)
 
--- two positions that are equal are the same
+-- equal positions may stand for one another
 positions_equal : IsEquivalence nat_eq
 positions_equal = record {
   refl = λ x. eq-eqb x x refl;
@@ -65,11 +65,12 @@ module _ {V : Type 0} (is_open : V → Bool) where
   pub positions_same : (xs : List V) (old new : Positions) → new.keys ≡ old.keys → ArePositions is_open xs old → ArePositions is_open xs new
   positions_same xs old new same h = λ at. ap (list_any (nat_eq at)) same ∙ h at
 
-  -- one alone, or none, is open
+  -- one alone is there, and is open
   abbrev pub is_one_open : Option V → Bool
   is_one_open None = false
   is_one_open (Some x) = is_open x
 
+  -- that is so where one is there and open, and where none is it is not
   pub one_some : (one : Option V) (x : V) (b : Bool) → one ≡ Some x → is_open x ≡ b → b ≡ is_one_open one
   one_some None x b is e = cc
   one_some (Some y) x b is e = let same : y ≡ x = cc in sym (ap is_open same ∙ e)
@@ -114,22 +115,11 @@ module _ {V : Type 0} (is_open : V → Bool) where
   last_other (y ∷ ys) x zero ne = refl
   last_other (y ∷ ys) x (suc at) ne = last_other ys x at (λ e. ne (ap suc e))
 
-  none_last : (xs : List V) (at : ℕ) → length xs ≡ at → is_open_at is_open xs at ≡ false
-  none_last [] at e = refl
-  none_last (y ∷ ys) zero e = absurd (omega (arith, e))
-  none_last (y ∷ ys) (suc at) e = none_last ys at (omega (arith, e))
-
   -- the positions with one more value, which is open
   pub positions_more : (xs : List V) (x : V) (old new : Positions) (n : ℕ) → length xs ≡ n → is_open x ≡ true → ArePositions is_open xs old → Updates nat_eq old new n true → ArePositions is_open (xs ++ x ∷ []) new
   positions_more xs x old new n last still h is = λ at. is.0 at ∙ one_or_not n at
       (λ e. taken n at true (contains nat_eq old at) e ∙ sym (last_here xs x at (last ∙ e) ∙ still))
       (λ ne. passed n at true (contains nat_eq old at) ne ∙ h at ∙ sym (last_other xs x at (λ e. ne (sym last ∙ e))))
-
-  -- one more that is not open changes none
-  pub positions_past : (xs : List V) (x : V) (positions : Positions) → is_open x ≡ false → ArePositions is_open xs positions → ArePositions is_open (xs ++ x ∷ []) positions
-  positions_past xs x positions closed h = λ at. h at ∙ one_or_not (length xs) at
-      (λ e. none_last xs at e ∙ sym (last_here xs x at e ∙ closed))
-      (λ ne. sym (last_other xs x at ne))
 
   module _ {K : Type 0} where
     -- one value in the place of another
@@ -147,6 +137,7 @@ module _ {V : Type 0} (is_open : V → Bool) where
     set_other (x ∷ xs) (suc n) w zero ne = refl
     set_other (x ∷ xs) (suc n) w (suc at) ne = set_other xs n w at (λ e. ne (ap suc e))
 
+    -- what is open at the position of a value
     open_here : (entries : List (K × V)) (n : ℕ) (v : V) → slice_get (values_of entries) n ≡ Some v → is_open_at is_open (values_of entries) n ≡ is_open v
     open_here [] n v there = cc
     open_here (x ∷ xs) zero v there = let same : x.1 ≡ v = cc in ap is_open same
@@ -171,7 +162,7 @@ module _ {V : Type 0} (is_open : V → Bool) where
       abbrev changed : K × V → K × V
       changed e = (e.0, f e.1)
 
-      -- an entry whose value is not open stays
+      -- an entry whose value is not open does not change
       closed_stays : (entries : List (K × V)) (at : ℕ) → is_open_at is_open (values_of entries) at ≡ false → slice_get entries at ≡ option_map changed (slice_get entries at)
       closed_stays [] at h = refl
       closed_stays (e ∷ entries) zero h = let same = still e.1 h in λ i. Some (e.0, sym same i)
@@ -193,6 +184,7 @@ module _ {V : Type 0} (is_open : V → Bool) where
           by at true e = refl
           by at false e = closed_stays first at (sym (h at) ∙ e)
 
+      -- nor does one whose value the change leaves
       value_of : (entries : List (K × V)) (n : ℕ) (v : V) → slice_get (values_of entries) n ≡ Some v → f v ≡ v → option_map changed (slice_get entries n) ≡ slice_get entries n
       value_of [] n v there same = cc
       value_of (e ∷ entries) zero v there same =
@@ -213,6 +205,7 @@ module _ {V : Type 0} (is_open : V → Bool) where
             passed = below_more (λ j. option_map changed (slice_get first (get_or positions.keys j 0)) ≡ slice_get first (get_or positions.keys j 0)) count walk.passed (rw place stays);
           }
 
+      -- a write of the changed value changes its entry, and no other
       changed_here : (entries : List (K × V)) (n : ℕ) (v : V) (at : ℕ) → slice_get (values_of entries) n ≡ Some v → n ≡ at → slice_get (set_value_at entries n (f v)) at ≡ option_map changed (slice_get entries at)
       changed_here [] n v at there e = cc
       changed_here (x ∷ xs) zero v zero there e = let same : x.1 ≡ v = cc in λ i. Some (x.0, f (sym same i))
@@ -258,6 +251,7 @@ module _ {V : Type 0} (is_open : V → Bool) where
               let apart : j ≡ count → ⊥ = omega (arith, less) in
               ap (λ ks. get_or ks j 0) keys ∙ get_or-take (length old.keys - 1) _ j 0 fits ∙ get_or-set_other old.keys count j _ 0 apart
 
+      -- lists with the same at each position are the same
       same_all : (xs ys : List (K × V)) → ((at : ℕ) → slice_get xs at ≡ slice_get ys at) → xs ≡ ys
       same_all [] [] h = refl
       same_all [] (y ∷ ys) h = let no : None ≡ Some y = h 0 in cc

@@ -247,30 +247,21 @@ impl Sessions {
     pub fn is_open_connection(&self, id: ConnectionId) -> bool
         ensures { result ≡ life.is_open_connection (life.connection_of self.now.life.connections id) }
     {
-        match self.connection_of(id) {
-            Some(connection) => connection.is_open,
-            None => false,
-        }
+        self.connection_of(id).is_some_and(|x| x.is_open)
     }
 
     /// Whether the connection of that number was opened, and is closed.
     pub fn is_closed_connection(&self, id: ConnectionId) -> bool
         ensures { result ≡ life.is_closed_connection (life.connection_of self.now.life.connections id) }
     {
-        match self.connection_of(id) {
-            Some(connection) => !connection.is_open,
-            None => false,
-        }
+        self.connection_of(id).is_some_and(|x| !x.is_open)
     }
 
     /// Whether the connection of that number is started.
     pub fn is_started(&self, id: ConnectionId) -> bool
         ensures { result ≡ life.is_started self.now.life id }
     {
-        match self.connection_of(id) {
-            Some(connection) => connection.is_started,
-            None => false,
-        }
+        self.connection_of(id).is_some_and(|x| x.is_started)
     }
 
     /// The session of that number, where it was opened.
