@@ -32,7 +32,7 @@ use Rattle.jm_tables.specs.Keys.{is_key, key_of}
 use Rattle.jm_tables.specs.Rows.{definition_in, is_at, is_under, record_at}
 use Rattle.jm_tables.specs.Schema.{station_tree, message_tree, held_tree, delayed_tree}
 use Rattle.jm_tables.specs.Valid as valid
-use Rattle.jm_tables.specs.Valid.{MayHold}
+use Rattle.jm_tables.specs.Valid.{IsStoredDelay, IsStoredHeld, MayHold}
 use Rattle.jm_decoding.specs.declared.station.StationRow.{StationRow}
 use Rattle.jm_decoding.specs.declared.message.MessageRow.{MessageRow}
 use Rattle.jm_decoding.specs.declared.held.HeldRow.{HeldRow}
@@ -42,7 +42,6 @@ use Rattle.jm_decoding.specs.Tables.{StandFor}
 use Rattle.jm_queries.specs.Shown.{AreHeld, AreMessages, AreStations, delay_shown, held_shown, key_cmp, station_shown}
 use Rattle.jm_loading.specs.Fitting.{IsDelayed, IsHeld, IsKept, is_holder, may_hold}
 use Rattle.jm_loading.specs.Said.{message_said}
-use Rattle.jm_load.specs.Faults.{IsDelayRow, IsHeldRow}
 use Rattle.jm_load.proofs.Finding.{found_some, one_alike}
 use Rattle.jm_load.proofs.Keys.{key_tied, same_place}
 use Rattle.jm_load.proofs.Listed.{any_behind, any_shown, row_behind, row_for, row_shown, value_of}
@@ -146,36 +145,33 @@ module _ (db : Trees) (srows mrows : List Row) (ss : List StationRow) (ms : List
       let held : may_hold key (if is_durable key then Some (definition_in row.0) else None) m ≡ true = subst (λ (k : Key). may_hold k (if is_durable k then Some (definition_in row.0) else None) m ≡ true) named may in
       (found.0, found.1, under_from key (definition_in found.0) m (subst (λ (d : Definition). may_hold key (if is_durable key then Some d else None) m ≡ true) asked held))
 
-  pub held_from : (r : Row) (h : HeldRow) → IsHeldOf r h → IsHeld ss ms h → IsHeldRow db r
+  pub held_from : (r : Row) (h : HeldRow) → IsHeldOf r h → IsHeld ss ms h → IsStoredHeld db r
   held_from r h is fits =
       let row = stored_message h.place fits.message fits.message_is in
       let station = holding h.key fits.message.message fits.holder in
       record {
-        stored = record {
-          place = h.place;
-          place_is = is.place_is;
-          count = h.count;
-          count_is = is.count_is;
-          count_within = fits.counted;
-          key = h.key;
-          key_is = is.key_is;
-          station = station.0;
-          station_is = station.1;
-          message = fits.message.message;
-          message_is = sym (record_is db h.place mrows ms are_m stand_m) ∙ ap (option_map (λ (m : MessageRow). format.record m.message)) fits.message_is;
-          may_hold = station.2;
-        };
-        message = row.2.record_is.message;
+        place = h.place;
+        place_is = is.place_is;
+        count = h.count;
+        count_is = is.count_is;
+        count_within = fits.counted;
+        key = h.key;
+        key_is = is.key_is;
+        station = station.0;
+        station_is = station.1;
+        message = fits.message.message;
+        message_is = sym (record_is db h.place mrows ms are_m stand_m) ∙ ap (option_map (λ (m : MessageRow). format.record m.message)) fits.message_is;
+        is_message = row.2.record_is.message;
+        may_hold = station.2;
       }
 
-  pub held_to : (r : Row) (h : HeldRow) → IsHeldOf r h → IsHeldRow db r → IsHeld ss ms h
-  held_to r h is whole =
-      let st = whole.stored in
+  pub held_to : (r : Row) (h : HeldRow) → IsHeldOf r h → IsStoredHeld db r → IsHeld ss ms h
+  held_to r h is st =
       let place : st.place ≡ h.place = same_number st.place h.place (sym st.place_is ∙ is.place_is) in
       let named : st.key ≡ h.key = same_key st.key h.key (sym st.key_is ∙ is.key_is) in
       let there = record_stands h.place (format.record st.message) (ap (λ (p : ℕ). record_at p (db message_tree)) (sym place) ∙ st.message_is) in
       let row = stored_message h.place there.0 there.1 in
-      let same = message_stands h.place st.message there.0 there.1 whole.message there.2 in
+      let same = message_stands h.place st.message there.0 there.1 st.is_message there.2 in
       let found = has_found (is_under st.key) (db station_tree) st.station st.station_is in
       let s = value_of IsStationOf srows ss (station_shown st.station) stand_s (row_shown station_shown (db station_tree) srows are_s.same st.station found.0) in
       let own : s.0.key ≡ h.key = is_that st.key s.0.key (ap (is_key st.key) (sym s.2.key_is) ∙ found.1) ∙ named in
@@ -193,27 +189,24 @@ module _ (db : Trees) (srows mrows : List Row) (ss : List StationRow) (ms : List
 
   -- ---- delayed
 
-  pub delay_from : (r : Row) (d : DelayRow) → IsDelayOf r d → IsDelayed ms d → IsDelayRow db r
+  pub delay_from : (r : Row) (d : DelayRow) → IsDelayOf r d → IsDelayed ms d → IsStoredDelay db r
   delay_from r d is fits =
       let row = stored_message d.place fits.message fits.message_is in
       record {
-        stored = record {
-          place = d.place;
-          place_is = is.place_is;
-          message = fits.message.message;
-          message_is = sym (record_is db d.place mrows ms are_m stand_m) ∙ ap (option_map (λ (m : MessageRow). format.record m.message)) fits.message_is;
-          is_delayed = fits.due.delayed;
-          due_is = is.due_is ∙ ap pos (sym fits.due.due_is);
-        };
-        message = row.2.record_is.message;
+        place = d.place;
+        place_is = is.place_is;
+        message = fits.message.message;
+        message_is = sym (record_is db d.place mrows ms are_m stand_m) ∙ ap (option_map (λ (m : MessageRow). format.record m.message)) fits.message_is;
+        is_message = row.2.record_is.message;
+        is_delayed = fits.due.delayed;
+        due_is = is.due_is ∙ ap pos (sym fits.due.due_is);
       }
 
-  pub delay_to : (r : Row) (d : DelayRow) → IsDelayOf r d → IsDelayRow db r → IsDelayed ms d
-  delay_to r d is whole =
-      let st = whole.stored in
+  pub delay_to : (r : Row) (d : DelayRow) → IsDelayOf r d → IsStoredDelay db r → IsDelayed ms d
+  delay_to r d is st =
       let place : st.place ≡ d.place = same_number st.place d.place (sym st.place_is ∙ is.place_is) in
       let there = record_stands d.place (format.record st.message) (ap (λ (p : ℕ). record_at p (db message_tree)) (sym place) ∙ st.message_is) in
-      let same = message_stands d.place st.message there.0 there.1 whole.message there.2 in
+      let same = message_stands d.place st.message there.0 there.1 st.is_message there.2 in
       let due : st.message.delivery_time ≡ d.due = same_number st.message.delivery_time d.due (sym st.due_is ∙ is.due_is) in
       record {
         message = there.0;

@@ -11,3 +11,4 @@ pub mod Standing
 pub mod Stored
 pub mod Told
 pub mod Unmade
+pub mod Valid

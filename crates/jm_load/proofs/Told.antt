@@ -18,7 +18,7 @@ use Rattle.jm_tables.specs.Rows.{definition_in}
 use Rattle.jm_tables.specs.Schema.{station_tree, message_tree, held_tree, delayed_tree}
 use Rattle.jm_tables.specs.Sound.{Serves}
 use Rattle.jm_tables.specs.Valid as valid
-use Rattle.jm_tables.specs.Valid.{IsStoredMessage}
+use Rattle.jm_tables.specs.Valid.{IsStoredDelay, IsStoredHeld, IsStoredMessage}
 use Rattle.jm_opening.specs.declared.judged.OpenFault.{OpenFault}
 use Rattle.jm_opening.specs.declared.judged.OpenFault.TheVariants.{Damaged, WrongVersion, Exhausted, Memory, Store}
 use Rattle.jm_opening.specs.declared.judged.TableName.TheVariants.{Meta, Station, Message, Held, Delayed}
@@ -37,7 +37,7 @@ use Rattle.jm_loading.specs.Stations.{IsKnown, IsKnownAs}
 use Rattle.jm_loading.specs.Unfit.{IsFirstUnfit}
 use Rattle.jm_loading.proofs.Unfit.{fewer}
 use Rattle.jm_load.specs.declared.reading.TableRows.{TableRows}
-use Rattle.jm_load.specs.Faults.{AreAllDelays, AreAllHeld, AreAllMessages, AreAllStations, IsDelayRow, IsFaultOf, IsFirstOf, IsHeldRow, IsStation, IsWhole}
+use Rattle.jm_load.specs.Faults.{AreAllDelays, AreAllHeld, AreAllMessages, AreAllStations, IsFaultOf, IsFirstOf, IsStation, IsWhole}
 use Rattle.jm_load.specs.Loaded.{AreDecodedTo, AreRowsOf, IsFirstLater, IsUndecoded, IsUnmade}
 use Rattle.jm_load.proofs.Agreed.{delay_from, delay_to, held_from, held_to, kept_from, kept_to}
 use Rattle.jm_load.proofs.Keys.{columns_of}
@@ -89,15 +89,15 @@ module _ (db : Database) (s : Serves db) (rows : TableRows) (are : AreRowsOf db.
       let behind = row_behind message_shown (db.trees message_tree) rows.messages.items messages_same r h in
       subst IsReadableMessage (sym behind.2) (message_readable db s behind.0 behind.1 (subst IsStoredMessage behind.2 is))
 
-  held_reads : AreAllStations db.trees → (r : Row) → Has rows.held.items r → IsHeldRow db.trees r → IsReadableHeld r
+  held_reads : AreAllStations db.trees → (r : Row) → Has rows.held.items r → IsStoredHeld db.trees r → IsReadableHeld r
   held_reads stations r h is =
       let behind = row_behind held_shown (db.trees held_tree) rows.held.items are.held.same r h in
-      subst IsReadableHeld (sym behind.2) (held_readable db s stations behind.0 behind.1 (subst (IsHeldRow db.trees) behind.2 is))
+      subst IsReadableHeld (sym behind.2) (held_readable db s stations behind.0 behind.1 (subst (IsStoredHeld db.trees) behind.2 is))
 
-  delay_reads : (r : Row) → Has rows.delays.items r → IsDelayRow db.trees r → IsReadableDelay r
+  delay_reads : (r : Row) → Has rows.delays.items r → IsStoredDelay db.trees r → IsReadableDelay r
   delay_reads r h is =
       let behind = row_behind delay_shown (db.trees delayed_tree) rows.delays.items delays_same r h in
-      subst IsReadableDelay (sym behind.2) (delay_readable db s behind.0 behind.1 (subst (IsDelayRow db.trees) behind.2 is))
+      subst IsReadableDelay (sym behind.2) (delay_readable db s behind.0 behind.1 (subst (IsStoredDelay db.trees) behind.2 is))
 
   all_stations : AllByRecursion IsReadableStation rows.stations.items → AreAllStations db.trees
   all_stations h = all_behind station_shown (db.trees station_tree) rows.stations.items are.stations.same IsStation (λ q is. is) (all_as IsReadableStation IsStation (λ r is. is.station) rows.stations.items h)
@@ -145,74 +145,70 @@ module _ (db : Database) (s : Serves db) (rows : TableRows) (are : AreRowsOf db.
     fit_messages : FitMessages ms
     fit_messages = all_fit IsMessageOf message_cmp IsPlaced placed rows.messages.items ms stand_m (values_rise IsMessageOf rowid_cmp message_cmp message_rule rows.messages.items ms stand_m messages_rise)
 
-    held_is : (r : Row) (h : HeldRow) → IsHeldOf r h → IsHeld ss ms h → IsHeldRow db.trees r
+    held_is : (r : Row) (h : HeldRow) → IsHeldOf r h → IsHeld ss ms h → IsStoredHeld db.trees r
     held_is = held_from db.trees rows.stations.items rows.messages.items ss ms are.stations are.messages stand_s stand_m
 
-    held_may : (r : Row) (h : HeldRow) → IsHeldOf r h → IsHeldRow db.trees r → IsHeld ss ms h
+    held_may : (r : Row) (h : HeldRow) → IsHeldOf r h → IsStoredHeld db.trees r → IsHeld ss ms h
     held_may = held_to db.trees rows.stations.items rows.messages.items ss ms are.stations are.messages stand_s stand_m
 
-    delay_is : (r : Row) (d : DelayRow) → IsDelayOf r d → IsDelayed ms d → IsDelayRow db.trees r
+    delay_is : (r : Row) (d : DelayRow) → IsDelayOf r d → IsDelayed ms d → IsStoredDelay db.trees r
     delay_is = delay_from db.trees rows.stations.items rows.messages.items ss ms are.stations are.messages stand_s stand_m
 
-    delay_may : (r : Row) (d : DelayRow) → IsDelayOf r d → IsDelayRow db.trees r → IsDelayed ms d
+    delay_may : (r : Row) (d : DelayRow) → IsDelayOf r d → IsStoredDelay db.trees r → IsDelayed ms d
     delay_may = delay_to db.trees rows.stations.items rows.messages.items ss ms are.stations are.messages stand_s stand_m
 
     -- all rows of held, or those in front, are such rows
-    held_before : (hrows : List Row) (hs : List HeldRow) → StandFor IsHeldOf hrows hs → FitHeld ss ms hs → AllByRecursion (IsHeldRow db.trees) hrows
-    held_before hrows hs stand fit = all_may IsHeldOf (IsHeldRow db.trees) (IsHeld ss ms) held_is held_may hrows hs stand fit.may
+    held_before : (hrows : List Row) (hs : List HeldRow) → StandFor IsHeldOf hrows hs → FitHeld ss ms hs → AllByRecursion (IsStoredHeld db.trees) hrows
+    held_before hrows hs stand fit = all_may IsHeldOf (IsStoredHeld db.trees) (IsHeld ss ms) held_is held_may hrows hs stand fit.may
 
     held_all : (hs : List HeldRow) → StandFor IsHeldOf rows.held.items hs → FitHeld ss ms hs → AreAllHeld db.trees
     held_all hs stand fit =
-        all_behind held_shown (db.trees held_tree) rows.held.items are.held.same (IsHeldRow db.trees)
+        all_behind held_shown (db.trees held_tree) rows.held.items are.held.same (IsStoredHeld db.trees)
         (λ q is. record {
-          stored = record {
-            place = is.stored.place;
-            place_is = is.stored.place_is;
-            count = is.stored.count;
-            count_is = is.stored.count_is;
-            count_within = is.stored.count_within;
-            key = is.stored.key;
-            key_is = is.stored.key_is;
-            station = is.stored.station;
-            station_is = is.stored.station_is;
-            message = is.stored.message;
-            message_is = is.stored.message_is;
-            may_hold = is.stored.may_hold;
-          };
+          place = is.place;
+          place_is = is.place_is;
+          count = is.count;
+          count_is = is.count_is;
+          count_within = is.count_within;
+          key = is.key;
+          key_is = is.key_is;
+          station = is.station;
+          station_is = is.station_is;
           message = is.message;
+          message_is = is.message_is;
+          is_message = is.is_message;
+          may_hold = is.may_hold;
         }) (held_before rows.held.items hs stand fit)
 
-    delays_before : (drows : List Row) (ds : List DelayRow) → StandFor IsDelayOf drows ds → FitDelays ms ds → AllByRecursion (IsDelayRow db.trees) drows
-    delays_before drows ds stand fit = all_may IsDelayOf (IsDelayRow db.trees) (IsDelayed ms) delay_is delay_may drows ds stand fit.may
+    delays_before : (drows : List Row) (ds : List DelayRow) → StandFor IsDelayOf drows ds → FitDelays ms ds → AllByRecursion (IsStoredDelay db.trees) drows
+    delays_before drows ds stand fit = all_may IsDelayOf (IsStoredDelay db.trees) (IsDelayed ms) delay_is delay_may drows ds stand fit.may
 
     delays_all : (ds : List DelayRow) → StandFor IsDelayOf rows.delays.items ds → FitDelays ms ds → AreAllDelays db.trees
     delays_all ds stand fit =
-        all_behind delay_shown (db.trees delayed_tree) rows.delays.items delays_same (IsDelayRow db.trees)
+        all_behind delay_shown (db.trees delayed_tree) rows.delays.items delays_same (IsStoredDelay db.trees)
         (λ q is. record {
-          stored = record {
-            place = is.stored.place;
-            place_is = is.stored.place_is;
-            message = is.stored.message;
-            message_is = is.stored.message_is;
-            is_delayed = is.stored.is_delayed;
-            due_is = is.stored.due_is;
-          };
+          place = is.place;
+          place_is = is.place_is;
           message = is.message;
+          message_is = is.message_is;
+          is_message = is.is_message;
+          is_delayed = is.is_delayed;
+          due_is = is.due_is;
         }) (delays_before rows.delays.items ds stand fit)
 
     -- the first row of held that does not fit, of all rows or of those in front
-    held_first : (hrows : List Row) (hs : List HeldRow) (at : ℕ) → StandFor IsHeldOf hrows hs → IsStrictlySortedBy shown.held_cmp hrows → IsFirstUnfit held_cmp (IsHeld ss ms) hs at → IsFirstDamaged (IsHeldRow db.trees) hrows at
+    held_first : (hrows : List Row) (hs : List HeldRow) (at : ℕ) → StandFor IsHeldOf hrows hs → IsStrictlySortedBy shown.held_cmp hrows → IsFirstUnfit held_cmp (IsHeld ss ms) hs at → IsFirstDamaged (IsStoredHeld db.trees) hrows at
     held_first hrows hs at stand rise first =
-        first_unfit_row IsHeldOf (IsHeldRow db.trees) (IsHeld ss ms) held_is held_may held_cmp hrows hs at stand (values_rise IsHeldOf shown.held_cmp held_cmp held_rule hrows hs stand rise) first
+        first_unfit_row IsHeldOf (IsStoredHeld db.trees) (IsHeld ss ms) held_is held_may held_cmp hrows hs at stand (values_rise IsHeldOf shown.held_cmp held_cmp held_rule hrows hs stand rise) first
 
-    delay_first : (drows : List Row) (ds : List DelayRow) (at : ℕ) → StandFor IsDelayOf drows ds → IsStrictlySortedBy rowid_cmp drows → IsFirstUnfit delay_cmp (IsDelayed ms) ds at → IsFirstDamaged (IsDelayRow db.trees) drows at
+    delay_first : (drows : List Row) (ds : List DelayRow) (at : ℕ) → StandFor IsDelayOf drows ds → IsStrictlySortedBy rowid_cmp drows → IsFirstUnfit delay_cmp (IsDelayed ms) ds at → IsFirstDamaged (IsStoredDelay db.trees) drows at
     delay_first drows ds at stand rise first =
-        first_unfit_row IsDelayOf (IsDelayRow db.trees) (IsDelayed ms) delay_is delay_may delay_cmp drows ds at stand (values_rise IsDelayOf rowid_cmp delay_cmp delay_rule drows ds stand rise) first
+        first_unfit_row IsDelayOf (IsStoredDelay db.trees) (IsDelayed ms) delay_is delay_may delay_cmp drows ds at stand (values_rise IsDelayOf rowid_cmp delay_cmp delay_rule drows ds stand rise) first
 
-    held_fault : (at : ℕ) → IsFirstDamaged (IsHeldRow db.trees) rows.held.items at → IsFaultOf db.trees (Damaged Held at)
+    held_fault : (at : ℕ) → IsFirstDamaged (IsStoredHeld db.trees) rows.held.items at → IsFaultOf db.trees (Damaged Held at)
     held_fault at first = (stations_are, messages_are, record { rows = rows.held.items; are = are.held; first = first })
 
-    delay_fault : (at : ℕ) → AreAllHeld db.trees → IsFirstDamaged (IsDelayRow db.trees) rows.delays.items at → IsFaultOf db.trees (Damaged Delayed at)
+    delay_fault : (at : ℕ) → AreAllHeld db.trees → IsFirstDamaged (IsStoredDelay db.trees) rows.delays.items at → IsFaultOf db.trees (Damaged Delayed at)
     delay_fault at held first = (stations_are, messages_are, held, record { rows = rows.delays.items; are = are.delays; first = first })
 
     -- ---- where all rows are decoded
@@ -246,11 +242,11 @@ module _ (db : Database) (s : Serves db) (rows : TableRows) (are : AreRowsOf db.
 
     module _ (a : ℕ) (hs : List HeldRow) (damaged : IsFirstDamaged IsReadableHeld rows.held.items a) (stand_h : StandFor IsHeldOf (take a rows.held.items) hs) where
       held_damaged : FitHeld ss ms hs → IsFaultOf db.trees (Damaged Held a)
-      held_damaged fit = held_fault a (first_behind IsReadableHeld (IsHeldRow db.trees) rows.held.items a (held_reads stations_are) (held_before (take a rows.held.items) hs stand_h fit) damaged)
+      held_damaged fit = held_fault a (first_behind IsReadableHeld (IsStoredHeld db.trees) rows.held.items a (held_reads stations_are) (held_before (take a rows.held.items) hs stand_h fit) damaged)
 
       held_earlier : (at : ℕ) → IsFirstUnfit held_cmp (IsHeld ss ms) hs at → IsFaultOf db.trees (Damaged Held at)
       held_earlier at first =
-          held_fault at (first_in_front (IsHeldRow db.trees) rows.held.items a at (held_first (take a rows.held.items) hs at stand_h (rise_front shown.held_cmp rows.held.items a are.held.rise) first))
+          held_fault at (first_in_front (IsStoredHeld db.trees) rows.held.items a at (held_first (take a rows.held.items) hs at stand_h (rise_front shown.held_cmp rows.held.items a are.held.rise) first))
 
       told_held : (ds : List DelayRow) → ds ≡ [] → (fault : OpenFault) → IsFirstLater ss ms hs ds fault → IsFaultOf db.trees fault
       told_held ds none (Damaged Held at) first = held_earlier at first.2
@@ -268,13 +264,13 @@ module _ (db : Database) (s : Serves db) (rows : TableRows) (are : AreRowsOf db.
     module _ (a : ℕ) (hs : List HeldRow) (ds : List DelayRow) (stand_h : StandFor IsHeldOf rows.held.items hs) (damaged : IsFirstDamaged IsReadableDelay rows.delays.items a) (stand_d : StandFor IsDelayOf (take a rows.delays.items) ds) where
       delay_damaged : FitHeld ss ms hs → FitDelays ms ds → IsFaultOf db.trees (Damaged Delayed a)
       delay_damaged held fit =
-          delay_fault a (held_all hs stand_h held) (first_behind IsReadableDelay (IsDelayRow db.trees) rows.delays.items a delay_reads (delays_before (take a rows.delays.items) ds stand_d fit) damaged)
+          delay_fault a (held_all hs stand_h held) (first_behind IsReadableDelay (IsStoredDelay db.trees) rows.delays.items a delay_reads (delays_before (take a rows.delays.items) ds stand_d fit) damaged)
 
       told_delay : (fault : OpenFault) → IsFirstLater ss ms hs ds fault → IsFaultOf db.trees fault
       told_delay (Damaged Held at) first = held_fault at (held_first rows.held.items hs at stand_h are.held.rise first.2)
       told_delay (Damaged Delayed at) first =
           delay_fault at (held_all hs stand_h first.2)
-          (first_in_front (IsDelayRow db.trees) rows.delays.items a at (delay_first (take a rows.delays.items) ds at stand_d (rise_front rowid_cmp rows.delays.items a delays_rise) first.3))
+          (first_in_front (IsStoredDelay db.trees) rows.delays.items a at (delay_first (take a rows.delays.items) ds at stand_d (rise_front rowid_cmp rows.delays.items a delays_rise) first.3))
       told_delay (Damaged Station at) first = absurd first
       told_delay (Damaged Message at) first = absurd first
       told_delay (Damaged Meta at) first = absurd first
@@ -324,36 +320,32 @@ never_damaged db (Damaged Message at) whole (inr unkept) =
     absurd (none_first (AreMessages db) (valid.IsKept db) message_shown (db message_tree) at (shown_same message_shown (db message_tree))
     (λ q is. record { place = is.place; place_is = is.place_is; held = is.held; delayed = is.delayed }) whole.kept unkept.first)
 never_damaged db (Damaged Held at) whole first =
-    absurd (none_first (AreHeld db) (IsHeldRow db) held_shown (db held_tree) at (λ rows are. are.same)
+    absurd (none_first (AreHeld db) (IsStoredHeld db) held_shown (db held_tree) at (λ rows are. are.same)
     (λ q is. record {
-      stored = record {
-        place = is.stored.place;
-        place_is = is.stored.place_is;
-        count = is.stored.count;
-        count_is = is.stored.count_is;
-        count_within = is.stored.count_within;
-        key = is.stored.key;
-        key_is = is.stored.key_is;
-        station = is.stored.station;
-        station_is = is.stored.station_is;
-        message = is.stored.message;
-        message_is = is.stored.message_is;
-        may_hold = is.stored.may_hold;
-      };
+      place = is.place;
+      place_is = is.place_is;
+      count = is.count;
+      count_is = is.count_is;
+      count_within = is.count_within;
+      key = is.key;
+      key_is = is.key_is;
+      station = is.station;
+      station_is = is.station_is;
       message = is.message;
+      message_is = is.message_is;
+      is_message = is.is_message;
+      may_hold = is.may_hold;
     }) whole.rows.held first.2)
 never_damaged db (Damaged Delayed at) whole first =
-    absurd (none_first (AreDelays db) (IsDelayRow db) delay_shown (db delayed_tree) at (shown_same delay_shown (db delayed_tree))
+    absurd (none_first (AreDelays db) (IsStoredDelay db) delay_shown (db delayed_tree) at (shown_same delay_shown (db delayed_tree))
     (λ q is. record {
-      stored = record {
-        place = is.stored.place;
-        place_is = is.stored.place_is;
-        message = is.stored.message;
-        message_is = is.stored.message_is;
-        is_delayed = is.stored.is_delayed;
-        due_is = is.stored.due_is;
-      };
+      place = is.place;
+      place_is = is.place_is;
       message = is.message;
+      message_is = is.message_is;
+      is_message = is.is_message;
+      is_delayed = is.is_delayed;
+      due_is = is.due_is;
     }) whole.rows.delays first.3)
 never_damaged db (Damaged Meta at) whole first = absurd first
 never_damaged db (WrongVersion version) whole first = absurd first

@@ -1,7 +1,6 @@
 -- Which rows a store may have, and the first fault of a database that has another.
 use Rattle.std.specs.Prelude.{◌≡◌, ◌⊎◌, ℕ, true, List, ⊤}
 use Rattle.std.specs.List.{AllByRecursion}
-use Rattle.jm_format.specs.Messages.{IsMessage}
 use Rattle.sqlite_value.specs.Order.{Row}
 use Rattle.sqlite_trees.specs.Tree.{Trees}
 use Rattle.jm_tables.specs.Schema.{station_tree, message_tree, held_tree, delayed_tree}
@@ -18,16 +17,6 @@ use Rattle.jm_decoding.specs.Tables.{IsFirstDamaged}
 abbrev pub IsStation : Row → Type 0
 IsStation r = is_station r ≡ true
 
--- the station and the message of the row of held stand, and the one may hold the other
-pub record IsHeldRow (db : Trees) (r : Row) : Type 0 where
-  pub stored : IsStoredHeld db r
-  pub message : IsMessage stored.message
-
--- the message of the row of delayed stands, is delayed, and becomes due then
-pub record IsDelayRow (db : Trees) (r : Row) : Type 0 where
-  pub stored : IsStoredDelay db r
-  pub message : IsMessage stored.message
-
 -- all rows of one table are such rows
 abbrev pub AreAllStations : Trees → Type 0
 AreAllStations db = AllByRecursion IsStation (db station_tree)
@@ -36,10 +25,10 @@ abbrev pub AreAllMessages : Trees → Type 0
 AreAllMessages db = AllByRecursion IsStoredMessage (db message_tree)
 
 abbrev pub AreAllHeld : Trees → Type 0
-AreAllHeld db = AllByRecursion (IsHeldRow db) (db held_tree)
+AreAllHeld db = AllByRecursion (IsStoredHeld db) (db held_tree)
 
 abbrev pub AreAllDelays : Trees → Type 0
-AreAllDelays db = AllByRecursion (IsDelayRow db) (db delayed_tree)
+AreAllDelays db = AllByRecursion (IsStoredDelay db) (db delayed_tree)
 
 -- those of all tables are
 pub record AreAllRows (db : Trees) : Type 0 where
@@ -72,8 +61,8 @@ pub record IsFirstUnkept (db : Trees) (at : ℕ) : Type 0 where
 abbrev pub IsFaultOf : Trees → OpenFault → Type 0
 IsFaultOf db (Damaged Station at) = IsFirstOf (AreStations db) IsStation at
 IsFaultOf db (Damaged Message at) = (AreAllStations db × IsFirstOf (AreMessages db) IsStoredMessage at) ⊎ IsFirstUnkept db at
-IsFaultOf db (Damaged Held at) = AreAllStations db × AreAllMessages db × IsFirstOf (AreHeld db) (IsHeldRow db) at
-IsFaultOf db (Damaged Delayed at) = AreAllStations db × AreAllMessages db × AreAllHeld db × IsFirstOf (AreDelays db) (IsDelayRow db) at
+IsFaultOf db (Damaged Held at) = AreAllStations db × AreAllMessages db × IsFirstOf (AreHeld db) (IsStoredHeld db) at
+IsFaultOf db (Damaged Delayed at) = AreAllStations db × AreAllMessages db × AreAllHeld db × IsFirstOf (AreDelays db) (IsStoredDelay db) at
 IsFaultOf db Memory = ⊤
 IsFaultOf db Store = ⊤
 IsFaultOf db _ = ⊥

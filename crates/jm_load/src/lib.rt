@@ -9,11 +9,12 @@
 //!
 //! A refusal is the first fault of the database (`IsFaultOf`): as Damaged, the row that is named is the first, in the
 //! order station, message, held, delayed, and in each by its key, that a store may not have (`IsStation`,
-//! `IsStoredMessage`, `IsHeldRow`, `IsDelayRow`, where the earlier tables have none); or all rows are such rows and
-//! it is the first message that nobody holds or that is delayed and has no row (`IsKept`).
+//! `IsStoredMessage`, `IsStoredHeld`, `IsStoredDelay`, where the earlier tables have none); or all rows are such rows
+//! and it is the first message that nobody holds or that is delayed and has no row (`IsKept`).
 //!
 //! Memory and Store may come in place of any; no other fault does. So a database that has only what a store may have
-//! (`IsWhole`) is never told as Damaged (`whole`).
+//! (`IsWhole`) is never told as Damaged (`whole`). That is what a valid database (`IsValid`) has beside its row of
+//! meta (the lemmas `valid_is_whole` and `whole_is_valid`), and an opening leaves a valid one whole (`opened_whole`).
 #![tactic(auto)]
 
 mod decoding;

@@ -10,7 +10,8 @@
 //! was given, what is stored of the core is what its tables hold, and a crash leaves that database and nothing else.
 //!
 //! A refusal hands back what is left: as it was, or opened, where what it holds could not be loaded; and then the
-//! fault is the first of what it holds (`IsLeft`, with `IsFaultOf` of `jm_load`).
+//! fault is the first of what it holds (`IsLeft`, with `IsFaultOf` of `jm_load`), which of a database that was valid
+//! is Memory or Store (`valid_is_undamaged`, a lemma).
 #![tactic(auto)]
 
 mod opening;

@@ -115,6 +115,7 @@ pub record IsStoredHeld (db : Trees) (r : Row) : Type 0 where
   pub station_is : find (is_under key) (db station_tree) ≡ Some station
   pub message : Content
   pub message_is : record_at place (db message_tree) ≡ Some (format.record message)
+  pub is_message : IsMessage message
   pub may_hold : MayHold (Some key) (definition_in station) message
 
 -- ---- delayed
@@ -125,6 +126,7 @@ pub record IsStoredDelay (db : Trees) (r : Row) : Type 0 where
   pub place_is : id_in (rowid r) ≡ pos place
   pub message : Content
   pub message_is : record_at place (db message_tree) ≡ Some (format.record message)
+  pub is_message : IsMessage message
   pub is_delayed : IsTrue (is_delayed message)
   pub due_is : id_in (column r 2) ≡ pos message.delivery_time
 
