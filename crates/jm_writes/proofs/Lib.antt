@@ -15,3 +15,4 @@ pub mod Upserts
 pub mod Refused
 pub mod Walked
 pub mod Empty
+pub mod Records

@@ -8,8 +8,12 @@
 //! after an accepted write only the latter (`LeavesOnly`).
 //!
 //! `Store` is a `Keep` over any store of the library's: never clean once its connection is shut, it counts each
-//! `Device`; `over` takes a connection that is ours and in no transaction, and `into_connection` gives it back so. A
-//! change that the tables cannot hold is answered `Device`; that is not in the contract.
+//! `Device`; `over` takes a connection that is ours and in no transaction, and `into_connection` gives it back so.
+//!
+//! Whatever its `write` answers, each message that is stored is stored by its record, if that was so and the changes
+//! bring records alone (`records`; `StoresRecords`, `BringsRecord`); the changes that a call asks for bring records
+//! alone where what it publishes are messages (`call_brings`, a lemma). A change that the tables cannot hold is
+//! answered `Device`; that is not in the contract.
 #![tactic(auto)]
 
 mod columns;

@@ -1,10 +1,12 @@
 //! A keeper over a database.
 
 ghost use Rattle.std.specs.Prelude.{◌≡◌, ◌≤◌, ◌&&◌, false, true, IsTrue, OnOk, OnErr, IsErrOf};
+ghost use Rattle.std.specs.List.{AllByRecursion};
 ghost use Rattle.sqlite.specs.Held.{state};
 ghost use Rattle.sqlite.specs.State.{HasCleanDisk};
 ghost use Rattle.jm_keep.specs.Stored.{HasRisen, changed_all};
 ghost use Rattle.jm_tables.specs.Rows.{stored_in};
+ghost use Rattle.jm_writes.specs.Records.{BringsRecord, StoresRecords};
 ghost use Rattle.jm_writes.specs.Steps.{IsOurs, LeavesOnly, LeavesOr};
 
 use crate::transaction::write;
@@ -86,6 +88,8 @@ impl<S: Alter> Keep for Store<S> {
     fn write(&mut self, changes: &[RowChange]) -> Result<(), StoreFault>
         ensures written { IsTrue ((state S.Store self.new.0).is_clean && (state S.Store self.new.0).is_open) → OnOk result (stored_in (state S.Store self.new.0).now.trees ≡ changed_all (stored_in (state S.Store self.old.0).now.trees) changes.now) }
         ensures refused { IsTrue ((state S.Store self.new.0).is_clean && (state S.Store self.new.0).is_open) → OnErr result (stored_in (state S.Store self.new.0).now.trees ≡ stored_in (state S.Store self.old.0).now.trees) }
+        // Whatever it answers: where each message is stored by its record, it stays so, if the changes bring records alone.
+        ensures records { IsTrue ((state S.Store self.new.0).is_clean && (state S.Store self.new.0).is_open) → StoresRecords (stored_in (state S.Store self.old.0).now.trees) → AllByRecursion BringsRecord changes.now → StoresRecords (stored_in (state S.Store self.new.0).now.trees) }
         ensures clean { IsTrue ((state S.Store self.new.0).is_clean && (state S.Store self.new.0).is_open) → IsTrue ((state S.Store self.old.0).is_clean && (state S.Store self.old.0).is_open) }
         ensures counts { self.old.1 ≤ self.new.1 }
         ensures device { IsErrOf result StoreFault.Device → HasRisen self.old.1 self.new.1 }

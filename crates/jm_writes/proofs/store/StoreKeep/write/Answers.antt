@@ -1,4 +1,7 @@
+use Rattle.std.proofs.Common.{sym, subst}
 use Rattle.sqlite.specs.Held.{state}
+use Rattle.jm_writes.specs.Records.{StoresRecords}
+use Rattle.jm_writes.proofs.Records.{written_stores}
 use Rattle.jm_writes.proofs.Refused.{then_written, then_refused, then_clean}
 use Rattle.jm_writes.proofs.store.StoreKeep.write.Goals as goal
 
@@ -26,3 +29,22 @@ returns-else-matches-clause-refused g c k =
 pub returns-else-matches-clause-clean : goal.returns-else-matches-clause-clean
 returns-else-matches-clause-clean g c k =
     let e = c.in-Err.ensures in rw (← c.self.view_is) (then_clean (state g.S.Store c.self.inside.conn) (state g.S.Store c.write.new.conn) c.self.invariant.1 e.survives.clean e.was_open k)
+
+pub returns-in-Ok-clause-records : goal.returns-in-Ok-clause-records
+returns-in-Ok-clause-records g c k =
+    let e = c.in-Ok.ensures in
+    rw (← c.self.view_is)
+    (written_stores (state g.S.Store c.self.inside.conn).now.trees (state g.S.Store c.write.new.conn).now.trees c.args.changes.now
+    (then_written (state g.S.Store c.self.inside.conn) (state g.S.Store c.write.new.conn) c.self.invariant.1 e.survives.clean e.was_open k e.written).3)
+
+pub returns-then-matches-clause-records : goal.returns-then-matches-clause-records
+returns-then-matches-clause-records g c k =
+    let e = c.in-Err.ensures in
+    rw (← c.self.view_is)
+    (λ stores brings. subst StoresRecords (sym (then_refused (state g.S.Store c.self.inside.conn) (state g.S.Store c.write.new.conn) c.self.invariant.1 e.survives.clean e.was_open k e.refused)) stores)
+
+pub returns-else-matches-clause-records : goal.returns-else-matches-clause-records
+returns-else-matches-clause-records g c k =
+    let e = c.in-Err.ensures in
+    rw (← c.self.view_is)
+    (λ stores brings. subst StoresRecords (sym (then_refused (state g.S.Store c.self.inside.conn) (state g.S.Store c.write.new.conn) c.self.invariant.1 e.survives.clean e.was_open k e.refused)) stores)
