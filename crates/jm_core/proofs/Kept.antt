@@ -13,7 +13,8 @@ use Rattle.jm_machine.proofs.Keys.{key_same, key_sym}
 use Rattle.jm_sub.specs.Subscriptions.{Subscription}
 use Rattle.jm_machine.specs.Accepted.{HoldsAccepted}
 use Rattle.jm_core.specs.Closing.{is_other, kept_keys, kept_subscriptions}
-use Rattle.jm_core.specs.State.{AreLimited, IsOfSubscription, IsSound, keys_of, station, stations_of}
+use Rattle.jm_machine.specs.Attached.{IsOfSubscription}
+use Rattle.jm_core.specs.State.{AreLimited, IsSound, keys_of, station, stations_of}
 use Rattle.jm_core.proofs.Accepted.{kept_hold}
 use Rattle.jm_core.proofs.Stations.{fails_all, found_at, found_none}
 

@@ -41,7 +41,8 @@ use Rattle.jm_core.specs.declared.plan.Change.TheVariants as change
 use Rattle.jm_core.specs.Listening.{ended, ended_queues, ended_rows, ended_under, ending_key, is_delivered}
 use Rattle.jm_core.specs.Plans.{IsIdling, IsPlan, IsRefused}
 use Rattle.jm_core.specs.Provider.{Provider, state_of}
-use Rattle.jm_core.specs.State.{AllOwn, IsOfSubscription, IsOwn, IsSound, keys_of, stations_of}
+use Rattle.jm_machine.specs.Attached.{AllOwn, IsOfSubscription, IsOwn}
+use Rattle.jm_core.specs.State.{IsSound, keys_of, stations_of}
 use Rattle.jm_core.specs.Steps.{StepFits}
 use Rattle.jm_core.specs.Takings.{IsTaken, IsTold, is_queue, left_by, taken_from, wants_copy, wants_copy_of}
 use Rattle.jm_core.proofs.Accepted.{filtered, returned}

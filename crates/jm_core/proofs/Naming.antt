@@ -17,7 +17,7 @@ use Rattle.jm_machine.specs.declared.call.Who.TheVariants.{Session}
 use Rattle.jm_machine.specs.declared.call.Call.TheVariants.{Ask}
 use Rattle.jm_machine.specs.declared.state.Consumer.{Consumer}
 use Rattle.jm_machine.specs.declared.state.Definition.{Definition}
-use Rattle.jm_machine.specs.Attached.{is_named}
+use Rattle.jm_machine.specs.Attached.{IsOwn, is_named}
 use Rattle.jm_machine.specs.Life.{Life, client_of}
 use Rattle.jm_machine.specs.Rows.{is_out}
 use Rattle.jm_machine.specs.Machine.{State, after, answer, asked, definition_of, is_home, is_same, joined, may_begin, put, refusal, replied, reply, rows_of, rows_under, selected_by, station_of, subscribed}
@@ -35,7 +35,7 @@ use Rattle.jm_core.specs.declared.plan.Change.TheVariants as change
 use Rattle.jm_core.specs.Named.{IsDecided, IsNaming, IsPrepared, asked_by, decision_of, had_refusal, held_of, home_at, home_in, idle_in, is_had, key_wanted, may_ask, may_have, named_key, naming_refusal, put_decided}
 use Rattle.jm_core.specs.Plans.{IsPlan, IsRefused}
 use Rattle.jm_core.specs.Provider.{Provider, state_of}
-use Rattle.jm_core.specs.State.{IsOwn, IsSound, keys_of, stations_of}
+use Rattle.jm_core.specs.State.{IsSound, keys_of, stations_of}
 use Rattle.jm_core.specs.Takings.{is_queue}
 use Rattle.jm_core.proofs.Fits.{not_wanted, rows_bare}
 use Rattle.jm_core.proofs.Stations.{definition_seen, fails_all, found_at, found_none, key_found, key_missing, length-keys}

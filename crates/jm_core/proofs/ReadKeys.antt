@@ -27,7 +27,8 @@ use Rattle.jm_core.specs.Provider.{Provider, state_of}
 use Rattle.jm_core.specs.Publications.{IsRouted}
 use Rattle.jm_core.specs.Queues.{IsQueued}
 use Rattle.jm_core.specs.Reading.{AreLasting, CoversRows, IsAt, IsIndexOf, durable_at, is_accepted, is_durable, is_for, keys_in, lasts_at, rows_under}
-use Rattle.jm_core.specs.State.{IsOfSubscription, IsSound, keys_of, stations_of}
+use Rattle.jm_machine.specs.Attached.{IsOfSubscription}
+use Rattle.jm_core.specs.State.{IsSound, keys_of, stations_of}
 use Rattle.jm_core.specs.Takings.{is_queue}
 use Rattle.jm_core.proofs.Indexed.{at_behind, at_first, index_here, key_there, place_here}
 use Rattle.jm_core.proofs.QueueRows.{rows_missing}

@@ -37,7 +37,8 @@ use Rattle.jm_core.specs.declared.stored.StoredMessage.{StoredMessage}
 use Rattle.jm_core.specs.declared.stored.StoredSubscription.{StoredSubscription}
 use Rattle.jm_core.specs.Queues.{HasNoLimit, rows_in, rows_at as queue_rows}
 use Rattle.jm_core.specs.Reopening.{AreMade, HaveLoaded, MayLoad, subscription_of}
-use Rattle.jm_core.specs.State.{AreLimited, IsOfSubscription, IsSound, keys_of, limit_of, stations_of}
+use Rattle.jm_machine.specs.Attached.{IsOfSubscription}
+use Rattle.jm_core.specs.State.{AreLimited, IsSound, keys_of, limit_of, stations_of}
 use Rattle.jm_core.specs.Stored.{AreHolders, ArePlaced, IsAdmitted, MayReopen, admits, count_at, count_under, is_persistent, place_after, row_stored, rows_at, rows_stored, rows_under, stations_stored}
 use Rattle.jm_core.proofs.Accepted.{selected}
 use Rattle.jm_core.proofs.Reopening.{keys_made, same_made, stored_keys}

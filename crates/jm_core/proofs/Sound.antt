@@ -25,7 +25,8 @@ use Rattle.jm_core.specs.Closing.{is_other, kept_keys, kept_subscriptions}
 use Rattle.jm_core.specs.Named.{IsDecided, IsRoomy, keys_with, list_with, put_decided, subscriptions_with}
 use Rattle.jm_core.specs.Provider.{Provider}
 use Rattle.jm_core.specs.Publications.{IsRouted, ArePublished, station_indexes}
-use Rattle.jm_core.specs.State.{AllOwn, AreLimited, IsOwn, limit_of, station, stations_of, keys_of, IsOfSubscription, IsSound}
+use Rattle.jm_machine.specs.Attached.{AllOwn, IsOfSubscription, IsOwn}
+use Rattle.jm_core.specs.State.{AreLimited, limit_of, station, stations_of, keys_of, IsSound}
 use Rattle.jm_core.specs.Takings.{is_queue, with_delivery}
 use Rattle.jm_core.proofs.Accepted.{published_hold, with_empty, at_key_holds}
 use Rattle.jm_core.proofs.Kept.{kept_stations, others_apart, sound_kept}

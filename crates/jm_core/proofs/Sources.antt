@@ -9,7 +9,7 @@ use Rattle.jm_machine.specs.declared.state.Consumer.{Consumer}
 use Rattle.jm_machine.specs.Life.{Life, is_started}
 use Rattle.jm_machine.specs.Machine.{consumer_of}
 use Rattle.jm_core.specs.declared.receive.Receiver.{Receiver}
-use Rattle.jm_core.specs.State.{IsOfSubscription}
+use Rattle.jm_machine.specs.Attached.{IsOfSubscription}
 use Rattle.jm_core.specs.Takings.{source_of}
 
 -- the consumer that is found is the one that receives

@@ -28,7 +28,7 @@ use Rattle.jm_core.specs.declared.plan.Change.TheVariants as change
 use Rattle.jm_core.specs.Named.{IsDecided, IsDecidedFor, put_decided}
 use Rattle.jm_core.specs.Provider.{Provider, state_of}
 use Rattle.jm_core.specs.Publications.{ArePrepared}
-use Rattle.jm_core.specs.State.{IsOwn}
+use Rattle.jm_machine.specs.Attached.{IsOwn}
 use Rattle.jm_core.specs.Steps.{StepFits}
 use Rattle.jm_core.specs.Takings.{IsTaken, IsTakenFrom, is_queue, missed_at, source_of}
 

@@ -2,12 +2,11 @@
 use Rattle.std.specs.Prelude.{◌≡◌, ℕ, ◌≤◌, List, [], ◌∷◌, map, length, All, Option, Some, None, if◌then◌else◌}
 use Rattle.std.specs.List.{IsDistinct}
 use Rattle.jm_dest.specs.declared.key.Key.{Key}
-use Rattle.jm_dest.specs.declared.key.Key.TheVariants.{Queue, Own, SharedOwn, Durable}
-use Rattle.jm_dest.specs.declared.session.SessionId.{SessionId}
 use Rattle.jm_dest.specs.Keys.{key_eq}
 use Rattle.jm_machine.specs.declared.state.Consumer.{Consumer}
 use Rattle.jm_machine.specs.declared.state.Station.{Station}
-use Rattle.jm_machine.specs.Machine.{consumer_of, is_limited, key_at, places_end}
+use Rattle.jm_machine.specs.Attached.{AllOwn, IsOfSubscription}
+use Rattle.jm_machine.specs.Machine.{is_limited, places_end}
 use Rattle.jm_stations.specs.Backlogs.{Backlog}
 use Rattle.jm_sub.specs.Subscriptions.{Subscription}
 use Rattle.jm_machine.specs.Accepted.{HoldsAccepted}
@@ -25,26 +24,6 @@ stations_of (s ∷ subscriptions) (b ∷ list) = station s b ∷ stations_of sub
 -- the keys of the subscriptions
 abbrev pub keys_of : List Subscription → List Key
 keys_of subscriptions = map (λ s. s.key) subscriptions
-
--- the key is that of a subscription: one that has a name, or the own one of a consumer that was made, and that receives
--- from it
-abbrev pub IsOfSubscription : List Consumer → Key → Type 0
-IsOfSubscription consumers (Queue name) = ⊥
-IsOfSubscription consumers (Own s c) = key_at (consumer_of consumers s c) ≡ Some (Own s c)
-IsOfSubscription consumers (SharedOwn client name) = Unit {0}
-IsOfSubscription consumers (Durable client name) = Unit {0}
-
--- a key that is a consumer's own is that consumer's
-abbrev pub IsOwn : SessionId → ℕ → Key → Type 0
-IsOwn s c (Queue name) = Unit {0}
-IsOwn s c (Own t d) = Own t d ≡ Own s c
-IsOwn s c (SharedOwn client name) = Unit {0}
-IsOwn s c (Durable client name) = Unit {0}
-
--- each consumer's key is so
-abbrev pub AllOwn : List Consumer → Type 0
-AllOwn [] = Unit {0}
-AllOwn (x ∷ consumers) = IsOwn x.session x.id x.key × AllOwn consumers
 
 -- how many rows may be held under the key, where there is a limit
 abbrev pub limit_of : ℕ → Key → Option ℕ

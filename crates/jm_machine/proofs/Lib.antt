@@ -5,5 +5,6 @@ pub mod Reaches
 pub mod Order
 pub mod Keys
 pub mod Counts
+pub mod Ends
 pub mod Bare
 pub mod Marks

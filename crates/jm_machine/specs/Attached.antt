@@ -1,12 +1,13 @@
 -- How many active consumers have a key: of the keys of subscriptions that have names.
-use Rattle.std.specs.Prelude.{◌≡◌, ℕ, Bool, true, false, ◌&&◌, List, length, filter, unwrap_or, ◌==◌}
+use Rattle.std.specs.Prelude.{◌≡◌, ℕ, Bool, true, false, ◌&&◌, List, [], ◌∷◌, Some, length, filter, unwrap_or, ◌==◌}
 use Rattle.std.specs.Map.{lookup}
+use Rattle.jm_dest.specs.declared.session.SessionId.{SessionId}
 use Rattle.jm_dest.specs.declared.key.Key.{Key}
 use Rattle.jm_dest.specs.declared.key.Key.TheVariants.{Own, SharedOwn, Durable, Queue as OfQueue}
 use Rattle.jm_dest.specs.Keys.{key_eq}
 use Rattle.jm_machine.specs.declared.state.Consumer.{Consumer}
 use Rattle.jm_machine.specs.declared.consumers.Consumers.{Consumers}
-use Rattle.jm_machine.specs.Machine.{are_meant}
+use Rattle.jm_machine.specs.Machine.{are_meant, consumer_of, key_at}
 
 -- keys with the number of active consumers at each, and how many more keys there is room for
 pub record Counts : Type 0 where
@@ -35,6 +36,26 @@ active_at key consumers = length (filter (is_at key) consumers)
 -- the numbers are those of the consumers, at each key that has a name
 abbrev pub AreCounted : List Consumer → Counts → Type 0
 AreCounted consumers counts = (key : Key) → is_named key ≡ true → number_at counts key ≡ active_at key consumers
+
+-- the key is that of a subscription: one that has a name, or the own one of a consumer that was made, and that receives
+-- from it
+abbrev pub IsOfSubscription : List Consumer → Key → Type 0
+IsOfSubscription consumers (OfQueue name) = ⊥
+IsOfSubscription consumers (Own s c) = key_at (consumer_of consumers s c) ≡ Some (Own s c)
+IsOfSubscription consumers (SharedOwn client name) = Unit {0}
+IsOfSubscription consumers (Durable client name) = Unit {0}
+
+-- a key that is a consumer's own is that consumer's
+abbrev pub IsOwn : SessionId → ℕ → Key → Type 0
+IsOwn s c (OfQueue name) = Unit {0}
+IsOwn s c (Own t d) = Own t d ≡ Own s c
+IsOwn s c (SharedOwn client name) = Unit {0}
+IsOwn s c (Durable client name) = Unit {0}
+
+-- each consumer's key is so
+abbrev pub AllOwn : List Consumer → Type 0
+AllOwn [] = Unit {0}
+AllOwn (x ∷ consumers) = IsOwn x.session x.id x.key × AllOwn consumers
 
 -- the subscription of the key ends once these consumers are closed, where so many active ones are left at each key: a
 -- consumer's own ends with it, and a shared one that is not durable with its last active one

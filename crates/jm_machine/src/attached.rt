@@ -1,9 +1,11 @@
 //! How many active consumers the subscriptions that have names have.
 
-ghost use Rattle.std.specs.Prelude.{◌≡◌, ◌+◌, ◌-◌, ◌<◌, ◌≤◌, ◌^◌, true, IfOk, OnOk, if◌then◌else◌};
+ghost use Rattle.std.specs.Prelude.{◌≡◌, ◌+◌, ◌-◌, ◌<◌, ◌≤◌, ◌^◌, List, true, map, IfOk, OnOk, if◌then◌else◌};
 ghost use Rattle.jm_dest.specs.declared.key.Key.{Key};
 ghost use Rattle.jm_dest.specs.Keys.{key_eq};
-ghost use Rattle.jm_machine.specs.Attached.{AreCounted, number_at};
+ghost use Rattle.jm_machine.specs.declared.state.Consumer.{Consumer};
+ghost use Rattle.jm_machine.specs.Attached.{AllOwn, AreCounted, IsOfSubscription, number_at};
+ghost use Rattle.jm_machine.specs.Machine.{are_meant, closed_consumer, ends};
 ghost use Rattle.jm_machine.specs.Attached as spec;
 
 use crate::consumers::Consumers;
@@ -73,7 +75,11 @@ impl Attached {
     /// Whether the subscription of the key ends once these consumers are closed, where the numbers are of those that are
     /// left: a consumer's own ends with it, and a shared one that is not durable with its last active one.
     pub fn ends(&self, which: &Consumers, key: &Key) -> bool
-        ensures { result ≡ spec.ended which.now self.now key.now }
+        ensures left { result ≡ spec.ended which.now self.now key.now }
+        // in the machine's words, by the consumers as they were before
+        ensures before { (consumers : List Consumer) → AllOwn consumers → IsOfSubscription consumers key.now →
+            AreCounted (map (closed_consumer (are_meant which.now)) consumers) self.now →
+            result ≡ ends (are_meant which.now) consumers key.now }
     {
         match key {
             Key::Own(session, id) => which.include(session, *id),
