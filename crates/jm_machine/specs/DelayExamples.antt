@@ -2,19 +2,19 @@
 use Rattle.std.specs.Prelude.{◌≡◌, ℕ, false, List, ◌∷◌, [], ◌++◌, None, Ok, Err, refl}
 use Rattle.jm_base.specs.declared.mode.Mode.TheVariants.{Auto, Client, Transacted}
 use Rattle.jm_base.specs.declared.refusal.Refusal.TheVariants.{OutOfRange}
-use Rattle.jm_dest.specs.declared.destination.Destination.TheVariants.{Queue, Topic}
+use Rattle.jm_dest.specs.declared.destination.Destination.TheVariants.{Topic}
 use Rattle.jm_header.specs.declared.content.Settings.{Settings}
 use Rattle.jm_machine.specs.declared.call.Who.TheVariants.{Connection, Session}
 use Rattle.jm_machine.specs.declared.call.Request.TheVariants.{Open, Start, CreateSession, CreateConsumer, Recover, Missed}
 use Rattle.jm_machine.specs.declared.call.ClientCall.{ClientCall}
-use Rattle.jm_machine.specs.declared.call.ClientCall.TheVariants.{Ask, Send, CommitSession}
+use Rattle.jm_machine.specs.declared.call.ClientCall.TheVariants.{Ask, CommitSession}
 use Rattle.jm_machine.specs.declared.answer.Answer.TheVariants.{Sent, Missed as MissedSoFar}
 use Rattle.jm_machine.specs.Life.{life_after}
 use Rattle.jm_machine.specs.Rows.{is_next, left_of}
 use Rattle.jm_selector.specs.Selectors.{selector_refusal, selects}
 use Rattle.jm_machine.specs.Machine.{new_core, defined, accepts, published, refusal, publish_refusal, commit_refusal, after, after_commit, answer, reply, step}
 use Rattle.jm_machine.specs.Client.{begun, reply_to, progress_to, replies_to}
-use Rattle.jm_machine.specs.Examples.{new_run, receiver, publisher, topic, text, of_priority, living, send, receive, ok, none, got, got_of, started, started_in, six, asks}
+use Rattle.jm_machine.specs.Examples.{new_run, receiver, publisher, topic, text, of_priority, living, send, receive, ok, none, got, started, started_in, six, asks}
 
 -- a draft with a delivery delay, made of another
 abbrev pub delayed : ℕ → Settings → Settings

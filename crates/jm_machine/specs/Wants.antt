@@ -37,8 +37,8 @@ next_chosen p now rows = find (λ x. is_next_chosen p now (live now (bare rows))
 abbrev pub holders_of : ℕ → List Station → ℕ
 holders_of place stations = sum_by (λ (x : Station). count_by (λ (r : PlacedRow). r.place == place) x.rows) stations
 
--- a row of a subscription is next, and its message is held after a delivery in that mode: the row stays, or another row
--- holds the message too
+-- a row of a subscription is next, and its message is held after its delivery in that mode: the row stays, or another
+-- row holds the message too
 abbrev pub is_held_after : Option Mode → List Station → Option PlacedRow → Bool
 is_held_after mode stations None = false
 is_held_after mode stations (Some x) = not (settles_at_once mode) || not (holders_of x.place stations == 1)
@@ -48,11 +48,12 @@ abbrev pub placed_rows : Option Station → List PlacedRow
 placed_rows None = []
 placed_rows (Some x) = x.rows
 
--- a row of a queue is next, and its message is held after a delivery in that mode: the row stays, and no other holds it
+-- a row of a queue is next, and its message is held after its delivery in that mode: the row stays, since no other holds
+-- the message
 abbrev pub is_queued_after : Option Mode → Option PlacedRow → Bool
 is_queued_after mode x = not (settles_at_once mode) && is_some x
 
--- a row of the key is next, and its message is held after its delivery
+-- a row is next under the key, of a queue one whose message passes, and its message is held after its delivery in that mode
 abbrev pub is_next_held_after : Option Mode → ℕ → (Content → Bool) → Option Key → State → Bool
 is_next_held_after mode now p None state = false
 is_next_held_after mode now p (Some (OfQueue name)) state = is_queued_after mode (next_chosen p now (state.queues name))
@@ -60,12 +61,13 @@ is_next_held_after mode now p (Some (Own s c)) state = is_held_after mode state.
 is_next_held_after mode now p (Some (SharedOwn client name)) state = is_held_after mode state.stations (next_placed now (placed_rows (station_of (SharedOwn client name) state.stations)))
 is_next_held_after mode now p (Some (Durable client name)) state = is_held_after mode state.stations (next_placed now (placed_rows (station_of (Durable client name) state.stations)))
 
--- a request takes memory where it opens a connection or a session, or makes a consumer, and none of the causes stands that
--- are seen before: a consumer's selector is parsed, so a want of memory may come in place of its refusal, and of each
--- later one. To delete a subscription takes memory in an open session, to look for its name. A receive takes memory where
--- the consumer may receive, a row is next, and its message is held after it: a copy is handed out. So does a take, after
--- which each message is held, as in a session whose client acknowledges. To start and to stop, to close, to acknowledge,
--- to recover and to roll back takes none, and so does to set a listener, and to be done with a message
+-- a request takes memory, where none of the causes stands that are seen before. It opens a connection or a session. It makes
+-- a consumer: its selector is parsed, so a want of memory may come in place of the selector's refusal, and of each later one.
+-- It deletes a subscription in an open session: the name is looked for. It receives: the consumer may receive, a row is next,
+-- and its message is held after it, so a copy is handed out. It takes: the consumer's listener may take, a row is next, and
+-- its message is held after it, as after each take, which is as in a session whose client acknowledges. To start and to
+-- stop, to close, to acknowledge, to recover and to roll back takes no memory, and so do to set a listener, to be done with a
+-- message, and to ask how many were missed
 abbrev pub takes_memory : State → Who → Request → Bool
 takes_memory state (Connection c) (Open client) = not (is_some (connection_of state.life.connections c)) && not (is_client_taken state.life client)
 takes_memory state (Session s) (CreateSession mode) = is_new_session state.life s

@@ -10,12 +10,12 @@
 //! row, all of which take no memory.
 //!
 //! `Attached` is seen as the number of active consumers at each key of a subscription that has a name (`number_at`),
-//! and for how many more keys there is room:
+//! and for how many more keys there is room: `join` and `leave` count one more and one less, `number` is found by the
+//! key's hash, and `ends` says which subscriptions end once consumers are closed (`ended`); only `reserve` and `of`
+//! take memory.
 //!
-//! `join` and `leave` count one more and one less, `number` is found by the key's hash, and `ends` says which
-//! subscriptions end once consumers are closed, by the numbers that are left (`ended`) and by the consumers that
-//! there were before (the machine's `ends`); only `reserve` and `of` take memory. A consumer has two marks, whether
-//! it listens and whether it is busy; `Request` has `SetListener`, `Take` and `Done`.
+//! A consumer has two marks, whether it listens and whether it is busy; `Request` has `SetListener`, `Take` and
+//! `Done`.
 #![tactic(auto)]
 
 mod answer;
