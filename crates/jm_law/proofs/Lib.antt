@@ -3,6 +3,7 @@ pub mod Lists
 pub mod Life
 pub mod Stations
 pub mod Consumers
+pub mod About
 pub mod Projection
 pub mod Steps
 pub mod Run

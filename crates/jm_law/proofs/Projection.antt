@@ -28,7 +28,7 @@ use Rattle.jm_machine.specs.Owns.{is_own, is_own_connection}
 use Rattle.jm_machine.specs.Life.{Life, client_of, mode_of, is_started, life_after, own_life}
 use Rattle.jm_machine.specs.Rows.{is_out, goes_out, given_back, left_of, taken, settles_at_once, bare, deliver, deliver_placed}
 use Rattle.jm_machine.specs.Machine.{State, station_of, definition_of, missed_of, rows_of, with_rows, put, joined, made, subscribed, deleted, durable_of, shared_of, asked, is_same, may_resume, is_home, is_idle, may_begin, subscription_refusal, first_cause, is_free, holding_of, Holding, key_made, rows_under, selected_by, consumer_of, is_active, key_at, held, unless, defined, of_session, of_connection, of_number, settled_rows, returned_rows, settled, returned, closed_consumer, ends, closed, with_life, is_client, receive, listening_if, busy_if, set_busy, is_coming, take, done_rows, with_done, refusal, answer, after, replied, reply}
-use Rattle.jm_machine.specs.Lone.{Scope, Lone, lone_of, lone_put, lone_joined, lone_made, lone_subscribed, lone_ended, lone_settled, lone_returned, lone_closed, lone_life, lone_receive, lone_take, lone_did, about, belongs, true_or_none, is_true, lone_holding, lone_refusal, lone_reply}
+use Rattle.jm_machine.specs.Lone.{Scope, Lone, lone_of, lone_put, lone_joined, lone_made, lone_subscribed, lone_ended, lone_settled, lone_returned, lone_closed, lone_life, lone_receive, lone_take, lone_did, about, belongs, is_this_key, is_other_key, lone_holding, lone_refusal, lone_reply}
 use Rattle.jm_machine.proofs.Keys.{session_same, key_same, key_refl}
 use Rattle.jm_machine.proofs.Marks.{KeepsName, listening_keeps, busy_keeps}
 use Rattle.jm_law.proofs.Owned.{own_connection}
@@ -36,6 +36,7 @@ use Rattle.jm_law.proofs.Lists.{push_in, push_out, cond_map, cond_one}
 use Rattle.jm_machine.proofs.Bare.{bare-deliver, bare-settled, bare-returned}
 use Rattle.jm_law.proofs.Stations.{mapped, station_of-map, station_of-at, station_of_other-at, station-put, other-put, station-without, other-without, station-ended}
 use Rattle.jm_law.proofs.Life.{own_mode, own_client, own_started, own_session, own_new, own_closes, life_own, life_other}
+use Rattle.jm_law.proofs.About.{Elsewhere, fails, holds, is_so, no_other}
 use Rattle.jm_law.proofs.Consumers.{Unshared, FairRequest, Placed, Sound, OutBy, OwnOut, Passes, IsOther, consumer_own, key_mine, key_not_mine, closed_in, closed_out, kept_in, kept_out, listening_out, busy_out, ends_in, ends_out}
 
 -- what is held of a key, from its station
@@ -292,34 +293,34 @@ first_same : (b : Bool) (x y : Option Refusal) → (b ≡ true → x ≡ y) → 
 first_same true x y h = h refl
 first_same false x y h = refl
 
-pub own_refusal : (S : Scope) (state : State) (s : SessionId) (request : Request) → Unshared S.key → is_own S.sessions s ≡ true → FairRequest S state.life s request → Placed S state.consumers → true_or_none (about S s request) ≡ true →
+pub own_refusal : (S : Scope) (state : State) (s : SessionId) (request : Request) → Unshared S.key → is_own S.sessions s ≡ true → FairRequest S state.life s request → Placed S state.consumers → not (is_other_key (about S s request)) ≡ true →
     lone_refusal (lone_of S state) (Session s) request ≡ refusal state.life state.consumers (held state (Session s) request) (Session s) request
 unfolding lone_of refusal
 own_refusal S state s (CreateSession mode) u o f p n = rw (own_new S.sessions state.life s o)
 own_refusal S state s (CreateConsumer c destination selector no_local) u o f p n =
-    rw (own_mode S.sessions state.life s o, consumer_own S s c (sym f.1 ∙ n) state.consumers p)
+    rw (own_mode S.sessions state.life s o, consumer_own S s c (sym f.1 ∙ (holds _ n)) state.consumers p)
 own_refusal S state s (CreateDurable c destination name selector no_local) u o f p n =
-    rw (own_mode S.sessions state.life s o, own_client S.sessions state.life s o, consumer_own S s c (sym f.1 ∙ n) state.consumers p)
+    rw (own_mode S.sessions state.life s o, own_client S.sessions state.life s o, consumer_own S s c (sym f.1 ∙ (holds _ n)) state.consumers p)
     (first_same (may_begin state.life state.consumers s c && is_some (client_of state.life s.connection)) _ _
     (λ b. ap (λ (h : Holding). subscription_refusal destination selector (may_resume h.definition (is_idle h) (is_home h) (asked destination selector no_local false)))
-    (holding_own S (selected_by None) (durable_of (client_of state.life) s name) state u (f.0 (and_one _ _ (and_one _ _ b)) ∙ n))))
-own_refusal S state s (CreateShared c destination name selector) u o f p n = let i : true ≡ false = sym n ∙ f.1 in cc
-own_refusal S state s (CreateSharedDurable c destination name selector) u o f p n = let i : true ≡ false = sym n ∙ f.1 in cc
+    (holding_own S (selected_by None) (durable_of (client_of state.life) s name) state u (f.0 (and_one _ _ (and_one _ _ b)) ∙ (holds _ n)))))
+own_refusal S state s (CreateShared c destination name selector) u o f p n = let i : true ≡ false = sym (holds _ n) ∙ f.1 in cc
+own_refusal S state s (CreateSharedDurable c destination name selector) u o f p n = let i : true ≡ false = sym (holds _ n) ∙ f.1 in cc
 own_refusal S state s (Unsubscribe name) u o f p n =
     rw (own_mode S.sessions state.life s o)
     (first_same (is_some (mode_of state.life s)) _ _
     (λ b. ap (λ (h : Holding). first_cause (unless (is_some h.definition) InvalidDestination) (unless (is_free h) SubscriptionInUse))
-    (holding_own S (selected_by None) (durable_of (client_of state.life) s name) state u (f b ∙ n))))
+    (holding_own S (selected_by None) (durable_of (client_of state.life) s name) state u (f b ∙ (holds _ n)))))
 own_refusal S state s CloseSession u o f p n = rw (own_closes S.sessions state.life s o)
-own_refusal S state s (CloseConsumer c) u o f p n = rw (own_mode S.sessions state.life s o, own_session S.sessions state.life s o, consumer_own S s c n state.consumers p)
-own_refusal S state s (Receive c now) u o f p n = rw (own_mode S.sessions state.life s o, consumer_own S s c n state.consumers p)
+own_refusal S state s (CloseConsumer c) u o f p n = rw (own_mode S.sessions state.life s o, own_session S.sessions state.life s o, consumer_own S s c (holds _ n) state.consumers p)
+own_refusal S state s (Receive c now) u o f p n = rw (own_mode S.sessions state.life s o, consumer_own S s c (holds _ n) state.consumers p)
 own_refusal S state s Acknowledge u o f p n = rw (own_mode S.sessions state.life s o)
 own_refusal S state s Recover u o f p n = rw (own_mode S.sessions state.life s o)
 own_refusal S state s Rollback u o f p n = rw (own_mode S.sessions state.life s o)
-own_refusal S state s (Missed c) u o f p n = rw (own_mode S.sessions state.life s o, consumer_own S s c n state.consumers p)
-own_refusal S state s (SetListener c on) u o f p n = rw (own_mode S.sessions state.life s o, consumer_own S s c n state.consumers p)
-own_refusal S state s (Take c now) u o f p n = rw (own_mode S.sessions state.life s o, consumer_own S s c n state.consumers p)
-own_refusal S state s (DoneWith c ok) u o f p n = rw (own_mode S.sessions state.life s o, consumer_own S s c n state.consumers p)
+own_refusal S state s (Missed c) u o f p n = rw (own_mode S.sessions state.life s o, consumer_own S s c (holds _ n) state.consumers p)
+own_refusal S state s (SetListener c on) u o f p n = rw (own_mode S.sessions state.life s o, consumer_own S s c (holds _ n) state.consumers p)
+own_refusal S state s (Take c now) u o f p n = rw (own_mode S.sessions state.life s o, consumer_own S s c (holds _ n) state.consumers p)
+own_refusal S state s (DoneWith c ok) u o f p n = rw (own_mode S.sessions state.life s o, consumer_own S s c (holds _ n) state.consumers p)
 own_refusal S state s _ u o f p n = refl
 
 -- a request that names a key, and is not refused, is an open session's
@@ -366,46 +367,42 @@ unfolding refusal
 counts state s c h = and_two (is_some (mode_of state.life s)) _ (passed _ h)
 
 -- the answer to an own session's request that names the key's consumer
-own_answer : (S : Scope) (state : State) (s : SessionId) (request : Request) → Unshared S.key → is_own S.sessions s ≡ true → Placed S state.consumers → is_true (about S s request) ≡ true → refused state s request ≡ None →
+own_answer : (S : Scope) (state : State) (s : SessionId) (request : Request) → Unshared S.key → is_own S.sessions s ≡ true → Placed S state.consumers → is_this_key (about S s request) ≡ true → refused state s request ≡ None →
     answer state.life state.consumers (held state (Session s) request) (Session s) request ≡ answer (lone_of S state).life (lone_of S state).consumers (lone_holding (lone_of S state)) (Session s) request
 unfolding lone_of answer
-own_answer S state s (Receive c now) f o p n m = rw (own_started S.sessions state.life s o, key_mine S s c state.consumers p n (receives state s c now m), rows_all S (selected_by (consumer_of state.consumers s c)) state f)
-own_answer S state s (Missed c) f o p n m = rw (key_mine S s c state.consumers p n (counts state s c m))
-own_answer S state s (Take c now) f o p n m = rw (own_started S.sessions state.life s o, key_mine S s c state.consumers p n (takes state s c now m), rows_all S (selected_by (consumer_of state.consumers s c)) state f)
+own_answer S state s (Receive c now) f o p n m = rw (own_started S.sessions state.life s o, key_mine S s c state.consumers p (is_so _ n) (receives state s c now m), rows_all S (selected_by (consumer_of state.consumers s c)) state f)
+own_answer S state s (Missed c) f o p n m = rw (key_mine S s c state.consumers p (is_so _ n) (counts state s c m))
+own_answer S state s (Take c now) f o p n m = rw (own_started S.sessions state.life s o, key_mine S s c state.consumers p (is_so _ n) (takes state s c now m), rows_all S (selected_by (consumer_of state.consumers s c)) state f)
 own_answer S state s _ f o p n m = refl
-
-true_named : (a : Option Bool) → is_true a ≡ true → true_or_none a ≡ true
-true_named None h = cc
-true_named (Some b) h = h
 
 replied_same : (o : Option Refusal) (a b : Answer) → (o ≡ None → a ≡ b) → replied o a ≡ replied o b
 replied_same None a b h = ap (λ x. replied None x) (h refl)
 replied_same (Some r) a b h = refl
 
 -- the machine's reply to it is the subscription's
-pub own_reply : (S : Scope) (state : State) (s : SessionId) (request : Request) → Unshared S.key → is_own S.sessions s ≡ true → FairRequest S state.life s request → Placed S state.consumers → is_true (about S s request) ≡ true →
+pub own_reply : (S : Scope) (state : State) (s : SessionId) (request : Request) → Unshared S.key → is_own S.sessions s ≡ true → FairRequest S state.life s request → Placed S state.consumers → is_this_key (about S s request) ≡ true →
     reply state (Session s) (Ask request) ≡ lone_reply (lone_of S state) (Session s) request
 unfolding reply
 own_reply S state s request t o f p n =
     replied_same (refused state s request) _ _ (own_answer S state s request t o p n)
-    ∙ ap (λ (x : Option Refusal). replied x (answer (lone_of S state).life (lone_of S state).consumers (lone_holding (lone_of S state)) (Session s) request)) (sym (own_refusal S state s request t o f p (true_named (about S s request) n)))
+    ∙ ap (λ (x : Option Refusal). replied x (answer (lone_of S state).life (lone_of S state).consumers (lone_holding (lone_of S state)) (Session s) request)) (sym (own_refusal S state s request t o f p (no_other (about S s request) n)))
 
 -- what an own session's request does that is not refused
-pub own_after : (S : Scope) (state : State) (s : SessionId) (request : Request) → Unshared S.key → FairRequest S state.life s request → is_own S.sessions s ≡ true → Placed S state.consumers → true_or_none (about S s request) ≡ true → refused state s request ≡ None →
+pub own_after : (S : Scope) (state : State) (s : SessionId) (request : Request) → Unshared S.key → FairRequest S state.life s request → is_own S.sessions s ≡ true → Placed S state.consumers → not (is_other_key (about S s request)) ≡ true → refused state s request ≡ None →
     lone_of S (after state (Session s) request) ≡ lone_did S.key (lone_of S state) (Session s) request
 unfolding lone_of after lone_did
 own_after S state s (CreateSession mode) u f o p n m = three (life_own S.sessions state.life (Session s) (CreateSession mode) o) refl refl
-own_after S state s (CreateConsumer c destination selector no_local) u f o p n m = created_own S s c destination selector no_local state u (and_two (is_own S.sessions s) (key_eq (key_made s c destination) S.key) n)
+own_after S state s (CreateConsumer c destination selector no_local) u f o p n m = created_own S s c destination selector no_local state u (and_two (is_own S.sessions s) (key_eq (key_made s c destination) S.key) (holds _ n))
 own_after S state s (Receive c now) u f o p n m =
     rw (own_started S.sessions state.life s o, own_mode S.sessions state.life s o)
     (cond_map (lone_of S) (is_started state.life s.connection) (receive (selected_by (consumer_of state.consumers s c)) (left_of (mode_of state.life s) s c) now (key_at (consumer_of state.consumers s c)) state) state _ _
-    (λ _. receive_own S (selected_by (consumer_of state.consumers s c)) (left_of (mode_of state.life s) s c) now (key_at (consumer_of state.consumers s c)) state (key_mine S s c state.consumers p n (receives state s c now m))) refl)
+    (λ _. receive_own S (selected_by (consumer_of state.consumers s c)) (left_of (mode_of state.life s) s c) now (key_at (consumer_of state.consumers s c)) state (key_mine S s c state.consumers p (holds _ n) (receives state s c now m))) refl)
 own_after S state s CloseSession u f o p n m = shut_own S (of_session s) (Session s) CloseSession state u (life_own S.sessions state.life (Session s) CloseSession o)
 own_after S state s (CreateDurable c destination name selector no_local) u f o p n m =
-    subscribed_own S s c (durable_of (client_of state.life) s name) (asked destination selector no_local false) state (f.0 (opened state s (CreateDurable c destination name selector no_local) refl m) ∙ n)
-own_after S state s (CreateShared c destination name selector) u f o p n m = let i : true ≡ false = sym n ∙ f.1 in cc
-own_after S state s (CreateSharedDurable c destination name selector) u f o p n m = let i : true ≡ false = sym n ∙ f.1 in cc
-own_after S state s (Unsubscribe name) u f o p n m = deleted_own S (durable_of (client_of state.life) s name) state (f (opened state s (Unsubscribe name) refl m) ∙ n)
+    subscribed_own S s c (durable_of (client_of state.life) s name) (asked destination selector no_local false) state (f.0 (opened state s (CreateDurable c destination name selector no_local) refl m) ∙ (holds _ n))
+own_after S state s (CreateShared c destination name selector) u f o p n m = let i : true ≡ false = sym (holds _ n) ∙ f.1 in cc
+own_after S state s (CreateSharedDurable c destination name selector) u f o p n m = let i : true ≡ false = sym (holds _ n) ∙ f.1 in cc
+own_after S state s (Unsubscribe name) u f o p n m = deleted_own S (durable_of (client_of state.life) s name) state (f (opened state s (Unsubscribe name) refl m) ∙ (holds _ n))
 own_after S state s (CloseConsumer c) u f o p n m = project_closed S (of_number s c) state u
 own_after S state s Acknowledge u f o p n m =
     rw (own_mode S.sessions state.life s o) (cond_map (lone_of S) (is_client (mode_of state.life s)) (settled (of_session s) state) state _ _ (λ _. project_settled S (of_session s) state) refl)
@@ -415,49 +412,45 @@ own_after S state s (SetListener c on) u f o p n m = marked_own S (listening_if 
 own_after S state s (Take c now) u f o p n m =
     rw (own_started S.sessions state.life s o)
     (cond_map (lone_of S) (is_started state.life s.connection) (take (selected_by (consumer_of state.consumers s c)) s c now (key_at (consumer_of state.consumers s c)) state) state _ _
-    (λ _. take_own S (selected_by (consumer_of state.consumers s c)) s c now (key_at (consumer_of state.consumers s c)) state u (key_mine S s c state.consumers p n (takes state s c now m))) refl)
+    (λ _. take_own S (selected_by (consumer_of state.consumers s c)) s c now (key_at (consumer_of state.consumers s c)) state u (key_mine S s c state.consumers p (holds _ n) (takes state s c now m))) refl)
 own_after S state s (DoneWith c ok) u f o p n m =
     let free : State = record state { consumers = set_busy s c false state.consumers } in
     rw (own_mode S.sessions state.life s o)
     (cond_map (lone_of S) (settles_at_once (mode_of state.life s)) (with_done s c ok (key_at (consumer_of state.consumers s c)) free) free _ _
-    (λ _. done_own S s c ok (key_at (consumer_of state.consumers s c)) state (key_mine S s c state.consumers p n (is_done state s c ok m))) (marked_own S (busy_if s c false) (busy_keeps s c false) state))
+    (λ _. done_own S s c ok (key_at (consumer_of state.consumers s c)) state (key_mine S s c state.consumers p (holds _ n) (is_done state s c ok m))) (marked_own S (busy_if s c false) (busy_keeps s c false) state))
 own_after S state s _ u f o p n m = refl
 
--- what a request does that names nothing of the key's
-abbrev pub Elsewhere : Scope → SessionId → Option Bool → Type 0
-Elsewhere S s None = is_own S.sessions s ≡ false
-Elsewhere S s (Some b) = b ≡ false
-
+-- what a request does that is about nothing of the key's
 pub other_after : (S : Scope) (state : State) (s : SessionId) (request : Request) → Unshared S.key → FairRequest S state.life s request → Sound S state → Elsewhere S s (about S s request) → refused state s request ≡ None → lone_of S (after state (Session s) request) ≡ lone_of S state
 unfolding lone_of after
 other_after S state s (CreateSession mode) u f d n m = three (life_other S.sessions state.life (Session s) (CreateSession mode) n) refl refl
 other_after S state s (CreateConsumer c destination selector no_local) u f d n m =
-    created_other S s c destination selector no_local state (f.0 (opened state s (CreateConsumer c destination selector no_local) refl m) ∙ n)
+    created_other S s c destination selector no_local state (f.0 (opened state s (CreateConsumer c destination selector no_local) refl m) ∙ (fails S s _ n))
 other_after S state s (CreateDurable c destination name selector no_local) u f d n m =
-    subscribed_other S s c (durable_of (client_of state.life) s name) (asked destination selector no_local false) state (f.0 (opened state s (CreateDurable c destination name selector no_local) refl m) ∙ n)
+    subscribed_other S s c (durable_of (client_of state.life) s name) (asked destination selector no_local false) state (f.0 (opened state s (CreateDurable c destination name selector no_local) refl m) ∙ (fails S s _ n))
 other_after S state s (CreateShared c destination name selector) u f d n m =
-    subscribed_other S s c (shared_of (client_of state.life) s name) (asked destination selector false true) state (f.0.0 (opened state s (CreateShared c destination name selector) refl m) ∙ n)
+    subscribed_other S s c (shared_of (client_of state.life) s name) (asked destination selector false true) state (f.0.0 (opened state s (CreateShared c destination name selector) refl m) ∙ (fails S s _ n))
 other_after S state s (CreateSharedDurable c destination name selector) u f d n m =
-    subscribed_other S s c (durable_of (client_of state.life) s name) (asked destination selector false true) state (f.0.0 (opened state s (CreateSharedDurable c destination name selector) refl m) ∙ n)
-other_after S state s (Unsubscribe name) u f d n m = deleted_other S (durable_of (client_of state.life) s name) state (f (opened state s (Unsubscribe name) refl m) ∙ n)
+    subscribed_other S s c (durable_of (client_of state.life) s name) (asked destination selector false true) state (f.0.0 (opened state s (CreateSharedDurable c destination name selector) refl m) ∙ (fails S s _ n))
+other_after S state s (Unsubscribe name) u f d n m = deleted_other S (durable_of (client_of state.life) s name) state (f (opened state s (Unsubscribe name) refl m) ∙ (fails S s _ n))
 other_after S state s CloseSession u f d n m = shut_other S (of_session s) (Session s) CloseSession state u (other_session S.sessions s n) d (life_other S.sessions state.life (Session s) CloseSession n)
-other_after S state s (CloseConsumer c) u f d n m = closed_other S (of_number s c) state u (other_number S s c n) d.placed
+other_after S state s (CloseConsumer c) u f d n m = closed_other S (of_number s c) state u (other_number S s c (fails S s _ n)) d.placed
 other_after S state s (Receive c now) u f d n m =
     cond_one (lone_of S) (is_started state.life s.connection) _ state (lone_of S state)
-    (λ _. receive_other S (selected_by (consumer_of state.consumers s c)) (left_of (mode_of state.life s) s c) now (key_at (consumer_of state.consumers s c)) state (key_not_mine S s c state.consumers d.placed n)) refl
+    (λ _. receive_other S (selected_by (consumer_of state.consumers s c)) (left_of (mode_of state.life s) s c) now (key_at (consumer_of state.consumers s c)) state (key_not_mine S s c state.consumers d.placed (fails S s _ n))) refl
 other_after S state s Acknowledge u f d n m =
     cond_one (lone_of S) (is_client (mode_of state.life s)) (settled (of_session s) state) state (lone_of S state) (λ _. settled_other S (of_session s) state (other_session S.sessions s n) d) refl
 other_after S state s Recover u f d n m = returned_other S (of_session s) state (other_session S.sessions s n) d
 other_after S state s Rollback u f d n m = returned_other S (of_session s) state (other_session S.sessions s n) d
-other_after S state s (SetListener c on) u f d n m = marked_other S (listening_if s c on) (listening_keeps s c on) (listening_out S s c on n) state d.placed
+other_after S state s (SetListener c on) u f d n m = marked_other S (listening_if s c on) (listening_keeps s c on) (listening_out S s c on (fails S s _ n)) state d.placed
 other_after S state s (Take c now) u f d n m =
     cond_one (lone_of S) (is_started state.life s.connection) _ state (lone_of S state)
-    (λ _. take_other S (selected_by (consumer_of state.consumers s c)) s c now (key_at (consumer_of state.consumers s c)) state n d.placed (key_not_mine S s c state.consumers d.placed n)) refl
+    (λ _. take_other S (selected_by (consumer_of state.consumers s c)) s c now (key_at (consumer_of state.consumers s c)) state (fails S s _ n) d.placed (key_not_mine S s c state.consumers d.placed (fails S s _ n))) refl
 other_after S state s (DoneWith c ok) u f d n m =
     let free : State = record state { consumers = set_busy s c false state.consumers } in
-    let same = marked_other S (busy_if s c false) (busy_keeps s c false) (busy_out S s c false n) state d.placed in
+    let same = marked_other S (busy_if s c false) (busy_keeps s c false) (busy_out S s c false (fails S s _ n)) state d.placed in
     cond_one (lone_of S) (settles_at_once (mode_of state.life s)) (with_done s c ok (key_at (consumer_of state.consumers s c)) free) free (lone_of S state)
-    (λ _. rows_done_other S s c ok (key_at (consumer_of state.consumers s c)) free (key_not_mine S s c state.consumers d.placed n) ∙ same) same
+    (λ _. rows_done_other S s c ok (key_at (consumer_of state.consumers s c)) free (key_not_mine S s c state.consumers d.placed (fails S s _ n)) ∙ same) same
 other_after S state s _ u f d n m = refl
 
 -- what a connection's request does

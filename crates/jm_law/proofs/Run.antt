@@ -1,6 +1,6 @@
 -- A run of the machine is, at one key, a run of its subscription alone.
 use Rattle.std.proofs.Common.{◌≡◌, ℕ, ◌+◌, Bool, true, false, cond, List, [], ◌∷◌, ◌++◌, refl, ap, sym, subst, ◌∙◌, Option, Some, None}
-use Rattle.std.specs.Prelude.{is_ok, is_none, is_some, find, filter, map, length, ◌&&◌, ◌||◌}
+use Rattle.std.specs.Prelude.{is_ok, is_none, is_some, find, filter, map, length, not, ◌&&◌, ◌||◌}
 use Rattle.jm_dest.specs.Names.{session_eq}
 use Rattle.jm_base.specs.declared.refusal.Refusal.{Refusal}
 use Rattle.jm_base.specs.declared.refusal.Refusal.TheVariants.{IllegalState}
@@ -27,8 +27,9 @@ use Rattle.jm_machine.specs.declared.state.SessionState.{SessionState}
 use Rattle.jm_machine.specs.Rows.{fresh, given_back, is_next, is_out, live, change_first, deliver, left_of, taken, sent_out, settles_at_once}
 use Rattle.jm_machine.specs.Machine.{State, Holding, consumer_of, key_at, with_message, published, receive, listening_if, busy_if, set_busy, take, with_done, held, selected_by, standing_as, new_consumer, durable_of, shared_of, asked, is_same, subscribed, put, joined, definition_of, station_of, unless, is_full, one_missed, closed_consumer, ends, of_session, of_connection, of_number, settled, is_client, is_transacted, refusal, publish_refusal, commit_refusal, after, after_commit, answer, replied, reply, moved, step}
 use Rattle.jm_machine.specs.Entries.{pending, life_after_entry}
-use Rattle.jm_machine.specs.Lone.{Scope, Lone, Item, belongs, lone_of, lone_put, lone_ended, lone_settled, lone_returned, lone_closed, lone_life, lone_receive, lone_take, lone_did, lone_after, lone_end, lone_refusal, lone_replies, about, true_or_none, fed, feed, replies_in}
+use Rattle.jm_machine.specs.Lone.{Scope, Lone, Item, belongs, lone_of, lone_put, lone_ended, lone_settled, lone_returned, lone_closed, lone_life, lone_receive, lone_take, lone_did, lone_after, lone_end, lone_refusal, lone_replies, about, is_other_key, fed, feed, replies_in}
 use Rattle.jm_machine.specs.Lone.Item.{Called, Settled, Came}
+use Rattle.jm_law.proofs.About.{holds}
 use Rattle.jm_law.proofs.Consumers.{Unshared, FairRequest, FairEntry, FairAll, Placed, Sound, OutBy, OwnOut, placed_push, placed_map, placed_closed}
 use Rattle.jm_dest.specs.Keys.{key_eq}
 use Rattle.jm_machine.proofs.Marks.{listening_keeps, busy_keeps}
@@ -178,7 +179,7 @@ own_one : (a b : Bool) → (a && b) ≡ true → a ≡ true
 own_one true b h = refl
 own_one false b h = cc
 
-out_did : (S : Scope) (l : Lone) (s : SessionId) (request : Request) → true_or_none (about S s request) ≡ true → OwnOut S.sessions l.rows → OwnOut S.sessions (lone_did S.key l (Session s) request).rows
+out_did : (S : Scope) (l : Lone) (s : SessionId) (request : Request) → not (is_other_key (about S s request)) ≡ true → OwnOut S.sessions l.rows → OwnOut S.sessions (lone_did S.key l (Session s) request).rows
 unfolding lone_did
 out_did S l s CloseSession n a = out_closed S.sessions S.key (of_session s) (lone_returned (of_session s) (lone_life (Session s) CloseSession l)) (out_returned S.sessions (of_session s) l.rows a)
 out_did S l s (CreateConsumer c (Queue name) selector no_local) n a = a
@@ -189,13 +190,13 @@ out_did S l s (Unsubscribe name) n a = tt
 out_did S l s (CloseConsumer c) n a = out_closed S.sessions S.key (of_number s c) l a
 out_did S l s (Receive c now) n a =
     out_if S.sessions (is_started l.life s.connection) (lone_receive (left_of (mode_of l.life s) s c) now l) l
-    (out_deliver S.sessions now (left_of (mode_of l.life s) s c) (out_left S.sessions (mode_of l.life s) s c (own_one (is_own S.sessions s) (S.numbers s c) n)) l.rows a) a
+    (out_deliver S.sessions now (left_of (mode_of l.life s) s c) (out_left S.sessions (mode_of l.life s) s c (own_one (is_own S.sessions s) (S.numbers s c) (holds _ n))) l.rows a) a
 out_did S l s Acknowledge n a = out_if S.sessions (is_client (mode_of l.life s)) (lone_settled (of_session s) l) l (out_filter S.sessions _ l.rows a) a
 out_did S l s Recover n a = out_returned S.sessions (of_session s) l.rows a
 out_did S l s Rollback n a = out_returned S.sessions (of_session s) l.rows a
 out_did S l s (Take c now) n a =
     out_if S.sessions (is_started l.life s.connection) (lone_take s c now l) l
-    (out_deliver S.sessions now (taken s c) (λ r. (own_one (is_own S.sessions s) (S.numbers s c) n, tt)) l.rows a) a
+    (out_deliver S.sessions now (taken s c) (λ r. (own_one (is_own S.sessions s) (S.numbers s c) (holds _ n), tt)) l.rows a) a
 out_did S l s (DoneWith c ok) n a =
     let free : Lone = record l { consumers = set_busy s c false l.consumers } in
     out_if S.sessions (settles_at_once (mode_of l.life s)) (cond ok (lone_settled (of_number s c) free) (lone_returned (of_number s c) free)) free
@@ -207,14 +208,14 @@ unfolding lone_did
 out_connection S l c CloseConnection a = out_closed S.sessions S.key (of_connection c) (lone_returned (of_connection c) (lone_life (Connection c) CloseConnection l)) (out_returned S.sessions (of_connection c) l.rows a)
 out_connection S l c request a = a
 
-out_taken : (S : Scope) (l : Lone) (s : SessionId) (request : Request) (u v : Bool) → true_or_none (about S s request) ≡ u → OwnOut S.sessions l.rows → OwnOut S.sessions (cond (u && v) (lone_did S.key l (Session s) request) l).rows
+out_taken : (S : Scope) (l : Lone) (s : SessionId) (request : Request) (u v : Bool) → not (is_other_key (about S s request)) ≡ u → OwnOut S.sessions l.rows → OwnOut S.sessions (cond (u && v) (lone_did S.key l (Session s) request) l).rows
 out_taken S l s request true true h a = out_did S l s request h a
 out_taken S l s request true false h a = a
 out_taken S l s request false v h a = a
 
 out_after : (S : Scope) (l : Lone) (i : Item) → OwnOut S.sessions l.rows → OwnOut S.sessions (lone_after S l i).rows
 out_after S l (Called (Connection c) request) a = out_connection S l c request a
-out_after S l (Called (Session s) request) a = out_taken S l s request (true_or_none (about S s request)) (is_none (lone_refusal l (Session s) request)) refl a
+out_after S l (Called (Session s) request) a = out_taken S l s request (not (is_other_key (about S s request))) (is_none (lone_refusal l (Session s) request)) refl a
 out_after S l (Settled s) a = out_if S.sessions (is_transacted (mode_of l.life s)) (lone_settled (of_session s) l) l (out_filter S.sessions _ l.rows a) a
 out_after S l (Came m) a = out_if S.sessions (is_full l.limit S.key (length l.rows)) (record l { missed = one_missed l.missed }) (record l { rows = l.rows ++ fresh m ∷ [] }) a (out_append S.sessions l.rows (fresh m ∷ []) a (tt, tt))
 

@@ -1,6 +1,6 @@
 -- A step of the machine at an entry is what the entry feeds to one key's subscription.
 use Rattle.std.proofs.Common.{◌≡◌, ℕ, Bool, true, false, cond, List, [], ◌∷◌, ◌++◌, refl, ap, sym, ◌∙◌, Option, Some, None}
-use Rattle.std.specs.Prelude.{filter, length, ◌&&◌, is_ok, is_none, Ok, MatchBool}
+use Rattle.std.specs.Prelude.{filter, length, not, ◌&&◌, is_ok, is_none, Ok, MatchBool}
 use Rattle.jm_base.specs.declared.refusal.Refusal.{Refusal}
 use Rattle.jm_dest.specs.declared.session.SessionId.{SessionId}
 use Rattle.jm_dest.specs.declared.key.Key.{Key}
@@ -23,7 +23,7 @@ use Rattle.jm_machine.specs.Life.{Life, mode_of, own_life}
 use Rattle.jm_machine.specs.Rows.{fresh}
 use Rattle.jm_machine.specs.Machine.{State, station_of, definition_of, rows_of, with_rows, Publisher, publisher_of, accepts, is_full, one_missed, brought, offered, with_message, published, held, of_session, settled, is_transacted, is_stamped, refusal, publish_refusal, commit_refusal, answer, after, after_commit, replied, moved, reply, step}
 use Rattle.jm_machine.specs.Entries.{pending, committed}
-use Rattle.jm_machine.specs.Lone.{Scope, Lone, Item, lone_of, lone_settled, lone_did, about, true_or_none, is_true, is_answered, lone_refusal, lone_brought, lone_after, lone_told, lone_replies, lone_end, is_own_call, lone_accepts, came, accepted, fed, at_place, placed, told}
+use Rattle.jm_machine.specs.Lone.{Scope, Lone, Item, lone_of, lone_settled, lone_did, about, is_this_key, is_other_key, this_key_if, is_answered, lone_refusal, lone_brought, lone_after, lone_told, lone_replies, lone_end, is_own_call, lone_accepts, came, accepted, fed, at_place, placed, told}
 use Rattle.jm_machine.specs.Lone.Item.{Called, Settled, Came}
 use Rattle.jm_base.specs.declared.mode.Mode.{Mode}
 use Rattle.jm_base.specs.declared.refusal.Refusal.TheVariants.{IllegalState}
@@ -34,7 +34,8 @@ use Rattle.jm_machine.proofs.Bare.{bare-append, bare-length}
 use Rattle.jm_law.proofs.Stations.{mapped, station_of-map}
 use Rattle.jm_law.proofs.Consumers.{Unshared, FairRequest, FairEntry, Placed, Sound}
 use Rattle.jm_law.proofs.EntrySteps.{state_after_entry, Replied}
-use Rattle.jm_law.proofs.Projection.{lone_at, three, refused, own_refusal, own_reply, own_after, Elsewhere, other_after, connection_own, connection_other, project_settled, settled_other, other_session}
+use Rattle.jm_law.proofs.About.{Elsewhere, elsewhere_told, elsewhere_unless, elsewhere_where}
+use Rattle.jm_law.proofs.Projection.{lone_at, three, refused, own_refusal, own_reply, own_after, other_after, connection_own, connection_other, project_settled, settled_other, other_session}
 
 -- one item after another
 pub lone_replies-append : (S : Scope) (l : Lone) (place : ℕ) (xs : List Item) (ys : List (ℕ × Item)) →
@@ -135,12 +136,8 @@ project_published S state (m ∷ ms) =
     ∙ sym (came_one S (lone_of S state) (takes S state.life (lone_of S state).definition) m ms)
 
 -- a session's request
-not_belongs : (S : Scope) (s : SessionId) (b : Bool) → is_own S.sessions s ≡ false → (is_own S.sessions s && b) ≡ false
-not_belongs S s b h = ap (λ v. v && b) h
-
-elsewhere : (S : Scope) (s : SessionId) (a : Option Bool) → true_or_none a ≡ false → Elsewhere S s a
-elsewhere S s None h = cc
-elsewhere S s (Some b) h = h
+not_belongs : (S : Scope) (s : SessionId) (b : Bool) → is_own S.sessions s ≡ false → Elsewhere S s (this_key_if (is_own S.sessions s && b))
+not_belongs S s b h = elsewhere_where S s (is_own S.sessions s && b) (ap (λ v. v && b) h)
 
 pub elsewhere_other : (S : Scope) (s : SessionId) (request : Request) → is_own S.sessions s ≡ false → Elsewhere S s (about S s request)
 elsewhere_other S s (CreateConsumer c destination selector no_local) n = not_belongs S s _ n
@@ -156,17 +153,17 @@ elsewhere_other S s (Take c now) n = not_belongs S s (S.numbers s c) n
 elsewhere_other S s (DoneWith c ok) n = not_belongs S s (S.numbers s c) n
 elsewhere_other S s _ n = n
 
-step_case : (S : Scope) (state : State) (s : SessionId) (request : Request) → is_own S.sessions s ≡ true → Unshared S.key → FairRequest S state.life s request → Sound S state → (v : Bool) → true_or_none (about S s request) ≡ v →
+step_case : (S : Scope) (state : State) (s : SessionId) (request : Request) → is_own S.sessions s ≡ true → Unshared S.key → FairRequest S state.life s request → Sound S state → (v : Bool) → not (is_other_key (about S s request)) ≡ v →
     lone_of S (step state (Session s) (Ask request)) ≡ cond (v && is_none (lone_refusal (lone_of S state) (Session s) request)) (lone_did S.key (lone_of S state) (Session s) request) (lone_of S state)
 unfolding step
 step_case S state s request o f g p true h =
     rw (own_refusal S state s request f o g p.placed h) (moved_map (lone_of S) (refused state s request) (after state (Session s) request) state _ _ (λ m. own_after S state s request f g o p.placed h m) refl)
 step_case S state s request o f g p false h =
-    moved_one (lone_of S) (refused state s request) (after state (Session s) request) state (lone_of S state) (λ m. other_after S state s request f g p (elsewhere S s (about S s request) h) m) refl
+    moved_one (lone_of S) (refused state s request) (after state (Session s) request) state (lone_of S state) (λ m. other_after S state s request f g p (elsewhere_unless S s (about S s request) h) m) refl
 
 step_own : (S : Scope) (state : State) (s : SessionId) (request : Request) → is_own S.sessions s ≡ true → Unshared S.key → FairRequest S state.life s request → Sound S state →
     lone_of S (step state (Session s) (Ask request)) ≡ lone_after S (lone_of S state) (Called (Session s) request)
-step_own S state s request o f g p = step_case S state s request o f g p (true_or_none (about S s request)) refl
+step_own S state s request o f g p = step_case S state s request o f g p (not (is_other_key (about S s request))) refl
 
 step_other : (S : Scope) (state : State) (s : SessionId) (request : Request) → is_own S.sessions s ≡ false → Unshared S.key → FairRequest S state.life s request → Sound S state →
     lone_of S (step state (Session s) (Ask request)) ≡ lone_of S state
@@ -249,10 +246,6 @@ entry_step S state before (Committed s) f g p h =
     ∙ ap (λ (b : Bool). lone_end S (lone_of S state) (cond (is_own S.sessions s) (Settled s ∷ []) [] ++ came (accepted S.key (lone_of S state).definition state.life (cond b (pending s before) [])))) (sym (committed_by state s (pending s before) none))
 
 -- the replies
-pub elsewhere_told : (S : Scope) (s : SessionId) (a : Option Bool) → Elsewhere S s a → is_true a ≡ false
-elsewhere_told S s None h = refl
-elsewhere_told S s (Some b) h = h
-
 pub true_false : true ≡ false → ⊥
 true_false h = cc
 
@@ -261,7 +254,7 @@ unfolding is_answered
 connection_told S l place c request true = refl
 connection_told S l place c request false = refl
 
-told_case : (S : Scope) (state : State) (place : ℕ) (s : SessionId) (request : Request) (o a : Bool) → Unshared S.key → is_own S.sessions s ≡ o → is_true (about S s request) ≡ a → FairRequest S state.life s request → Placed S state.consumers →
+told_case : (S : Scope) (state : State) (place : ℕ) (s : SessionId) (request : Request) (o a : Bool) → Unshared S.key → is_own S.sessions s ≡ o → is_this_key (about S s request) ≡ a → FairRequest S state.life s request → Placed S state.consumers →
     placed place (cond a (Some (reply state (Session s) (Ask request))) None) ≡ lone_replies S (lone_of S state) (at_place place (cond o (Called (Session s) request ∷ []) [] ++ []))
 unfolding is_answered
 told_case S state place s request true true f e b g p = rw (b, own_reply S state s request f e g p b)
@@ -277,7 +270,7 @@ commit_told S l place s false ms = lone_replies-came S l place ms
 pub entry_told : (S : Scope) (state : State) (place : ℕ) (before : List Entry) (e : Entry) → Unshared S.key → FairEntry S state.life e → Placed S state.consumers → Replied state before e →
     placed place (told S e) ≡ lone_replies S (lone_of S state) (at_place place (fed S state.life before (lone_of S state) e))
 unfolding committed is_answered
-entry_told S state place before (Asked (Session s) request r) f g p h = rw h (told_case S state place s request (is_own S.sessions s) (is_true (about S s request)) f refl refl g p)
+entry_told S state place before (Asked (Session s) request r) f g p h = rw h (told_case S state place s request (is_own S.sessions s) (is_this_key (about S s request)) f refl refl g p)
 entry_told S state place before (Asked (Connection c) request r) f g p h = connection_told S (lone_of S state) place c request (is_own_call S (Connection c) r)
 entry_told S state place before (Sent m) f g p h = sym (lone_replies-came S (lone_of S state) place (accepted S.key (lone_of S state).definition state.life (cond (is_transacted (mode_of state.life m.sender.session)) [] (m ∷ []))))
 entry_told S state place before (Committed s) f g p h =

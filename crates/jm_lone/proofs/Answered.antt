@@ -9,10 +9,11 @@ use Rattle.jm_machine.specs.declared.call.Request.{Request}
 use Rattle.jm_machine.specs.declared.call.Request.TheVariants.{Missed}
 use Rattle.jm_machine.specs.declared.call.Who.TheVariants.{Session}
 use Rattle.jm_machine.specs.Lone.{Scope, Lone, about, is_answered, lone_did, lone_refusal, lone_told, lone_after}
+use Rattle.jm_machine.specs.Lone.About.{ThisKey}
 use Rattle.jm_machine.specs.Lone.Item.{Called}
 use Rattle.jm_lone.specs.Parts.{IsAnswered, after}
 
-pub answered : (S : Scope) (lone new : Lone) (reply : Result Answer Refusal) (s : SessionId) (request : Request) → about S s request ≡ Some true → IsAnswered S.key lone s request reply new →
+pub answered : (S : Scope) (lone new : Lone) (reply : Result Answer Refusal) (s : SessionId) (request : Request) → about S s request ≡ ThisKey → IsAnswered S.key lone s request reply new →
     (Some reply ≡ lone_told S lone (Called (Session s) request)) × (new ≡ lone_after S lone (Called (Session s) request))
 unfolding is_answered
 answered S lone new reply s request a e = rw a (ap (λ r. Some r) e.0, e.1)

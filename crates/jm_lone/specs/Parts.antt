@@ -13,8 +13,9 @@ use Rattle.jm_machine.specs.declared.call.Request.TheVariants.{CreateSharedDurab
 use Rattle.jm_machine.specs.declared.call.Who.{Who}
 use Rattle.jm_machine.specs.declared.call.Who.TheVariants.{Session}
 use Rattle.jm_machine.specs.declared.state.Definition.{Definition}
+use Rattle.jm_machine.specs.Lone.About.{ThisKey, OtherKey, WholeSession}
 use Rattle.jm_machine.specs.Machine.{durable_of, is_home, is_idle, may_resume, replied, unless}
-use Rattle.jm_machine.specs.Lone.{Scope, Lone, lone_did, lone_holding, lone_refusal, lone_reply, lone_subscribed}
+use Rattle.jm_machine.specs.Lone.{About, Scope, Lone, lone_did, lone_holding, lone_refusal, lone_reply, lone_subscribed}
 
 -- the key is that of a subscription that is held alone: a consumer's own, or a durable one
 abbrev pub is_held_alone : Key → Bool
@@ -38,6 +39,12 @@ after key old s request = if is_none (lone_refusal old (Session s) request) then
 -- the reply to a session's request that the subscription answers, and what is held after it
 abbrev pub IsAnswered : Key → Lone → SessionId → Request → Result Answer Refusal → Lone → Type 0
 IsAnswered key old s request reply new = (reply ≡ lone_reply old (Session s) request) × (new ≡ after key old s request)
+
+-- the request is about the whole session
+abbrev pub is_whole_session : About → Bool
+is_whole_session ThisKey = false
+is_whole_session OtherKey = false
+is_whole_session WholeSession = true
 
 -- the call does not ask for a shared durable subscription of the key
 abbrev pub asks_no_shared : Scope → Who → Request → Bool

@@ -1,6 +1,6 @@
 //! What one subscription answers to the calls of its own sessions, and takes up of them and of their connections'.
 
-ghost use Rattle.std.specs.Prelude.{◌≡◌, ℕ, List, true, is_none, IfOk, OnOk, OnErr, if◌then◌else◌};
+ghost use Rattle.std.specs.Prelude.{◌≡◌, ℕ, List, true, IfOk, OnOk, OnErr, if◌then◌else◌};
 ghost use Rattle.jm_dest.specs.declared.key.Key.{Key as OfKey};
 ghost use Rattle.jm_dest.specs.declared.destination.Destination.TheVariants.{Topic};
 ghost use Rattle.jm_machine.specs.Life.{mode_of as mode_in};
@@ -10,7 +10,7 @@ ghost use Rattle.jm_machine.specs.Rows.{settles_at_once};
 ghost use Rattle.jm_machine.specs.Lone as spec;
 ghost use Rattle.jm_machine.specs.Lone.Item.{Called};
 ghost use Rattle.jm_scope.specs.Scopes.{scope_seen};
-ghost use Rattle.jm_lone.specs.Parts.{IsAnswered, IsAttached, after, asks_no_shared, is_handed_out, is_held_alone};
+ghost use Rattle.jm_lone.specs.Parts.{IsAnswered, IsAttached, after, asks_no_shared, is_handed_out, is_held_alone, is_whole_session};
 
 use crate::known::{
     has_client, is_active, is_busy, is_listening, is_new_session, is_started, may_begin,
@@ -469,7 +469,7 @@ impl Lone {
         request: &Request,
     ) -> Result<(), AllocError>
         requires { is_held_alone (scope_seen scope.now).key ≡ true }
-        ensures ok { OnOk result (self.new ≡ (if is_none (spec.about (scope_seen scope.now) session.now request.now)
+        ensures ok { OnOk result (self.new ≡ (if is_whole_session (spec.about (scope_seen scope.now) session.now request.now)
             then spec.lone_after (scope_seen scope.now) self.old (Called (Who.Session session.now) request.now)
             else self.old)) }
         ensures err { OnErr result (self.new ≡ self.old) }

@@ -47,7 +47,7 @@ abbrev pub client_or : Option ConnectionState → Option (List ℕ) → Option (
 client_or None later = later
 client_or (Some x) later = if x.is_open then x.client else None
 
--- the client with which a connection is open in the opening, or is opened in the list
+-- the client for which the connection is ever open, in the opening or later: numbers are used once, so there is one
 abbrev pub clients_in : State → List Entry → ℕ → Option (List ℕ)
 clients_in opening entries c = client_or (connection_of opening.life.connections c) (client_opened entries c)
 
@@ -269,36 +269,48 @@ lone_did key lone (Session s) _ = lone
 abbrev pub belongs : Scope → SessionId → ℕ → Bool
 belongs scope s c = is_own scope.sessions s && scope.numbers s c
 
--- whether a request that creates a consumer, or deletes a subscription, names the key by its own words, and whether one
--- that names a consumer names one of the key's; of any other request nothing
-abbrev pub about : Scope → SessionId → Request → Option Bool
-about scope s (CreateConsumer c destination selector no_local) = Some (is_own scope.sessions s && names_key scope.key scope.clients s (CreateConsumer c destination selector no_local))
-about scope s (CreateDurable c destination name selector no_local) = Some (is_own scope.sessions s && names_key scope.key scope.clients s (CreateDurable c destination name selector no_local))
-about scope s (CreateShared c destination name selector) = Some (is_own scope.sessions s && names_key scope.key scope.clients s (CreateShared c destination name selector))
-about scope s (CreateSharedDurable c destination name selector) = Some (is_own scope.sessions s && names_key scope.key scope.clients s (CreateSharedDurable c destination name selector))
-about scope s (Unsubscribe name) = Some (is_own scope.sessions s && deletes_key scope.key scope.clients s name)
-about scope s (CloseConsumer c) = Some (belongs scope s c)
-about scope s (Receive c now) = Some (belongs scope s c)
-about scope s (Missed c) = Some (belongs scope s c)
-about scope s (SetListener c on) = Some (belongs scope s c)
-about scope s (Take c now) = Some (belongs scope s c)
-about scope s (DoneWith c ok) = Some (belongs scope s c)
-about scope s _ = None
+-- what a session's request is about: the key, another key, or the whole session
+pub data About : Type 0 where
+  ThisKey : About
+  OtherKey : About
+  WholeSession : About
 
--- a truth value that may be absent is true or absent
-abbrev pub true_or_none : Option Bool → Bool
-true_or_none None = true
-true_or_none (Some b) = b
+-- the key where that is so, else another
+abbrev pub this_key_if : Bool → About
+this_key_if b = if b then ThisKey else OtherKey
 
--- a truth value that may be absent is there, and true
-abbrev pub is_true : Option Bool → Bool
-is_true None = false
-is_true (Some b) = b
+-- a request that creates a consumer, or deletes a subscription, is about the key that it names by its own words, and one
+-- that names a consumer about that consumer's; any other request is about the whole session
+abbrev pub about : Scope → SessionId → Request → About
+about scope s (CreateConsumer c destination selector no_local) = this_key_if (is_own scope.sessions s && names_key scope.key scope.clients s (CreateConsumer c destination selector no_local))
+about scope s (CreateDurable c destination name selector no_local) = this_key_if (is_own scope.sessions s && names_key scope.key scope.clients s (CreateDurable c destination name selector no_local))
+about scope s (CreateShared c destination name selector) = this_key_if (is_own scope.sessions s && names_key scope.key scope.clients s (CreateShared c destination name selector))
+about scope s (CreateSharedDurable c destination name selector) = this_key_if (is_own scope.sessions s && names_key scope.key scope.clients s (CreateSharedDurable c destination name selector))
+about scope s (Unsubscribe name) = this_key_if (is_own scope.sessions s && deletes_key scope.key scope.clients s name)
+about scope s (CloseConsumer c) = this_key_if (belongs scope s c)
+about scope s (Receive c now) = this_key_if (belongs scope s c)
+about scope s (Missed c) = this_key_if (belongs scope s c)
+about scope s (SetListener c on) = this_key_if (belongs scope s c)
+about scope s (Take c now) = this_key_if (belongs scope s c)
+about scope s (DoneWith c ok) = this_key_if (belongs scope s c)
+about scope s _ = WholeSession
+
+-- it is about the key
+abbrev pub is_this_key : About → Bool
+is_this_key ThisKey = true
+is_this_key OtherKey = false
+is_this_key WholeSession = false
+
+-- it is about another key
+abbrev pub is_other_key : About → Bool
+is_other_key ThisKey = false
+is_other_key OtherKey = true
+is_other_key WholeSession = false
 
 -- the reply to a request is the subscription's: it creates or deletes it, or names one of its consumers
 unfoldable pub is_answered : Scope → Who → Request → Bool
 is_answered scope (Connection c) request = false
-is_answered scope (Session s) request = is_true (about scope s request)
+is_answered scope (Session s) request = is_this_key (about scope s request)
 
 -- what it holds of its key, as the checks of a request see it
 abbrev pub lone_holding : Lone → Holding
@@ -312,11 +324,11 @@ lone_refusal lone who request = refusal lone.life lone.consumers (lone_holding l
 abbrev pub lone_reply : Lone → Who → Request → Result Answer Refusal
 lone_reply lone who request = reply_by lone.life lone.consumers (lone_holding lone) who request
 
--- it takes up a request: of its connections' it is told the accepted ones alone, and of its sessions'
--- those that name another consumer are not its own
+-- it takes up a request: of its connections' it is told the accepted ones alone, and of its sessions' it takes up those
+-- that are not about another key, where it does not refuse them
 abbrev pub takes_up : Scope → Lone → Who → Request → Bool
 takes_up scope lone (Connection c) request = true
-takes_up scope lone (Session s) request = true_or_none (about scope s request) && is_none (lone_refusal lone (Session s) request)
+takes_up scope lone (Session s) request = not (is_other_key (about scope s request)) && is_none (lone_refusal lone (Session s) request)
 
 -- a message comes to it; at its limit it misses it
 abbrev pub lone_brought : Key → Content → Lone → Lone
