@@ -24,7 +24,7 @@ use Rattle.jm_stations.specs.Kept.{all_rows, all_shown, without_room, IsBacklog,
 use Rattle.jm_machine.proofs.Keys.{set_eq, set_is, key_sym}
 
 -- a key is not among those before it, where all are distinct
-none_later : (k : Key) (keys : List Key) (n : ℕ) (d : Key) → AllByRecursion (λ l. key_eq k l ≡ false) keys → n < length keys → key_eq k (get_or keys n d) ≡ false
+pub none_later : (k : Key) (keys : List Key) (n : ℕ) (d : Key) → AllByRecursion (λ l. key_eq k l ≡ false) keys → n < length keys → key_eq k (get_or keys n d) ≡ false
 none_later k [] n d h l = absurd (omega arith)
 none_later k (x ∷ keys) zero d h l = h.0
 none_later k (x ∷ keys) (suc n) d h l = none_later k keys n d h.1 (omega arith)

@@ -38,7 +38,7 @@ none_first p (k ∷ keys) h = go (p k) h (none_first p keys)
     go false e later = later (omega (arith, e))
 
 -- a key that stands nowhere is none of them
-no_key : (p : Key → Bool) (keys : List Key) → position p keys ≡ None → list_any p keys ≡ false
+pub no_key : (p : Key → Bool) (keys : List Key) → position p keys ≡ None → list_any p keys ≡ false
 no_key p keys h = none_first p keys (go (position_or_len p keys) (length keys) (nat_lt (position_or_len p keys) (length keys)) refl h)
   where
     go : (n m : ℕ) (b : Bool) → nat_lt n m ≡ b → cond b (Some n) None ≡ None → m ≤ n

@@ -12,5 +12,6 @@ mod Copied
 mod Removed
 mod Each
 mod Closing
+mod Own
 mod StoredRows
 mod Readers

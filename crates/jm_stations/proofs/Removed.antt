@@ -11,7 +11,7 @@ use Rattle.jm_stations.specs.Kept.{all_rows, shown, all_shown, IsBacklog, IsKept
 use Rattle.jm_stations.proofs.Holders.{rows_get, rows_length}
 use Rattle.jm_stations.proofs.Shown.{all_covered, all_backlogs_kept, all_shown_kept}
 
-all_removed : {X : Type 0} (P : X → Type 0) (xs : List X) (k : ℕ) → All P xs → All P (remove xs k)
+pub all_removed : {X : Type 0} (P : X → Type 0) (xs : List X) (k : ℕ) → All P xs → All P (remove xs k)
 all_removed P xs k h = All-append P (take k xs) (drop (suc k) xs) (All-take P k xs h) (All-drop P (suc k) xs h)
 
 rows_removed : (lists : List Held) (k : ℕ) → all_rows (remove lists k) ≡ remove (all_rows lists) k

@@ -3,6 +3,7 @@
 ghost use Rattle.std.specs.Prelude.{◌≡◌, ◌≤◌, ◌<◌, ◌+◌, ◌++◌, [], ◌∷◌, true, false, not, nat_eq, is_some, All, filter, length, map, slice_index_or, Some, None, IfSome, IfOk, OnOk, OnErr};
 ghost use Rattle.std.specs.List.{IsDistinct, remove};
 ghost use Rattle.jm_dest.specs.declared.key.Key.{Key};
+ghost use Rattle.jm_dest.specs.declared.key.Key.TheVariants.{Own};
 ghost use Rattle.jm_dest.specs.Keys.{key_eq};
 ghost use Rattle.jm_machine.specs.Attached.{ended};
 ghost use Rattle.jm_machine.specs.Machine.{are_meant, places_end};
@@ -10,7 +11,7 @@ ghost use Rattle.jm_selector.specs.Selectors.{matches};
 ghost use Rattle.jm_stations.specs.Backlogs as spec;
 ghost use Rattle.jm_stations.specs.Backlogs.{Backlog};
 ghost use Rattle.jm_stations.specs.Loading.{AreLoaded};
-ghost use Rattle.jm_stations.specs.Stations.{index_in};
+ghost use Rattle.jm_stations.specs.Stations.{NoneShared, index_in, is_shared};
 ghost use Rattle.std.specs.Prelude.{find, option_map};
 ghost use Rattle.jm_machine.specs.Wants.{next_chosen};
 ghost use Rattle.jm_stations.specs.Standing as standing;
@@ -29,11 +30,13 @@ use std::marker::Model;
 
 /// What is held under each key, in order of creation, each found by its key (ours): rows by place, with the
 /// messages that they hold, of which each stands once. Contracts see the keys, what is held under each, the place
-/// of the next publication, and for how many more messages and keys there is room.
+/// of the next publication, and for how many more messages and keys there is room. Where `shares` is false, no key is of
+/// a shared subscription that is not durable, and a close of one consumer ends its own subscription alone.
 pub struct Stations {
     alloc: Global,
     keys: IndexSet<Key>,
     backlogs: Backlogs,
+    shares: bool,
 }
 
 impl Drop for Stations {
@@ -42,16 +45,17 @@ impl Drop for Stations {
             alloc: _alloc,
             keys: _keys,
             backlogs: _backlogs,
+            shares: _,
         } = self;
     }
 }
 
 impl Model for Stations {
-    ghost use Rattle.std.specs.Prelude.{◌≡◌, min, length};
+    ghost use Rattle.std.specs.Prelude.{◌≡◌, false, min, length};
     ghost use Rattle.std.specs.List.{IsDistinct};
     ghost use Rattle.indexmap.specs.IndexSet.{spare};
     ghost use Rattle.jm_dest.specs.Keys.{key_eq};
-    ghost use Rattle.jm_stations.specs.Stations.{Stations as StationsShown};
+    ghost use Rattle.jm_stations.specs.Stations.{Stations as StationsShown, NoneShared};
 
     ghost Value = { StationsShown };
 
@@ -63,7 +67,7 @@ impl Model for Stations {
       key_room = min (spare s.keys) s.backlogs.list_room;
     } };
 
-    ghost invariant = { λ s. (length s.keys.keys ≡ length s.backlogs.list) × IsDistinct key_eq s.keys.keys };
+    ghost invariant = { λ s. (length s.keys.keys ≡ length s.backlogs.list) × IsDistinct key_eq s.keys.keys × (s.shares ≡ false → NoneShared s.keys.keys) };
 }
 
 impl Stations {
@@ -77,6 +81,7 @@ impl Stations {
             alloc,
             keys: IndexSet::new(alloc),
             backlogs: Backlogs::new(alloc),
+            shares: false,
         }
     }
 
@@ -119,6 +124,7 @@ impl Stations {
             alloc: self.alloc,
             keys,
             backlogs,
+            shares: self.shares,
         })
     }
 
@@ -186,6 +192,7 @@ impl Stations {
         } }
         ensures room { self.old.key_room ≤ self.new.key_room + 1 }
     {
+        self.shares = or_shared(self.shares, &key);
         let _ = self.keys.insert(key);
         self.backlogs.create(limit);
     }
@@ -209,8 +216,47 @@ impl Stations {
 
     /// The keys of the subscriptions that end once those consumers are closed, as `Attached::ends` has it, go with the rows
     /// under them, and each message that no other row holds with them; the others move up, in their order. Goes over all
-    /// keys. Takes no memory.
+    /// keys, each time once; but where one consumer is closed, and no key is of a shared subscription that is not durable,
+    /// the key of its own is found by its hash. Takes no memory.
     pub fn close(&mut self, which: &Consumers, attached: &Attached)
+        ensures keys { self.new.keys ≡ filter (λ k. not (ended which.now attached.now k)) self.old.keys }
+        ensures list { self.new.list ≡ spec.kept_under (λ k. not (ended which.now attached.now k)) self.old.keys self.old.list }
+        ensures next_place { self.new.next_place ≡ self.old.next_place }
+        ensures message_room { self.old.message_room ≤ self.new.message_room }
+        ensures key_room { self.old.key_room ≤ self.new.key_room }
+    {
+        if let Consumers::One(session, id) = which {
+            if !self.may_share() {
+                self.close_own(*session, *id);
+                return;
+            }
+        }
+        self.close_each(which, attached);
+    }
+
+    /// Whether some key may be of a shared subscription that is not durable.
+    fn may_share(&self) -> bool
+        ensures { result ≡ false → NoneShared self.now.keys }
+    {
+        self.shares
+    }
+
+    /// The key of the consumer's own subscription goes, where there is one, with the rows under it.
+    fn close_own(&mut self, session: SessionId, id: ConsumerId)
+        ensures keys { self.new.keys ≡ filter (λ k. not (key_eq (Own session id) k)) self.old.keys }
+        ensures list { self.new.list ≡ spec.kept_under (λ k. not (key_eq (Own session id) k)) self.old.keys self.old.list }
+        ensures next_place { self.new.next_place ≡ self.old.next_place }
+        ensures message_room { self.old.message_room ≤ self.new.message_room }
+        ensures key_room { self.old.key_room ≤ self.new.key_room }
+    {
+        let _ = &self.alloc;
+        if let Some(index) = self.index_of(&Key::Own(session, id)) {
+            self.remove(index);
+        }
+    }
+
+    /// The keys of the subscriptions that end with those consumers go, with the rows under them.
+    fn close_each(&mut self, which: &Consumers, attached: &Attached)
         ensures keys { self.new.keys ≡ filter (λ k. not (ended which.now attached.now k)) self.old.keys }
         ensures list { self.new.list ≡ spec.kept_under (λ k. not (ended which.now attached.now k)) self.old.keys self.old.list }
         ensures next_place { self.new.next_place ≡ self.old.next_place }
@@ -219,6 +265,7 @@ impl Stations {
     {
         self.backlogs.close(self.keys.as_slice(), which, attached);
         self.keys.retain(|key| !attached.ends(which, key));
+        self.shares = are_shared(self.keys.as_slice());
     }
 
     /// Makes room for that many more messages, and for as many more rows under each key with one of those indexes.
@@ -559,4 +606,34 @@ impl Stations {
     {
         self.backlogs.missed(index)
     }
+}
+
+/// Whether the key is of a shared subscription that is not durable.
+fn is_shared(key: &Key) -> bool
+    ensures { result ≡ is_shared key.now }
+{
+    match key {
+        Key::SharedOwn(_, _) => true,
+        Key::Queue(_) | Key::Own(_, _) | Key::Durable(_, _) => false,
+    }
+}
+
+/// Whether a key was so before, or that one is.
+fn or_shared(shares: bool, key: &Key) -> bool
+    ensures before { result ≡ false → shares ≡ false }
+    ensures key { result ≡ false → is_shared key.now ≡ false }
+{
+    shares || is_shared(key)
+}
+
+/// Whether one of the keys is so.
+fn are_shared(keys: &[Key]) -> bool
+    ensures { result ≡ false → NoneShared keys.now }
+{
+    for key in keys {
+        if is_shared(key) {
+            return true;
+        }
+    }
+    false
 }

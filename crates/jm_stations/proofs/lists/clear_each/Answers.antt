@@ -40,7 +40,7 @@ loop-index-preserved c =
     let inside : i < length lists = omega (arith, c.loop-index.invariant.number) in
     let within : i < length keys = omega (arith, c.requires.number) in
     let value : h ≡ get_or lists i h = c.index_mut-held.ensures.value in
-    let goes : c.ends-ends.result ≡ p (get_or keys i key) = c.ends-ends.ensures ∙ ap p c.index-keys-index.is in
+    let goes : c.ends-ends.result ≡ p (get_or keys i key) = c.ends-ends.ensures.left ∙ ap p c.index-keys-index.is in
     let after : h' ≡ cleared (p (get_or keys i key)) h = c.clear_where.ensures.rows ∙ ap (λ b. cleared b h) goes in
     let more = cleared_more p keys init i key h h' within c.requires.number (value ∙ ap (λ (xs : List Held). get_or xs i h) c.loop-index.invariant.lists) after in
     record {

@@ -1,24 +1,18 @@
-use Rattle.std.proofs.Common.{◌≡◌, Bool, not, rules}
+use Rattle.std.proofs.Common.{◌≡◌, ◌∙◌, ap, sym, not}
 use Rattle.std.specs.List.{filter}
-use Rattle.std.proofs.lemmas.Fn.{filter_same}
-use Rattle.jm_dest.specs.declared.key.Key.{Key}
 use Rattle.jm_machine.specs.Attached.{ended}
-use Rattle.jm_stations.proofs.Closing.{as_many_left}
-use Rattle.jm_stations.proofs.Indexes.{distinct_keys}
+use Rattle.jm_stations.specs.Backlogs.{kept_under}
+use Rattle.jm_stations.proofs.Own.{own_ended, own_under}
 use Rattle.jm_stations.proofs.stations.Stations.close.Goals as goal
 
-pub invariant_of-self : goal.invariant_of-self
-invariant_of-self c =
-    let p : Key → Bool = λ k. not (ended c.args.which.now c.args.attached.now k) in
-    let keys = c.self.inside.keys.keys in
-    let left : c.retain.new.self.keys ≡ filter p keys = filter_same _ p _ (λ x b f' k. search rules) _ _ c.retain.ensures.filtered in
-    let same : c.as_slice.result.now ≡ keys = c.as_slice.ensures.keys in (
-      rw (left, c.close.ensures.list, same) (as_many_left p keys c.self.inside.backlogs.list c.self.invariant.0),
-      distinct_keys c.retain.new.self.keys c.retain.ensures.unique,
-    )
+pub returns-then-not-may_share-clause-keys : goal.returns-then-not-may_share-clause-keys
+returns-then-not-may_share-clause-keys c =
+    let keys = c.args.self.now.keys in
+    c.close_own.ensures.keys ∙ sym (own_ended c.in-One.session c.in-One.id c.args.attached.now keys (c.may_share.ensures c.if-not-may_share.true))
+    ∙ sym (ap (λ w. filter (λ k. not (ended w c.args.attached.now k)) keys) c.in-One.is)
 
-pub returns-clause-keys : goal.returns-clause-keys
-returns-clause-keys c =
-    let p : Key → Bool = λ k. not (ended c.args.which.now c.args.attached.now k) in
-    let left : c.retain.new.self.keys ≡ filter p c.self.inside.keys.keys = filter_same _ p _ (λ x b f' k. search rules) _ _ c.retain.ensures.filtered in
-    rw (← c.self.view_is) left
+pub returns-then-not-may_share-clause-list : goal.returns-then-not-may_share-clause-list
+returns-then-not-may_share-clause-list c =
+    let keys = c.args.self.now.keys in
+    c.close_own.ensures.list ∙ sym (own_under c.in-One.session c.in-One.id c.args.attached.now keys c.args.self.now.list (c.may_share.ensures c.if-not-may_share.true))
+    ∙ sym (ap (λ w. kept_under (λ k. not (ended w c.args.attached.now k)) keys c.args.self.now.list) c.in-One.is)

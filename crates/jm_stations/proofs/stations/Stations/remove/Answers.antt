@@ -1,6 +1,8 @@
-use Rattle.std.proofs.Common.{◌<◌, length, arith}
+use Rattle.std.proofs.Common.{◌≡◌, ◌<◌, length, false, arith}
 use Rattle.std.proofs.lemmas.List.Edits.{length-remove}
+use Rattle.jm_stations.specs.Stations.{is_shared}
 use Rattle.jm_stations.proofs.Indexes.{distinct_keys}
+use Rattle.jm_stations.proofs.Removed.{all_removed}
 use Rattle.jm_stations.proofs.stations.Stations.remove.Goals as goal
 
 pub invariant_of-self : goal.invariant_of-self
@@ -12,4 +14,5 @@ invariant_of-self c =
     let within : i < length keys = omega (arith, c.self.invariant.0, inside) in (
       rw (c.shift_remove_index.ensures.keys, c.remove.ensures.removed) (omega (arith, length-remove keys i within, length-remove list i inside, c.self.invariant.0)),
       distinct_keys c.shift_remove_index.new.self.keys c.shift_remove_index.ensures.unique,
+      λ none. rw c.shift_remove_index.ensures.keys (all_removed (λ k. is_shared k ≡ false) keys i (c.self.invariant.2 none)),
     )
