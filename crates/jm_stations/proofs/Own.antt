@@ -1,6 +1,6 @@
 -- The key of a consumer's own subscription, which goes alone where no key is shared.
 use Rattle.std.proofs.Common.{◌≡◌, ◌<◌, ℕ, zero, suc, List, [], ◌∷◌, length, get_or, Bool, true, false, not, cond, ◌||◌, refl, ap, sym, subst, ◌∙◌, arith, Some, None}
-use Rattle.std.specs.List.{All, AllByRecursion, IsDistinct, filter, list_any, remove, position}
+use Rattle.std.specs.List.{All, AllByRecursion, IsDistinct, filter, list_any, remove}
 use Rattle.std.proofs.lemmas.Bool.Decides.{nat_tests}
 use Rattle.std.proofs.lemmas.List.Elements.{All-head, All-tail}
 use Rattle.std.proofs.lemmas.List.Quantifiers.{position-Some}
@@ -10,7 +10,7 @@ use Rattle.jm_dest.specs.declared.session.SessionId.{SessionId}
 use Rattle.jm_dest.specs.Keys.{key_eq}
 use Rattle.jm_machine.specs.Attached.{Counts, ended}
 use Rattle.jm_machine.specs.declared.consumers.Consumers.TheVariants.{One}
-use Rattle.jm_machine.proofs.Keys.{key_refl, key_same, key_sym}
+use Rattle.jm_machine.proofs.Keys.{key_same, key_sym}
 use Rattle.jm_stations.specs.Backlogs.{Backlog, kept_under}
 use Rattle.jm_stations.specs.Stations.{index_in, is_shared}
 use Rattle.jm_stations.proofs.Copied.{none_later}

@@ -1,4 +1,4 @@
-use Rattle.std.proofs.Common.{◌≡◌, ◌∙◌, ap, sym, not}
+use Rattle.std.proofs.Common.{◌∙◌, ap, sym, not}
 use Rattle.std.specs.List.{filter}
 use Rattle.jm_machine.specs.Attached.{ended}
 use Rattle.jm_stations.specs.Backlogs.{kept_under}

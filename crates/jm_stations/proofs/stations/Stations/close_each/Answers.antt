@@ -1,4 +1,4 @@
-use Rattle.std.proofs.Common.{◌≡◌, ◌∙◌, Bool, not, ap, rules}
+use Rattle.std.proofs.Common.{◌≡◌, Bool, not, rules}
 use Rattle.std.specs.List.{filter}
 use Rattle.std.proofs.lemmas.Fn.{filter_same}
 use Rattle.jm_dest.specs.declared.key.Key.{Key}
