@@ -132,7 +132,7 @@ pub Queues_send : IsSend Queues.the_row
 Queues_send = search (sendable, crosses, maps.crosses, Stations_send) depth 60 fits 20000
 
 pub Sessions_send : IsSend Sessions.the_row
-Sessions_send = search (sendable, crosses, maps.crosses, ConnectionState_send, SessionState_send, Clients_send, Roster_send) depth 60 fits 20000
+Sessions_send = search (sendable, crosses, index_map.the_send, ConnectionState_send, SessionState_send, Clients_send, Roster_send) depth 60 fits 20000
 
 pub Topics_field : IsSend (Topics.the_field).row
 Topics_field = search (sendable, crosses, index_map.the_send, linked.the_send, Name_send, Key_send) depth 60 fits 20000
