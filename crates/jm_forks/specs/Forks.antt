@@ -1,5 +1,5 @@
 -- The parts of a scenario: its calls outside forks, and those that a fork and its join hold together (ours).
-use Rattle.std.specs.Prelude.{◌≡◌, ◌++◌, true, List, [], ◌∷◌, Option, Some, None, All, if◌then◌else◌}
+use Rattle.std.specs.Prelude.{◌≡◌, ◌++◌, true, List, [], ◌∷◌, Option, Some, None, All, Contains, filter_map, if◌then◌else◌}
 use Rattle.std.specs.List.{list_any}
 use Rattle.jm_dest.specs.Names.{session_eq}
 use Rattle.jm_dest.specs.declared.session.SessionId.{SessionId}
@@ -39,7 +39,7 @@ abbrev pub calls_of_parts : List Part → List ClientCall
 calls_of_parts [] = []
 calls_of_parts (part ∷ others) = calls_in part ++ calls_of_parts others
 
--- what a fork and its join hold together is by sessions alone
+-- what a fork and its join hold together is called by sessions alone
 abbrev pub IsBySessions : Part → Type 0
 IsBySessions (Alone call) = Unit {0}
 IsBySessions (Together calls) = All (λ call. is_by_session call ≡ true) calls
@@ -50,6 +50,10 @@ session_of (Ask (OfConnection c) request) = None
 session_of (Ask (OfSession s) request) = Some s
 session_of (Send s draft destination now) = Some s
 session_of (CommitSession s) = Some s
+
+-- the session makes a call in the parts
+abbrev pub IsCaller : SessionId → List Part → Type 0
+IsCaller session parts = Contains (filter_map session_of (calls_of_parts parts)) session
 
 -- the sessions, and behind them one more, where it is none of them
 abbrev pub with_session : List SessionId → Option SessionId → List SessionId

@@ -1,4 +1,5 @@
-ghost use Rattle.std.specs.Prelude.{◌≡◌, ◌++◌, [], ◌∷◌, List, IfOk, OnOk};
+ghost use Rattle.std.specs.Prelude.{◌≡◌, ◌++◌, [], ◌∷◌, List, All, IfOk, OnOk};
+ghost use Rattle.jm_scenario.specs.Items.{AreWellForked, calls_of};
 ghost use Rattle.jm_scenario.specs.declared.item.Item.{Item};
 ghost use Rattle.jm_scenario.specs.declared.item.Item.TheVariants.{Call};
 ghost use Rattle.jm_forks.specs.Forks as spec;
@@ -65,7 +66,9 @@ fn take_item(
 
 /// The parts of the items, in order; the calls are moved. `AllocError` where a request for memory was refused.
 pub fn parts_of(alloc: Global, items: Vec<Item>) -> Result<Vec<Part>, AllocError>
-    ensures { IfOk result (λ parts. parts.items ≡ spec.parts items.items) }
+    ensures parts { IfOk result (λ parts. parts.items ≡ spec.parts items.items) }
+    ensures calls { IfOk result (λ parts. spec.calls_of_parts parts.items ≡ calls_of items.items) }
+    ensures by_sessions { IfOk result (λ parts. AreWellForked items.items → All spec.IsBySessions parts.items) }
 {
     let mut parts = Vec::new(alloc);
     let mut forked = None;

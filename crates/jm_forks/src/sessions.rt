@@ -1,4 +1,7 @@
-ghost use Rattle.std.specs.Prelude.{◌≡◌, IfOk, OnOk};
+ghost use Rattle.std.specs.Prelude.{◌≡◌, ◌↔◌, Contains, IfOk, OnOk};
+ghost use Rattle.std.specs.List.{IsDistinct};
+ghost use Rattle.jm_dest.specs.Names.{session_eq};
+ghost use Rattle.jm_dest.specs.declared.session.SessionId.{SessionId};
 ghost use Rattle.jm_forks.specs.Forks as spec;
 
 use crate::part::Part;
@@ -58,7 +61,9 @@ fn listed(alloc: Global, sessions: &[SessionId]) -> Result<Vec<SessionId>, Alloc
 /// The sessions that make a call in the parts, each once, in order of first call. `AllocError` where a request for memory
 /// was refused.
 pub fn sessions_of(alloc: Global, parts: &[Part]) -> Result<Vec<SessionId>, AllocError>
-    ensures { IfOk result (λ sessions. sessions.items ≡ spec.sessions_of parts.now) }
+    ensures sessions { IfOk result (λ sessions. sessions.items ≡ spec.sessions_of parts.now) }
+    ensures distinct { IfOk result (λ sessions. IsDistinct session_eq sessions.items) }
+    ensures callers { IfOk result (λ sessions. (s : SessionId) → Contains sessions.items s ↔ spec.IsCaller s parts.now) }
 {
     let mut sessions = IndexSet::new(alloc);
     for part in parts {
