@@ -101,6 +101,7 @@ first_or_other {X} t others s c = go (Contains-append_cases (t ∷ []) others s 
     first : Contains [] s ⊎ (t ≡ s) → (t ≡ s) ⊎ Contains others s
     first (inl h) = absurd (no_session s h)
     first (inr h) = inl h
+
     go : Contains (t ∷ []) s ⊎ Contains others s → (t ≡ s) ⊎ Contains others s
     go (inl h) = first (Contains-push_cases [] t s h)
     go (inr h) = inr h
@@ -116,6 +117,7 @@ noted sessions (Some t) others s h = go (list_any (session_eq t) sessions) refl 
     is_first true e (inl same) = inl (subst (λ x. Contains sessions x) same (Contains-list_any session_eq session_same sessions t e))
     is_first false e (inl same) = inl (subst (λ x. Contains (sessions ++ t ∷ []) x) same (Contains-push sessions t))
     is_first b e (inr c) = inr c
+
     go : (b : Bool) → list_any (session_eq t) sessions ≡ b → Contains sessions s ⊎ Contains (t ∷ others) s
         → Contains (if b then sessions else sessions ++ t ∷ []) s ⊎ Contains others s
     go true e (inl c) = inl c
@@ -130,9 +132,11 @@ was_noted sessions (Some t) others s h = go (list_any (session_eq t) sessions) h
   where
     here : t ≡ s → Contains (t ∷ others) s
     here same = subst (λ x. Contains (t ∷ others) x) same (Contains-append_left (t ∷ []) others t (Contains-push [] t))
+
     pushed : Contains sessions s ⊎ (t ≡ s) → Contains sessions s ⊎ Contains (t ∷ others) s
     pushed (inl c) = inl c
     pushed (inr same) = inr (here same)
+
     go : (b : Bool) → Contains (if b then sessions else sessions ++ t ∷ []) s ⊎ Contains others s → Contains sessions s ⊎ Contains (t ∷ others) s
     go true (inl c) = inl c
     go false (inl c) = pushed (Contains-push_cases sessions t s c)
@@ -159,6 +163,7 @@ sessions_of-callers parts s = (only, λ c. with_sessions-callers [] (calls_of_pa
     go : Contains [] s ⊎ IsCaller s parts → IsCaller s parts
     go (inl c) = absurd (no_session s c)
     go (inr c) = c
+
     only : Contains (sessions_of parts) s → IsCaller s parts
     only c = go (with_sessions-only_callers [] (calls_of_parts parts) s c)
 

@@ -1,5 +1,5 @@
-//! The parts of a scenario, where the calls between a fork and its join are one part, and the sessions that make the calls
-//! (ours).
+//! The parts of a scenario, where the calls between a fork and its join are one part, and the sessions that make calls
+//! in parts (ours).
 //!
 //! # Contract
 //!
@@ -8,7 +8,8 @@
 //! calls of the parts, one after another, are those of the items. Where the items are well forked
 //! (`AreWellForked`), what is together is by sessions alone.
 //!
-//! `sessions_of` names the sessions that make a call in parts, each once, in order of first call (`sessions_of`).
+//! `sessions_of` lists the sessions that make a call in parts, and no others, each once, in order of first call
+//! (`sessions_of`).
 #![tactic(auto)]
 
 mod part;

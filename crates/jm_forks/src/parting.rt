@@ -27,7 +27,8 @@ fn take_call(
     call: ClientCall,
 ) -> Result<Option<List<ClientCall>>, AllocError>
     ensures { IfOk result (λ still. (items : List Item)
-        → parts.new.items ++ spec.parts_behind still items ≡ parts.old.items ++ spec.parts_behind forked (Call call ∷ items)) }
+        → parts.new.items ++ spec.parts_behind still items
+        ≡ parts.old.items ++ spec.parts_behind forked (Call call ∷ items)) }
 {
     match forked {
         None => {
@@ -49,7 +50,8 @@ fn take_item(
     item: Item,
 ) -> Result<Option<List<ClientCall>>, AllocError>
     ensures { IfOk result (λ still. (items : List Item)
-        → parts.new.items ++ spec.parts_behind still items ≡ parts.old.items ++ spec.parts_behind forked (item ∷ items)) }
+        → parts.new.items ++ spec.parts_behind still items
+        ≡ parts.old.items ++ spec.parts_behind forked (item ∷ items)) }
 {
     match item {
         Item::Call(call) => take_call(parts, forked, call),

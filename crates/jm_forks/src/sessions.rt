@@ -15,8 +15,14 @@ fn session_of(call: &ClientCall) -> Option<SessionId>
     ensures { result ≡ spec.session_of call.now }
 {
     match call {
-        ClientCall::Ask { who: Who::Connection(_), .. } => None,
-        ClientCall::Ask { who: Who::Session(session), .. } => Some(*session),
+        ClientCall::Ask {
+            who: Who::Connection(_),
+            ..
+        } => None,
+        ClientCall::Ask {
+            who: Who::Session(session),
+            ..
+        } => Some(*session),
         ClientCall::Send { session, .. } | ClientCall::CommitSession(session) => Some(*session),
     }
 }
@@ -58,12 +64,13 @@ fn listed(alloc: Global, sessions: &[SessionId]) -> Result<Vec<SessionId>, Alloc
     sessions.iter().copied().collect(alloc)
 }
 
-/// The sessions that make a call in the parts, each once, in order of first call. `AllocError` where a request for memory
-/// was refused.
+/// The sessions that make a call in the parts, each once, in order of first call. `AllocError` where a request for
+/// memory was refused.
 pub fn sessions_of(alloc: Global, parts: &[Part]) -> Result<Vec<SessionId>, AllocError>
     ensures sessions { IfOk result (λ sessions. sessions.items ≡ spec.sessions_of parts.now) }
     ensures distinct { IfOk result (λ sessions. IsDistinct session_eq sessions.items) }
-    ensures callers { IfOk result (λ sessions. (s : SessionId) → Contains sessions.items s ↔ spec.IsCaller s parts.now) }
+    ensures callers { IfOk result (λ sessions. (s : SessionId)
+        → Contains sessions.items s ↔ spec.IsCaller s parts.now) }
 {
     let mut sessions = IndexSet::new(alloc);
     for part in parts {
