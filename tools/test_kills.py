@@ -94,7 +94,8 @@ class Kills(unittest.TestCase):
         self.assertRegex(lines[-2], r"^kills: [1-9]\d* while the program ran, --seed 5$")
 
     def assert_fails(self, fault: str, why: str) -> None:
-        lines, status = said(fault, 6)
+        # (the first kill that sees it is the last: so many are for those that hit before the fault, or after the end)
+        lines, status = said(fault, 60)
         self.assertEqual(status, 1)
         self.assertRegex(lines[-1], r"^\d+ passed, 1 failed$")
         self.assertRegex(lines[0], why)
@@ -114,7 +115,8 @@ class Kills(unittest.TestCase):
 
     def test_a_file_that_is_no_database_is_seen(self) -> None:
         fault = "base.execute('COMMIT'); open(sys.argv[4], 'r+b').write(b'x' * 20); base.execute('BEGIN')"
-        self.assert_fails(fault, "gone|ends with")
+        # (what it says hangs on the moment: SQLite may still find the first page in its log)
+        self.assert_fails(fault, "gone|ends with|and not|stands")
 
     def test_a_second_run_that_says_something_else_is_seen(self) -> None:
         self.assert_fails("lines[-1] = lines[-1].replace('count=2', 'count=1')", "and not")
