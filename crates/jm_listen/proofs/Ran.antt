@@ -6,8 +6,8 @@ use Rattle.jm_machine.specs.declared.call.Call.{Call}
 use Rattle.jm_audit.specs.Passes.{Calls}
 use Rattle.jm_listen.specs.declared.jobs.Job.{Job}
 use Rattle.jm_listen.specs.declared.jobs.Task.{Task}
-use Rattle.jm_listen.specs.declared.listener.After.{After}
-use Rattle.jm_listen.specs.declared.listener.ListenerFault.{ListenerFault}
+use Rattle.jm_listener.specs.declared.listener.After.{After}
+use Rattle.jm_listener.specs.declared.listener.ListenerFault.{ListenerFault}
 use Rattle.jm_listen.specs.Turns.{Turn, Takes, Ends, Follows, call_after, message, one_more}
 use Rattle.jm_listen.specs.Runs.{JobTurned, JobRan, TaskRan, AllRan}
 

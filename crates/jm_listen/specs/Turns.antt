@@ -11,9 +11,9 @@ use Rattle.jm_machine.specs.declared.call.Request.TheVariants as requests
 use Rattle.jm_machine.specs.declared.call.Step.{Step}
 use Rattle.jm_audit.specs.Passes.{Calls}
 use Rattle.jm_broker.specs.Calls.{HasSame, Noted}
-use Rattle.jm_listen.specs.declared.listener.After.{After}
-use Rattle.jm_listen.specs.declared.listener.After.TheVariants as after
-use Rattle.jm_listen.specs.declared.listener.ListenerFault.{ListenerFault}
+use Rattle.jm_listener.specs.declared.listener.After.{After}
+use Rattle.jm_listener.specs.declared.listener.After.TheVariants as after
+use Rattle.jm_listener.specs.declared.listener.ListenerFault.{ListenerFault}
 
 -- a call of the session
 abbrev pub by_session : SessionId → Call → Step

@@ -3,9 +3,9 @@
 ghost use Rattle.std.specs.Prelude.{◌≡◌, ◌<◌, ◌≤◌, [], length, map, vec_capacity, vec_len, IfOk, MatchBool};
 ghost use Rattle.jm_listen.specs.Sessions.{Apart, ApartBefore, SameSession};
 
-use crate::listener::Listener;
 use jm_audit::Pass;
 use jm_dest::{ConsumerId, SessionId};
+use jm_listener::Listener;
 use std::alloc::{AllocError, Global};
 use std::sync::ledger::Ledger;
 

@@ -5,11 +5,12 @@ ghost use Rattle.jm_listen.specs.Faults.{MatchFault};
 ghost use Rattle.jm_listen.specs.Runs.{AllRan, TaskRan};
 ghost use Rattle.jm_listen.specs.Sessions.{Apart, SameSession};
 
+use crate::gate::Gate;
 use crate::jobs::{Job, Room, Task, begin, end, is_session_shared, room_for};
-use crate::listener::{Gate, Listener};
 use crate::turns::turn;
 use jm_broker::{Broker, Clock, PlannedCore};
 use jm_keep::Keep;
+use jm_listener::Listener;
 use std::alloc::Global;
 use std::sync::Wait;
 use std::sync::ledger::Ledger;

@@ -5,12 +5,12 @@ ghost use Rattle.jm_listen.specs.Runs.{JobTurned};
 ghost use Rattle.jm_listen.specs.Turns.{by_session, call_after as call_that_follows, Ends, Follows, is_delivered, Takes};
 
 use crate::jobs::Job;
-use crate::listener::{After, Listener, ListenerFault};
 use jm_audit::Pass;
 use jm_base::List;
 use jm_broker::{Broker, Clock, PlannedCore};
 use jm_dest::{ConsumerId, SessionId};
 use jm_keep::Keep;
+use jm_listener::{After, Listener, ListenerFault};
 use jm_machine::{Answer, Call, Delivery, Reply, Request, Step, Who};
 use std::alloc::Global;
 use std::sync::Wait;
