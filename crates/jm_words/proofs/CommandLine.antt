@@ -6,12 +6,14 @@ use Rattle.clap.proofs.WalkLemmas.{first_value-rows}
 use Rattle.clap.specs.declared.parser.matches.Found.{Found}
 use Rattle.std.specs.Str.Parse.{ParsesUnsigned, IsNumeral, digits_value, without_leading_plus}
 use Rattle.std.specs.Borrow.{Bor}
+use Rattle.std.specs.Option.{option_map_or}
+use Rattle.std.specs.Str.{bytes_eq}
 use Rattle.clap.specs.Words.{first_value, is_simple_and_free, rows_of}
 use Rattle.clap.specs.ValueTests.{is_unsigned_in}
 use Rattle.clap.specs.declared.builder.value_parser.ValueParser.TheVariants.{Unsigned}
 use Rattle.clap.proofs.OnLiterals.{clap_on_literals}
 use Rattle.clap.proofs.ValueTestLemmas.{Accepts-accepts, accepts-Accepts}
-use Rattle.jm_words.specs.Words.{db, held, limit_of, program}
+use Rattle.jm_words.specs.Words.{db, held, limit_of, program, threads}
 
 -- clap says exactly which words this command line takes, and with which matches
 pub program_is_simple : is_simple_and_free program ≡ true
@@ -34,6 +36,18 @@ pub db_none : (found : Found) (given : Option (Bor (List ℕ))) → option_map (
     → given ≡ None → None ≡ db (rows_of found)
 db_none found given is none =
     sym (ap (option_map (λ text. text.now)) none) ∙ is ∙ first_value-rows found (codes "db")
+
+-- the flag is given where the text that is found is `true`
+pub threads_some : (found : Found) (given : Option (Bor (List ℕ))) (text : Bor (List ℕ)) → option_map (λ text. text.now) given ≡ first_value found (codes "threads")
+    → given ≡ Some text → bytes_eq text.now (codes "true") ≡ threads (rows_of found)
+threads_some found given text is some =
+    ap (λ text. option_map_or (λ text. bytes_eq text (codes "true")) text false) (sym (ap (option_map (λ text. text.now)) some) ∙ is ∙ first_value-rows found (codes "threads"))
+
+-- it is not given where no text is found
+pub threads_none : (found : Found) (given : Option (Bor (List ℕ))) → option_map (λ text. text.now) given ≡ first_value found (codes "threads")
+    → given ≡ None → false ≡ threads (rows_of found)
+threads_none found given is none =
+    ap (λ text. option_map_or (λ text. bytes_eq text (codes "true")) text false) (sym (ap (option_map (λ text. text.now)) none) ∙ is ∙ first_value-rows found (codes "threads"))
 
 -- a text that is read as a number within a limit's bounds spells that limit
 pub limit_of_number : {E : Type 0} (text : List ℕ) (parsed : Result ℕ E) (number : ℕ) → ParsesUnsigned 32 10 text parsed → parsed ≡ Ok number

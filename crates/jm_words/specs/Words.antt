@@ -6,6 +6,7 @@ use Rattle.std.specs.Str.Parse.{digits_value, without_leading_plus}
 use Rattle.clap.specs.Words.{App, Kinds, IsAmong, Row, Rule, Shape, Text, app_of, fault_of, first_of, kind_of, new_app, new_rule, subcommand_of, with_rule, with_subcommand}
 use Rattle.clap.specs.Simple.{on_top}
 use Rattle.clap.specs.ValueTests.{is_unsigned_in}
+use Rattle.clap.specs.declared.builder.action.ArgAction.TheVariants.{SetTrue}
 use Rattle.clap.specs.declared.builder.value_parser.ValueParser.TheVariants.{Unsigned}
 use Rattle.clap.specs.declared.error.ErrorKind.TheVariants as kinds
 use Rattle.clap.specs.declared.builder.Command.{Command}
@@ -23,13 +24,17 @@ argument id = record (new_rule id) { required = true }
 abbrev pub db_option : Rule
 db_option = record (new_rule (codes "db")) { long = Some (codes "db"); value_names = 1 }
 
+-- the flag `--threads`
+abbrev pub threads_flag : Rule
+threads_flag = record (new_rule (codes "threads")) { long = Some (codes "threads"); action = Some SetTrue }
+
 -- the option `--held N`, whose value is a number from 1 to 1,000,000
 abbrev pub held_option : Rule
 held_option = record (new_rule (codes "held")) { long = Some (codes "held"); value_names = 1; parser = Some (Unsigned 1 1000000) }
 
--- the command `run FILE [--db FILE] [--held N]`
+-- the command `run FILE [--db FILE] [--threads] [--held N]`
 abbrev pub run_command : App
-run_command = with_rule (with_rule (with_rule (new_app (codes "run")) (argument (codes "FILE"))) db_option) held_option
+run_command = with_rule (with_rule (with_rule (with_rule (new_app (codes "run")) (argument (codes "FILE"))) db_option) threads_flag) held_option
 
 -- the command `select SELECTOR FILE`
 abbrev pub select_command : App
@@ -82,6 +87,10 @@ value id rows = unwrap_or (first_of id rows) []
 abbrev pub db : List Row → Option Text
 db rows = first_of (codes "db") rows
 
+-- the flag `--threads` is given: its value is `true` then
+abbrev pub threads : List Row → Bool
+threads rows = option_map_or (λ text. bytes_eq text (codes "true")) (first_of (codes "threads") rows) false
+
 -- the limit that a text spells in decimal digits, where it is from 1 to 1,000,000
 abbrev pub limit_of : Text → Option ℕ
 limit_of text = if is_unsigned_in 1 1000000 text then Some (digits_value 10 (without_leading_plus text)) else None
@@ -93,7 +102,7 @@ held rows = option_and_then limit_of (first_of (codes "held") rows)
 -- what a command asks for, by its name and its matches
 abbrev pub asked : Text → List Row → Words
 asked name rows =
-    if bytes_eq name (codes "run") then Run (value (codes "FILE") rows) (db rows) (held rows) else
+    if bytes_eq name (codes "run") then Run (value (codes "FILE") rows) (db rows) (threads rows) (held rows) else
     (if bytes_eq name (codes "select") then Select (value (codes "SELECTOR") rows) (value (codes "FILE") rows) else
     (if bytes_eq name (codes "lone") then Lone (value (codes "FILE") rows) (value (codes "KEY") rows) else Input))
 
@@ -116,7 +125,7 @@ IsLimit limit = (1 ≤ limit) × (limit ≤ 1000000)
 
 -- where words give a limit of held rows, it is one
 abbrev pub HasLimit : Words → Type 0
-HasLimit (Run file db held) = IfSome held IsLimit
+HasLimit (Run file db threads held) = IfSome held IsLimit
 HasLimit _ = Unit {0}
 
 -- the fault is one that clap finds, or a want of memory

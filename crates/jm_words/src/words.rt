@@ -4,7 +4,7 @@ ghost use Rattle.jm_words.specs.Words as spec;
 
 use clap::builder::ValueParser;
 use clap::error::ErrorKind;
-use clap::{Arg, ArgMatches, Command, Error};
+use clap::{Arg, ArgAction, ArgMatches, Command, Error};
 use jm_base::Str;
 use std::alloc::{AllocError, Global};
 
@@ -16,11 +16,13 @@ const GREATEST_LIMIT: u32 = 1_000_000;
 pub enum Words {
     /// To run the scenario on standard input.
     Input,
-    /// To run the scenario of a file; where `db` is given, over the store in that file; where `held` is given, each
-    /// subscription that is not durable holds at most so many rows: 1 to 1,000,000.
+    /// To run the scenario of a file; where `db` is given, over the store in that file; with `threads`, the calls between
+    /// a fork and its join on a thread of each session; where `held` is given, each subscription that is not durable
+    /// holds at most so many rows: 1 to 1,000,000.
     Run {
         file: Str,
         db: Option<Str>,
+        threads: bool,
         held: Option<u32>,
     },
     /// To print the value of a selector over each send of the scenario of a file.
@@ -73,6 +75,17 @@ fn db_option<'a>(alloc: Global) -> Arg<'a>
     )
 }
 
+/// The flag `--threads`.
+fn threads_flag<'a>(alloc: Global) -> Arg<'a>
+    ensures rule { rule_of result ≡ spec.threads_flag }
+    ensures local { result.global ≡ false }
+{
+    Arg::new(alloc, "threads")
+        .long("threads")
+        .action(ArgAction::SetTrue)
+        .help("Makes the calls between a fork and its join on a thread of each session")
+}
+
 /// The option `--held N`, whose value is a whole number from 1 to 1,000,000.
 fn held_option<'a>(alloc: Global) -> Arg<'a>
     ensures rule { rule_of result ≡ spec.held_option }
@@ -85,7 +98,7 @@ fn held_option<'a>(alloc: Global) -> Arg<'a>
         .help("How many rows a subscription holds: in place of the scenario's own limit")
 }
 
-/// The command `run FILE [--db FILE] [--held N]`. `AllocError` where a request for memory was refused.
+/// The command `run FILE [--db FILE] [--threads] [--held N]`. `AllocError` where a request for memory was refused.
 fn run_command<'a>(alloc: Global) -> Result<Command<'a>, AllocError>
     ensures { IfOk result (spec.IsCommand spec.run_command) }
 {
@@ -93,6 +106,7 @@ fn run_command<'a>(alloc: Global) -> Result<Command<'a>, AllocError>
         .about("Runs a scenario, and prints the reply of each call")
         .arg(argument(alloc, "FILE", "The scenario: a JSON file"))?
         .arg(db_option(alloc))?
+        .arg(threads_flag(alloc))?
         .arg(held_option(alloc))
 }
 
@@ -189,6 +203,17 @@ fn db(alloc: Global, matches: &ArgMatches<'_>) -> Result<Option<Str>, AllocError
     }
 }
 
+/// Whether the flag `--threads` is given: its value is `true` then.
+#[tactic(auto, using(crate::proofs::CommandLine::threads_none))]
+fn threads(matches: &ArgMatches<'_>) -> bool
+    ensures { result ≡ spec.threads (rows_of (found_of matches.now)) }
+{
+    match matches.get_str("threads") {
+        Some(text) => text == "true",
+        None => false,
+    }
+}
+
 /// The limit that the text spells, from 1 to 1,000,000; none where it spells another number, or none.
 #[tactic(auto, using(crate::proofs::CommandLine::limit_of_none))]
 fn limit_of(text: &str) -> Option<u32>
@@ -219,6 +244,7 @@ fn asked(alloc: Global, name: &str, matches: &ArgMatches<'_>) -> Result<Words, A
         "run" => Ok(Words::Run {
             file: value(alloc, matches, "FILE")?,
             db: db(alloc, matches)?,
+            threads: threads(matches),
             held: held(matches),
         }),
         "select" => Ok(Words::Select {
