@@ -1,5 +1,5 @@
 -- What the statement that counts does to what is stored.
-use Rattle.std.proofs.Common.{◌≡◌, inl, inr, ℕ, ℤ, pos, Bool, true, false, cond, length, List, [], ◌∷◌, map, find, Option, Some, None, option_map, Ok, Err, Result, OnOk, IfOk, refl, sym, ap, ap₂, ◌∙◌, codes, eqb}
+use Rattle.std.proofs.Common.{◌≡◌, ◌≤◌, inl, inr, ℕ, ℤ, pos, Bool, true, false, cond, length, List, [], ◌∷◌, map, find, Option, Some, None, option_map, Ok, Err, Result, OnOk, IfOk, refl, sym, ap, ap₂, ◌∙◌, codes, eqb}
 use Rattle.std.proofs.lemmas.Bool.{cases_Bool}
 use Rattle.sqlite_value.specs.declared.value.Value.TheVariants.{Int, Text}
 use Rattle.sqlite_value.specs.Order.{Row, column}
@@ -19,11 +19,14 @@ use Rattle.jm_tables.specs.Schema.{schema, held, station_tree, message_tree, hel
 use Rattle.jm_tables.specs.Rows.{number_in, is_under_at, definition_under, count_under, record_at, due_at}
 use Rattle.jm_tables.specs.Sound.{Serves}
 use Rattle.jm_writes.specs.Columns.{family_of, client_of, name_of}
+use Rattle.jm_machine.specs.Rows.{greatest_count}
+use Rattle.jm_writes.specs.Own.{IsHeldRow}
 use Rattle.jm_writes.specs.Steps.{Steps}
 use Rattle.jm_writes.proofs.Edits.{Leaves, updates, hits}
 use Rattle.jm_writes.proofs.Found.{find_changed}
 use Rattle.jm_writes.proofs.Hits.{hit_held, under_at_other}
 use Rattle.jm_writes.proofs.Left.{picked}
+use Rattle.jm_writes.proofs.Own.{all_changed, own_held}
 use Rattle.jm_writes.proofs.Said.{by_key_and_place, counted_terms, set_count_text, set_count_is, set_count_plain}
 use Rattle.jm_writes.proofs.Serving.{changed_rows, numbered_row, held_row, step, station_bare, message_bare, delayed_bare}
 use Rattle.jm_writes.proofs.Values.{cast_int, IsHeld}
@@ -47,7 +50,7 @@ cast_is count r key is =
 abbrev deliveries : Row → ℕ
 deliveries r = number_in (id_in (column r 5))
 
-module _ (old new : State) (key : Key) (family : ℤ) (place count n : ℕ) (stands : family_of key ≡ Some family) (s : Serves old.now)
+module _ (old new : State) (key : Key) (family : ℤ) (place count n : ℕ) (stands : family_of key ≡ Some family) (within : count ≤ greatest_count) (s : Serves old.now)
     (h : ExecutesInside 0 set_count_text (Int family ∷ Text (client_of key) ∷ Text (name_of key) ∷ Int (pos place) ∷ Int (pos count) ∷ []) old new (Ok n)) where
   abbrev params : Row
   params = Int family ∷ Text (client_of key) ∷ Text (name_of key) ∷ Int (pos place) ∷ Int (pos count) ∷ []
@@ -81,8 +84,9 @@ module _ (old new : State) (key : Key) (family : ℤ) (place count n : ℕ) (sta
       (λ k p. ap (count_under k p) l.rows_are ∙ ap (option_map deliveries) (find_changed (is_under_at k p) (picked hit (with_count count)) (unseen k p) rows) ∙ counted k p (find (is_under_at k p) rows) refl)
       (λ p. ap (record_at p) (l.others message_tree (λ e. cc) message_bare))
       (λ p. ap (due_at p) (l.others delayed_tree (λ e. cc) delayed_bare))
+      (own_held old new (map (picked hit (with_count count)) rows) l (all_changed IsHeldRow hit (with_count count) rows (λ r. record { count = count; count_is = refl; within = within })))
 
-pub set_count_on : (old new : State) (key : Key) (family : ℤ) (place count : ℕ) (r : Result ℕ Error) → family_of key ≡ Some family → Serves old.now
+pub set_count_on : (old new : State) (key : Key) (family : ℤ) (place count : ℕ) (r : Result ℕ Error) → family_of key ≡ Some family → count ≤ greatest_count → Serves old.now
     → IfOk r (λ n. ExecutesInside 0 set_count_text (Int family ∷ Text (client_of key) ∷ Text (name_of key) ∷ Int (pos place) ∷ Int (pos count) ∷ []) old new (Ok n)) → OnOk r (Steps old new (SetCount key place count))
-set_count_on old new key family place count (Err e) stands s h = tt
-set_count_on old new key family place count (Ok n) stands s h = counts old new key family place count n stands s h
+set_count_on old new key family place count (Err e) stands within s h = tt
+set_count_on old new key family place count (Ok n) stands within s h = counts old new key family place count n stands within s h

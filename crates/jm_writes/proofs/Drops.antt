@@ -17,10 +17,12 @@ use Rattle.jm_tables.specs.Schema.{station, message, held, delayed, station_tree
 use Rattle.jm_tables.specs.Rows.{number_in, definition_in, is_under, is_under_at, is_at, definition_under, count_under, record_at, due_at}
 use Rattle.jm_tables.specs.Sound.{Serves}
 use Rattle.jm_writes.specs.Columns.{family_of, client_of, name_of}
+use Rattle.jm_writes.specs.Own.{IsDelayRow, IsHeldRow, IsMessageRow, IsStationRow}
 use Rattle.jm_writes.specs.Steps.{Steps}
 use Rattle.jm_writes.proofs.Edits.{Leaves, deletes, hits}
 use Rattle.jm_writes.proofs.Found.{find_left, at_other}
 use Rattle.jm_writes.proofs.Hits.{hit_key, hit_held, hit_place, under_other, under_at_other}
+use Rattle.jm_writes.proofs.Own.{all_fewer, own_delayed, own_held, own_messages, own_stations}
 use Rattle.jm_writes.proofs.Said.{by_key, by_key_and_place, by_place, drop_held_text, drop_held_is, drop_held_plain, drop_message_text, drop_message_is, drop_message_plain, drop_station_text, drop_station_is, drop_station_plain, drop_delay_text, drop_delay_is, drop_delay_plain}
 use Rattle.jm_writes.proofs.Serving.{fewer, numbered_row, station_row, held_row, step, station_bare, message_bare, held_bare, delayed_bare}
 
@@ -53,6 +55,7 @@ drop_held_on old new key family place (Ok count) stands s h =
     (λ k p. ap (count_under k p) l.rows_are ∙ ap (option_map (λ r. number_in (id_in (column r 5)))) (find_left (is_under_at k p) (is_under_at key place) (stored.is_at key place k p) (under_at_other k key p place) rows) ∙ map_left _ (stored.is_at key place k p) _)
     (λ p. ap (record_at p) (l.others message_tree (λ e. cc) message_bare))
     (λ p. ap (due_at p) (l.others delayed_tree (λ e. cc) delayed_bare))
+    (own_held old new (filter (λ r. not (is_under_at key place r)) rows) l (all_fewer IsHeldRow (λ r. not (is_under_at key place r)) rows))
 
 pub drop_message_on : (old new : State) (place : ℕ) (r : Result ℕ Error) → Serves old.now → IfOk r (λ count. ExecutesInside 0 drop_message_text (Int (pos place) ∷ []) old new (Ok count)) → OnOk r (Steps old new (DropMessage place))
 drop_message_on old new place (Err e) s h = tt
@@ -67,6 +70,7 @@ drop_message_on old new place (Ok count) s h =
     (λ k p. ap (count_under k p) (l.others held_tree (λ e. cc) held_bare))
     (λ p. ap (record_at p) l.rows_are ∙ ap (option_map (λ r. bytes (column r 2))) (find_left (is_at p) (is_at place) (eqb place p) (at_other p place) rows) ∙ map_left _ (eqb place p) _)
     (λ p. ap (due_at p) (l.others delayed_tree (λ e. cc) delayed_bare))
+    (own_messages old new (filter (λ r. not (is_at place r)) rows) l (all_fewer IsMessageRow (λ r. not (is_at place r)) rows))
 
 pub drop_delay_on : (old new : State) (place : ℕ) (r : Result ℕ Error) → Serves old.now → IfOk r (λ count. ExecutesInside 0 drop_delay_text (Int (pos place) ∷ []) old new (Ok count)) → OnOk r (Steps old new (DropDelay place))
 drop_delay_on old new place (Err e) s h = tt
@@ -81,6 +85,7 @@ drop_delay_on old new place (Ok count) s h =
     (λ k p. ap (count_under k p) (l.others held_tree (λ e. cc) held_bare))
     (λ p. ap (record_at p) (l.others message_tree (λ e. cc) message_bare))
     (λ p. ap (due_at p) l.rows_are ∙ ap (option_map (λ r. number_in (id_in (column r 2)))) (find_left (is_at p) (is_at place) (eqb place p) (at_other p place) rows) ∙ map_left _ (eqb place p) _)
+    (own_delayed old new (filter (λ r. not (is_at place r)) rows) l (all_fewer IsDelayRow (λ r. not (is_at place r)) rows))
 
 pub drop_station_on : (old new : State) (key : Key) (family : ℤ) (r : Result ℕ Error) → family_of key ≡ Some family → Serves old.now
     → IfOk r (λ count. ExecutesInside 0 drop_station_text (Int family ∷ Text (client_of key) ∷ Text (name_of key) ∷ []) old new (Ok count)) → OnOk r (Steps old new (DropStation key))
@@ -96,3 +101,4 @@ drop_station_on old new key family (Ok count) stands s h =
     (λ k p. ap (count_under k p) (l.others held_tree (λ e. cc) held_bare))
     (λ p. ap (record_at p) (l.others message_tree (λ e. cc) message_bare))
     (λ p. ap (due_at p) (l.others delayed_tree (λ e. cc) delayed_bare))
+    (own_stations old new (filter (λ r. not (is_under key r)) rows) l (all_fewer IsStationRow (λ r. not (is_under key r)) rows))

@@ -5,6 +5,7 @@ pub mod Found
 pub mod Values
 pub mod Hits
 pub mod Serving
+pub mod Own
 pub mod Kept
 pub mod Family
 pub mod Drops

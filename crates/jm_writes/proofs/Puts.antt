@@ -29,10 +29,12 @@ use Rattle.jm_tables.specs.Keys.{key_in}
 use Rattle.jm_tables.specs.Rows.{number_in, is_under_at, definition_under, count_under, record_at, due_at}
 use Rattle.jm_tables.specs.Sound.{AreRows, Serves}
 use Rattle.jm_writes.specs.Columns.{durable_family, family_of, text_of, client_of, name_of}
+use Rattle.jm_writes.specs.Own.{IsDelayRow, IsHeldRow, IsMessageRow}
 use Rattle.jm_writes.specs.Steps.{Steps}
 use Rattle.jm_writes.proofs.Edits.{Leaves, inserts}
 use Rattle.jm_writes.proofs.Found.{find_put, find_behind, find_new, same_place}
 use Rattle.jm_writes.proofs.Hits.{hit_held, under_at_other}
+use Rattle.jm_writes.proofs.Own.{all_put, own_delayed, own_held, own_messages}
 use Rattle.jm_writes.proofs.Said.{placed_terms, held_terms, put_message_text, put_message_is, put_message_plain, put_delay_text, put_delay_is, put_delay_plain, put_held_text, put_held_is, put_held_plain}
 use Rattle.jm_writes.proofs.Serving.{more, numbered_row, held_row, step, station_bare, message_bare, held_bare, delayed_bare}
 use Rattle.jm_writes.proofs.Values.{cast_int, cast_null, ne_int}
@@ -63,6 +65,7 @@ put_message_on old new place content (Ok count) s h =
     (λ k p. ap (count_under k p) (l.others held_tree (λ e. cc) held_bare))
     (λ p. ap (record_at p) l.rows_are ∙ ap (option_map (λ r. bytes (column r 2))) (find_put p place row refl rows s.messages.numbered) ∙ map_put (λ r. bytes (column r 2)) (eqb place p) row _)
     (λ p. ap (due_at p) (l.others delayed_tree (λ e. cc) delayed_bare))
+    (own_messages old new (put_row row rows) l (all_put IsMessageRow row rows (record { place = place; place_is = refl })))
 
 pub put_delay_on : (old new : State) (place due : ℕ) (r : Result ℕ Error) → Serves old.now → IfOk r (λ count. ExecutesInside 0 put_delay_text (Int (pos place) ∷ Int (pos due) ∷ []) old new (Ok count)) → OnOk r (Steps old new (PutDelay place due))
 put_delay_on old new place due (Err e) s h = tt
@@ -78,6 +81,7 @@ put_delay_on old new place due (Ok count) s h =
     (λ k p. ap (count_under k p) (l.others held_tree (λ e. cc) held_bare))
     (λ p. ap (record_at p) (l.others message_tree (λ e. cc) message_bare))
     (λ p. ap (due_at p) l.rows_are ∙ ap (option_map (λ r. number_in (id_in (column r 2)))) (find_put p place row refl rows s.delayed.numbered) ∙ map_put (λ r. number_in (id_in (column r 2))) (eqb place p) row _)
+    (own_delayed old new (put_row row rows) l (all_put IsDelayRow row rows (record { due = due; due_is = refl })))
 
 -- ---- rows that come behind all others
 
@@ -181,6 +185,7 @@ module _ (old new : State) (key : Key) (family : ℤ) (place count : ℕ) (stand
       (λ k p. ap (count_under k p) (l.rows_are ∙ last) ∙ counted k p)
       (λ p. ap (record_at p) (l.others message_tree (λ e. cc) message_bare))
       (λ p. ap (due_at p) (l.others delayed_tree (λ e. cc) delayed_bare))
+      (own_held old new (put_row row rows) l (all_put IsHeldRow row rows (record { count = 0; count_is = refl; within = omega arith })))
 
 pub put_held_on : (old new : State) (key : Key) (family : ℤ) (place : ℕ) (r : Result ℕ Error) → family_of key ≡ Some family → Serves old.now
     → IfOk r (λ count. ExecutesInside 0 put_held_text (Int family ∷ Text (client_of key) ∷ Text (name_of key) ∷ Int (pos place) ∷ []) old new (Ok count)) → OnOk r (Steps old new (PutHeld key place))

@@ -33,7 +33,8 @@ use Rattle.jm_keep.specs.declared.change.RowChange.{RowChange}
 use Rattle.jm_keep.specs.declared.change.RowChange.TheVariants.{DropHeld, DropMessage, DropStation, PutStation, PutMessage, PutHeld, SetCount, DropDelay, PutDelay}
 use Rattle.jm_tables.specs.Rows.{record_at, stored_in}
 use Rattle.jm_tables.specs.Schema.{message_tree}
-use Rattle.jm_writes.specs.Records.{BringsRecord, IsRecord, PublishesMessages, StoresRecords}
+use Rattle.jm_writes.specs.Records.{BringsRecord, IsRecord, StoresRecords}
+use Rattle.jm_holds.specs.Holds.{PublishesMessages}
 use Rattle.jm_writes.specs.Steps.{Holds}
 
 -- ---- what is written

@@ -1,13 +1,16 @@
 -- What refused changes leave.
-use Rattle.std.proofs.Common.{◌≡◌, ◌∙◌, inl, inr, ap, Ok, Err, Result, OnErr, IfErr, IsTrue, ◌≤◌, ◌&&◌, true, false, Bool, refl, arith}
+use Rattle.std.proofs.Common.{◌≡◌, ◌∙◌, inl, inr, ap, List, Ok, Err, Result, OnErr, IfErr, IsTrue, ◌≤◌, ◌&&◌, true, false, Bool, refl, arith}
 use Rattle.std.proofs.lemmas.Bool.{and_parts, and_from}
 use Rattle.sqlite_trees.specs.View.{doubt}
 use Rattle.sqlite_trees.proofs.Doubt.{no_doubt}
 use Rattle.sqlite.specs.Effect.{Database}
-use Rattle.jm_writes.specs.Steps.{IsOurs}
+use Rattle.jm_writes.specs.Own.{HasOwnRows}
+use Rattle.sqlite_trees.specs.Tree.{Trees}
+use Rattle.jm_keep.specs.declared.change.RowChange.{RowChange}
+use Rattle.jm_writes.specs.Steps.{HasAll, IsOurs, HasChanges, LeavesOnly, LeavesOr}
 use Rattle.jm_tables.specs.Rows.{stored_in}
 use Rattle.jm_tables.specs.Sound.{Serves}
-use Rattle.sqlite.specs.State.{State, IsRolledBack, KeepsCommit, HasCleanDisk}
+use Rattle.sqlite.specs.State.{State, IsRolledBack, KeepsCommit, HasCleanDisk, Survives}
 use Rattle.sqlite.specs.Steps.{FailsToCommit}
 use Rattle.sqlite.specs.declared.error.Error.{Error}
 
@@ -46,3 +49,17 @@ module _ (old new : State) (ours : IsOurs old) (falls : doubt old.is_clean ≤ d
 
   pub then_clean : IsTrue (old.is_clean && old.is_open)
   then_clean = and_from old.is_clean old.is_open (doubtless old.is_clean old_clean) was
+
+-- what a crash leaves of a write, where the store was ours
+module _ (old new : State) (changes : List RowChange) (ours : IsOurs old) (survives : Survives old new (λ db. IsTrue old.is_open → Serves old.now → HasChanges changes old.now.trees db)) (clean : HasCleanDisk new) (live : IsTrue old.is_open) where
+  before : HasCleanDisk old
+  before = omega (arith, survives.clean, clean)
+
+  has_all : (db : Trees) → HasChanges changes old.now.trees db → HasAll changes old.now.trees db
+  has_all db l = record { holds = l.holds; ours = l.ours (ours before live).2 }
+
+  pub stop_leaves : LeavesOr old new changes
+  stop_leaves db left = elim (survives.crash clean db left) [ inl was ↦ inl was | inr by ↦ inr (has_all db (by live (ours before live).0)) ]
+
+  pub write_leaves : (HasCleanDisk new → IsTrue old.is_open → Serves old.now → (db : Trees) → new.may_leave db → HasChanges changes old.now.trees db) → LeavesOnly old new changes
+  write_leaves durable db left = has_all db (durable clean live (ours before live).0 db left)

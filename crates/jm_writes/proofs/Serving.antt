@@ -25,6 +25,7 @@ use Rattle.sqlite_rules.proofs.TableLemmas.{int_is, put_has}
 use Rattle.jm_tables.specs.Schema.{schema, station, held, meta_tree, station_tree, message_tree, held_tree, delayed_tree}
 use Rattle.jm_tables.specs.Rows.{stored_in, definition_under, count_under, record_at, due_at}
 use Rattle.jm_tables.specs.Sound.{AreRows, Serves}
+use Rattle.jm_writes.specs.Own.{HasOwnRows}
 use Rattle.jm_writes.specs.Steps.{Steps}
 use Rattle.jm_writes.proofs.Edits.{Leaves}
 use Rattle.jm_writes.proofs.Left.{picked, picked_id, picked_table}
@@ -127,12 +128,13 @@ module _ (old new : State) (tree : ℕ) (rows : List Row) (l : Leaves old new tr
       → ((k : Key) (p : ℕ) → count_under k p (new.now.trees held_tree) ≡ count_after k p (count_under k p (old.now.trees held_tree)) change)
       → ((p : ℕ) → record_at p (new.now.trees message_tree) ≡ message_after p (record_at p (old.now.trees message_tree)) change)
       → ((p : ℕ) → due_at p (new.now.trees delayed_tree) ≡ due_after p (due_at p (old.now.trees delayed_tree)) change)
-      → Steps old new change
-  step d c m u = record {
+      → (HasOwnRows old.now.trees → HasOwnRows new.now.trees) → Steps old new change
+  step d c m u own = record {
     serves = still_serves old new tree rows l s are;
     holds = record {
       stored_is = same_stored (stored_in new.now.trees) (changed (stored_in old.now.trees) change) d c m u;
       opening = l.others meta_tree apart meta_bare;
     };
+    own = own;
     shown = shown;
   }

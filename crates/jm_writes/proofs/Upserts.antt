@@ -1,6 +1,6 @@
 -- What the statement that puts a queue does: nothing where the queue stands.
 use Rattle.std.proofs.Common.{◌≡◌, ◌⊎◌, inl, inr, ℕ, ℤ, pos, true, false, cond, List, [], ◌∷◌, ◌++◌, Option, Some, None, option_map, Ok, Err, Result, OnOk, IfOk, refl, sym, ap, subst, ◌∙◌}
-use Rattle.std.proofs.lemmas.Bool.{cases_Bool}
+use Rattle.std.proofs.lemmas.Bool.{cases_Bool, and_from, or_left}
 use Rattle.sqlite_value.specs.declared.value.Value.TheVariants.{Null, Int, Text}
 use Rattle.sqlite_value.specs.Order.{Row}
 use Rattle.sqlite.specs.Tree.{Trees, put_row}
@@ -29,9 +29,12 @@ use Rattle.jm_keep.specs.declared.change.RowChange.TheVariants.{PutStation}
 use Rattle.jm_tables.specs.Schema.{schema, station, station_tree, message_tree, held_tree, delayed_tree}
 use Rattle.jm_tables.specs.Rows.{definition_in, is_under, definition_under, count_under, record_at, due_at}
 use Rattle.jm_tables.specs.Sound.{Serves}
+use Rattle.jm_tables.specs.Valid.{is_queue, is_stored_name}
+use Rattle.jm_writes.specs.Own.{IsStationRow, is_subscription_row}
 use Rattle.jm_writes.specs.Steps.{Steps}
 use Rattle.jm_writes.proofs.Edits.{Leaves, went, same_value}
 use Rattle.jm_writes.proofs.Found.{find_behind}
+use Rattle.jm_writes.proofs.Own.{all_put, own_stations}
 use Rattle.jm_writes.proofs.Puts.{behind}
 use Rattle.jm_writes.proofs.Said.{queue_terms, upsert, put_queue_text, put_queue_is, put_queue_plain}
 use Rattle.jm_writes.proofs.Serving.{more, step, message_bare, held_bare, delayed_bare}
@@ -42,6 +45,10 @@ source name = Null ∷ Int (pos 1) ∷ Text [] ∷ Text name ∷ Int (pos 0) ∷
 
 abbrev pub queue_row : ℤ → List ℕ → Row
 queue_row id name = Int id ∷ Int (pos 1) ∷ Text [] ∷ Text name ∷ Int (pos 0) ∷ Text [] ∷ Text [] ∷ Int (pos 0) ∷ []
+
+-- which is one of a store's
+queue_is : (id : ℤ) (name : List ℕ) → is_stored_name name ≡ true → IsStationRow (queue_row id name)
+queue_is id name named = or_left (is_queue (queue_row id name)) (is_subscription_row (queue_row id name)) (and_from _ _ (and_from _ _ (and_from _ _ (and_from _ _ named refl) refl) refl) refl)
 
 -- the row as it is tried
 abbrev tried_row : Trees → List ℕ → Row
@@ -130,7 +137,7 @@ unseen k id name rows = elim (cases_Bool (is_durable k)) [
   | inr other ↦ rw other refl
 ]
 
-module _ (old new : State) (name : List ℕ) (count : ℕ) (s : Serves old.now) (h : ExecutesInside 0 put_queue_text (Text name ∷ []) old new (Ok count)) where
+module _ (old new : State) (name : List ℕ) (count : ℕ) (named : is_stored_name name ≡ true) (s : Serves old.now) (h : ExecutesInside 0 put_queue_text (Text name ∷ []) old new (Ok count)) where
   it : Put old new name
   it = puts_queue old new name count s.schema_is h.0
 
@@ -154,6 +161,7 @@ module _ (old new : State) (name : List ℕ) (count : ℕ) (s : Serves old.now) 
       (λ k p. ap (count_under k p) (l.others held_tree (λ x. cc) held_bare))
       (λ p. ap (record_at p) (l.others message_tree (λ x. cc) message_bare))
       (λ p. ap (due_at p) (l.others delayed_tree (λ x. cc) delayed_bare))
+      (own_stations old new rows l (λ are. are))
   go (inr a) =
       let l = with_row a in
       step old new station_tree (put_row row rows) l (PutStation (Queue name) None) s (more row rows refl s.stations) h.1 (λ x. cc)
@@ -161,11 +169,12 @@ module _ (old new : State) (name : List ℕ) (count : ℕ) (s : Serves old.now) 
       (λ k p. ap (count_under k p) (l.others held_tree (λ x. cc) held_bare))
       (λ p. ap (record_at p) (l.others message_tree (λ x. cc) message_bare))
       (λ p. ap (due_at p) (l.others delayed_tree (λ x. cc) delayed_bare))
+      (own_stations old new (put_row row rows) l (all_put IsStationRow row rows (queue_is (next_rowid rows) name named)))
 
   puts_done : Steps old new (PutStation (Queue name) None)
   puts_done =
       go it.done
 
-pub put_queue_on : (old new : State) (name : List ℕ) (r : Result ℕ Error) → Serves old.now → IfOk r (λ count. ExecutesInside 0 put_queue_text (Text name ∷ []) old new (Ok count)) → OnOk r (Steps old new (PutStation (Queue name) None))
-put_queue_on old new name (Err e) s h = tt
-put_queue_on old new name (Ok count) s h = puts_done old new name count s h
+pub put_queue_on : (old new : State) (name : List ℕ) (r : Result ℕ Error) → is_stored_name name ≡ true → Serves old.now → IfOk r (λ count. ExecutesInside 0 put_queue_text (Text name ∷ []) old new (Ok count)) → OnOk r (Steps old new (PutStation (Queue name) None))
+put_queue_on old new name (Err e) named s h = tt
+put_queue_on old new name (Ok count) named s h = puts_done old new name count named s h

@@ -1,6 +1,7 @@
 -- A key as the columns of its rows.
-use Rattle.std.specs.Prelude.{ℕ, ℤ, pos, List, [], ◌∷◌, Option, Some, None}
+use Rattle.std.specs.Prelude.{ℕ, ℤ, pos, Bool, not, ◌&&◌, List, [], ◌∷◌, Option, Some, None}
 use Rattle.jm_dest.specs.declared.key.Key.{Key}
+use Rattle.jm_dest.specs.Names.{is_name}
 use Rattle.jm_dest.specs.declared.key.Key.TheVariants.{Queue, Own, SharedOwn, Durable}
 
 -- the family of a durable subscription; an empty client, which no client identifier is, would be read as none
@@ -34,3 +35,13 @@ name_of (Queue name) = name
 name_of (Own s c) = []
 name_of (SharedOwn client name) = name
 name_of (Durable client name) = name
+
+-- a subscription of that client, none where the text is empty, may have those marks: one of no client is shared, and one that
+-- is shared has no noLocal
+abbrev pub may_have : List ℕ → Bool → Bool → Bool
+may_have [] shared no_local = shared && not no_local
+may_have (byte ∷ more) shared no_local = is_name (byte ∷ more) && not (shared && no_local)
+
+-- a durable subscription of that client and name may stand with those marks
+abbrev pub may_stand : List ℕ → List ℕ → Bool → Bool → Bool
+may_stand client name shared no_local = is_name name && may_have client shared no_local

@@ -1,3 +1,4 @@
 pub mod Columns
 pub mod Steps
 pub mod Records
+pub mod Own

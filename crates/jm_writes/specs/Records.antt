@@ -1,10 +1,6 @@
 -- What is written of messages.
 use Rattle.std.specs.Prelude.{ℕ, List, IfSome, ⊤}
-use Rattle.std.specs.List.{AllByRecursion}
 use Rattle.jm_header.specs.declared.content.Content.{Content}
-use Rattle.jm_format.specs.Messages.{IsMessage}
-use Rattle.jm_machine.specs.declared.call.Call.{Call}
-use Rattle.jm_machine.specs.declared.call.Call.TheVariants.{Publish, Commit}
 use Rattle.jm_keep.specs.Stored.{Stored}
 use Rattle.jm_keep.specs.declared.change.RowChange.{RowChange}
 use Rattle.jm_keep.specs.declared.change.RowChange.TheVariants.{PutMessage}
@@ -22,9 +18,3 @@ BringsRecord _ = ⊤
 -- of each message that is stored, its record is
 abbrev pub StoresRecords : Stored → Type 0
 StoresRecords stored = (place : ℕ) → IfSome (stored.message place) IsRecord
-
--- what the call publishes are messages
-abbrev pub PublishesMessages : Call → Type 0
-PublishesMessages (Publish messages) = AllByRecursion IsMessage messages
-PublishesMessages (Commit messages) = AllByRecursion IsMessage messages
-PublishesMessages _ = ⊤

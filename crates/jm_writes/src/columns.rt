@@ -2,15 +2,19 @@
 
 ghost use Rattle.std.specs.Prelude.{◌≡◌, pos, Some, IfOk, FitsSigned};
 ghost use Rattle.std.specs.Int.{w64};
+ghost use Rattle.std.specs.List.{list_all};
+ghost use Rattle.jm_dest.specs.Names as names;
 ghost use Rattle.jm_tables.specs.Rows.{selector_in};
 ghost use Rattle.jm_writes.specs.Columns as spec;
 
 use jm_dest::{ClientId, Key};
+use jm_machine::Definition;
 use jm_selector::Selector;
 use sqlite::{Error, ErrorCode};
 
 /// Of a change that the tables cannot hold: it speaks of a key that is neither a queue's nor a durable subscription's, of a
-/// place or a moment past 2^63-1, or of a queue that asks for something, or of a subscription that asks for nothing.
+/// place or a moment past 2^63-1, of a count past the greatest, or of a queue that asks for something, or of a subscription
+/// that asks for nothing or may not stand.
 pub const NOT_STORED: Error = Error::SqliteFailure(ErrorCode::TypeMismatch);
 
 fn durable_family(client: &Option<ClientId>) -> Option<i64>
@@ -93,4 +97,34 @@ pub fn selector_of(selector: &Selector) -> &str
         Some(text) => text,
         None => "",
     }
+}
+
+fn are_name_bytes(bytes: &[u8]) -> bool
+    ensures { result ≡ list_all names.is_name_byte bytes.now }
+{
+    bytes.iter().all(|byte| *byte >= 0x20 && *byte != 0x7f)
+}
+
+fn is_name(text: &str) -> bool
+    ensures { result ≡ names.is_name text.now }
+{
+    !text.is_empty() && text.len() <= 255 && are_name_bytes(text.as_bytes())
+}
+
+fn may_have(client: &str, definition: &Definition) -> bool
+    ensures { result ≡ spec.may_have client.now definition.now.shared definition.now.no_local }
+{
+    if client.is_empty() {
+        definition.shared && !definition.no_local
+    } else {
+        is_name(client) && !(definition.shared && definition.no_local)
+    }
+}
+
+/// Whether a durable subscription of that key may ask for that: its client and its name are names, one of no client is shared,
+/// and one that is shared has no noLocal.
+pub fn may_stand(key: &Key, definition: &Definition) -> bool
+    ensures { result ≡ spec.may_stand (spec.client_of key.now) (spec.name_of key.now) definition.now.shared definition.now.no_local }
+{
+    is_name(name_of(key)) && may_have(client_of(key), definition)
 }

@@ -4,8 +4,9 @@
 //!
 //! `write` makes all changes of a list in one transaction whose commit is its last call, or none of them, where the
 //! disk is clean at its end: what is stored is `changed_all`, the opening stays, and the database still serves.
-//! Whatever the moment of a crash, what is left is what could be left before or has all the changes (`LeavesOr`), and
-//! after an accepted write only the latter (`LeavesOnly`).
+//! Whatever the moment of a crash, what is left is what could be left before, or is a store's database again with all
+//! the changes, each row of which by itself is a store's (`LeavesOr`, `AreOurs`), and after an accepted write only the
+//! latter (`LeavesOnly`).
 //!
 //! `Store` is a `Keep` over any store of the library's: never clean once its connection is shut, it counts each
 //! `Device`; `over` takes a connection that is ours and in no transaction, and `into_connection` gives it back so.

@@ -9,13 +9,18 @@ ghost use Rattle.sqlite.specs.Values.{bound};
 ghost use Rattle.jm_tables.specs.Sound.{Serves};
 ghost use Rattle.jm_writes.specs.Steps.{Steps};
 
-use crate::columns::{NOT_STORED, client_of, integer, name_of, selector_of, stored_family};
+use crate::columns::{
+    NOT_STORED, client_of, integer, may_stand, name_of, selector_of, stored_family,
+};
 use jm_base::List;
 use jm_dest::{Key, Moment, Name};
 use jm_keep::RowChange;
 use jm_machine::Definition;
 use sqlite::{Alter, Error, Transaction, params};
 use sqlite_value::value::ValueRef;
+
+/// The greatest count of deliveries.
+const GREATEST_COUNT: u32 = 2_147_483_647;
 
 /// Runs a statement of the transaction.
 fn run<S: Alter>(
@@ -102,7 +107,7 @@ pub fn put_queue<S: Alter>(tx: &mut Transaction<'_, S>, name: &Name) -> Result<u
     )
 }
 
-/// The durable subscription of the key comes, with what it asks for.
+/// The durable subscription of the key comes, with what it asks for, where it may stand.
 pub fn put_subscription<S: Alter>(
     tx: &mut Transaction<'_, S>,
     key: &Key,
@@ -114,6 +119,9 @@ pub fn put_subscription<S: Alter>(
     ensures survives { Survives (state S.Store tx.old.conn.now) (state S.Store tx.new.conn.now) (λ _. ⊥) }
 {
     if stored_family(key)? != 2 {
+        return Err(NOT_STORED);
+    }
+    if !may_stand(key, definition) {
         return Err(NOT_STORED);
     }
     run(
@@ -169,7 +177,7 @@ pub fn put_held<S: Alter>(
     )
 }
 
-/// The row of the key at the place was delivered so often.
+/// The row of the key at the place was delivered so often, which is at most the greatest count.
 pub fn set_count<S: Alter>(
     tx: &mut Transaction<'_, S>,
     key: &Key,
@@ -181,6 +189,9 @@ pub fn set_count<S: Alter>(
     ensures kept { HasCleanDisk (state S.Store tx.new.conn.now) → KeepsCommit (state S.Store tx.old.conn.now) (state S.Store tx.new.conn.now) }
     ensures survives { Survives (state S.Store tx.old.conn.now) (state S.Store tx.new.conn.now) (λ _. ⊥) }
 {
+    if count > GREATEST_COUNT {
+        return Err(NOT_STORED);
+    }
     let family = stored_family(key)?;
     let place = integer(place)?;
     run(

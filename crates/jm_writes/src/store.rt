@@ -93,9 +93,9 @@ impl<S: Alter> Keep for Store<S> {
         ensures clean { IsTrue ((state S.Store self.new.0).is_clean && (state S.Store self.new.0).is_open) → IsTrue ((state S.Store self.old.0).is_clean && (state S.Store self.old.0).is_open) }
         ensures counts { self.old.1 ≤ self.new.1 }
         ensures device { IsErrOf result StoreFault.Device → HasRisen self.old.1 self.new.1 }
-        // A crash leaves what it could leave before the call, or all the changes.
+        // A crash leaves what it could leave before the call, or a store's database with all the changes.
         ensures stop { HasCleanDisk (state S.Store self.new.0) → IsTrue (state S.Store self.old.0).is_open → LeavesOr (state S.Store self.old.0) (state S.Store self.new.0) changes.now }
-        // After an accepted write it leaves all the changes, and nothing else.
+        // After an accepted write it leaves such a database, and nothing else.
         ensures durable { HasCleanDisk (state S.Store self.new.0) → IsTrue (state S.Store self.old.0).is_open → OnOk result (LeavesOnly (state S.Store self.old.0) (state S.Store self.new.0) changes.now) }
     {
         match write(&mut self.conn, changes) {

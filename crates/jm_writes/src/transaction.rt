@@ -3,10 +3,12 @@
 ghost use Rattle.std.specs.Prelude.{◌≡◌, false, IsTrue, OnOk, OnErr};
 ghost use Rattle.sqlite.specs.Held.{state};
 ghost use Rattle.sqlite.specs.State.{HasCleanDisk, KeepsCommit, Survives};
+ghost use Rattle.sqlite_trees.specs.Tree.{Trees};
 ghost use Rattle.jm_keep.specs.Stored.{changed_all};
 ghost use Rattle.jm_tables.specs.Rows.{stored_in};
 ghost use Rattle.jm_tables.specs.Sound.{Serves};
-ghost use Rattle.jm_writes.specs.Steps.{Holds, LeavesOnly, Steps, Walks};
+ghost use Rattle.jm_writes.specs.Own.{HasOwnRows};
+ghost use Rattle.jm_writes.specs.Steps.{Holds, HasChanges, Steps, Walks};
 
 use crate::columns::NOT_STORED;
 use crate::rows::{
@@ -68,12 +70,15 @@ pub fn write<S: Alter>(conn: &mut Connection<S>, changes: &[RowChange]) -> Resul
     ensures written { HasCleanDisk (state S.Store conn.new) → IsTrue (state S.Store conn.old).is_open → Serves (state S.Store conn.old).now
         → OnOk result (Serves (state S.Store conn.new).now × IsTrue (state S.Store conn.new).is_open × ((state S.Store conn.new).committed ≡ (state S.Store conn.new).now)
         × Holds (changed_all (stored_in (state S.Store conn.old).now.trees) changes.now) (state S.Store conn.old).now.trees (state S.Store conn.new).now.trees) }
+    // Where each row by itself is one of a store's, it stays so.
+    ensures own { HasCleanDisk (state S.Store conn.new) → IsTrue (state S.Store conn.old).is_open → Serves (state S.Store conn.old).now
+        → OnOk result (HasOwnRows (state S.Store conn.old).now.trees → HasOwnRows (state S.Store conn.new).now.trees) }
     ensures refused { HasCleanDisk (state S.Store conn.new) → IsTrue (state S.Store conn.old).is_open → Serves (state S.Store conn.old).now → IsTrue (state S.Store conn.new).is_open
         → OnErr result (((state S.Store conn.new).now ≡ (state S.Store conn.old).committed) × ((state S.Store conn.new).committed ≡ (state S.Store conn.old).committed)) }
     ensures survives { Survives (state S.Store conn.old) (state S.Store conn.new)
-        (λ db. IsTrue (state S.Store conn.old).is_open → Serves (state S.Store conn.old).now → Holds (changed_all (stored_in (state S.Store conn.old).now.trees) changes.now) (state S.Store conn.old).now.trees db) }
+        (λ db. IsTrue (state S.Store conn.old).is_open → Serves (state S.Store conn.old).now → HasChanges changes.now (state S.Store conn.old).now.trees db) }
     ensures durable { HasCleanDisk (state S.Store conn.new) → IsTrue (state S.Store conn.old).is_open → Serves (state S.Store conn.old).now
-        → OnOk result (LeavesOnly (state S.Store conn.old) (state S.Store conn.new) changes.now) }
+        → OnOk result ((db : Trees) → (state S.Store conn.new).may_leave db → HasChanges changes.now (state S.Store conn.old).now.trees db) }
 {
     let mut tx = conn.transaction();
     walk(&mut tx, changes)?;

@@ -2,7 +2,7 @@ use Rattle.std.proofs.Common.{sym, subst}
 use Rattle.sqlite.specs.Held.{state}
 use Rattle.jm_writes.specs.Records.{StoresRecords}
 use Rattle.jm_writes.proofs.Records.{written_stores}
-use Rattle.jm_writes.proofs.Refused.{then_written, then_refused, then_clean}
+use Rattle.jm_writes.proofs.Refused.{stop_leaves, then_clean, then_refused, then_written, write_leaves}
 use Rattle.jm_writes.proofs.store.StoreKeep.write.Goals as goal
 
 pub returns-in-Ok-clause-written : goal.returns-in-Ok-clause-written
@@ -48,3 +48,21 @@ returns-else-matches-clause-records g c k =
     let e = c.in-Err.ensures in
     rw (← c.self.view_is)
     (λ stores brings. subst StoresRecords (sym (then_refused (state g.S.Store c.self.inside.conn) (state g.S.Store c.write.new.conn) c.self.invariant.1 e.survives.clean e.was_open k e.refused)) stores)
+
+pub returns-in-Ok-clause-stop : goal.returns-in-Ok-clause-stop
+returns-in-Ok-clause-stop g c =
+    rw (← c.self.view_is) (stop_leaves (state g.S.Store c.self.inside.conn) (state g.S.Store c.write.new.conn) c.args.changes.now c.self.invariant.1 c.in-Ok.ensures.survives)
+
+pub returns-then-matches-clause-stop : goal.returns-then-matches-clause-stop
+returns-then-matches-clause-stop g c =
+    rw (← c.self.view_is) (stop_leaves (state g.S.Store c.self.inside.conn) (state g.S.Store c.write.new.conn) c.args.changes.now c.self.invariant.1 c.in-Err.ensures.survives)
+
+pub returns-else-matches-clause-stop : goal.returns-else-matches-clause-stop
+returns-else-matches-clause-stop g c =
+    rw (← c.self.view_is) (stop_leaves (state g.S.Store c.self.inside.conn) (state g.S.Store c.write.new.conn) c.args.changes.now c.self.invariant.1 c.in-Err.ensures.survives)
+
+pub returns-in-Ok-clause-durable : goal.returns-in-Ok-clause-durable
+returns-in-Ok-clause-durable g c =
+    let e = c.in-Ok.ensures in
+    rw (← c.self.view_is)
+    (λ clean live. write_leaves (state g.S.Store c.self.inside.conn) (state g.S.Store c.write.new.conn) c.args.changes.now c.self.invariant.1 e.survives clean live e.durable)
