@@ -1,0 +1,5 @@
+pub mod Parents
+pub mod Single
+pub mod Stored
+pub mod Valid
+pub mod Changed
