@@ -4,6 +4,7 @@ pub mod Finding
 pub mod Keys
 pub mod Listed
 pub mod Loaded
+pub mod Asked
 pub mod Messages
 pub mod Readable
 pub mod Rising

@@ -13,10 +13,10 @@ use Rattle.jm_loading.specs.Said.{IsSame, said}
 use Rattle.jm_loading.proofs.Together.{persisted_same}
 use Rattle.jm_load.specs.declared.decoding.Decoded.{Decoded}
 use Rattle.jm_load.specs.declared.reading.TableRows.{TableRows}
-use Rattle.jm_load.specs.Faults.{IsFaultOf}
+use Rattle.jm_load.specs.Faults.{AreReadRows, IsFaultOf}
 use Rattle.jm_load.specs.Loaded.{AreDecodedTo, AreRowsOf, IsDecodedOf, IsUnmade}
 use Rattle.jm_load.proofs.Stored.{count_is, definition_is, due_is, record_is}
-use Rattle.jm_load.proofs.Told.{unmade}
+use Rattle.jm_load.proofs.Told.{read_rows, unmade}
 use Rattle.jm_load.proofs.Unmade.{unmade_cause}
 
 pub same_stored : (db : Trees) (rows : TableRows) (d : Decoded) → AreRowsOf db rows → IsDecodedOf rows d → d.damaged ≡ None → IsSame (said d.stations.items d.messages.items d.held.items d.delays.items) (stored_in db)
@@ -38,6 +38,13 @@ pub loaded_ok : (db : Trees) (rows : TableRows) (d : Decoded) (r : Result Provid
     → IfOk r (λ core. IsPersisted (state_of core) (said d.stations.items d.messages.items d.held.items d.delays.items)) → IfOk r (λ core. IsPersisted (state_of core) (stored_in db))
 loaded_ok db rows d (Ok core) are is whole h = stored_loaded db rows d (state_of core) are is whole h
 loaded_ok db rows d (Err fault) are is whole h = tt
+
+-- and each row by itself is one that a store may have
+pub read_ok : {A : Type 0} (db : Database) (rows : TableRows) (d : Decoded) (r : Result A OpenFault) → Serves db → AreRowsOf db.trees rows → IsDecodedOf rows d → OnOk r (d.damaged ≡ None) → OnOk r (AreReadRows db.trees)
+read_ok db rows d (Ok core) s are is none =
+    let later = subst (λ (o : Option OpenFault). AreDecodedTo rows d.held.items d.delays.items o) none is.later in
+    read_rows db s rows are d.stations.items d.messages.items is.stations is.messages d.held.items d.delays.items later.0 later.1
+read_ok db rows d (Err fault) s are is none = tt
 
 -- where they were not, the first fault of the database is told
 pub unmade_err : {A : Type 0} (db : Database) (rows : TableRows) (d : Decoded) (r : Result A OpenFault) → Serves db → AreRowsOf db.trees rows → IsDecodedOf rows d

@@ -27,7 +27,7 @@ use Rattle.jm_decoding.specs.declared.message.MessageRow.{MessageRow}
 use Rattle.jm_decoding.specs.declared.held.HeldRow.{HeldRow}
 use Rattle.jm_decoding.specs.declared.delay.DelayRow.{DelayRow}
 use Rattle.jm_decoding.specs.Decoded.{IsStationOf, IsMessageOf, IsHeldOf, IsDelayOf}
-use Rattle.jm_decoding.specs.Readable.{IsReadableStation, IsReadableMessage, IsReadableHeld, IsReadableDelay}
+use Rattle.jm_decoding.specs.Readable.{IsCountIn, IsNaturalIn, IsReadableStation, IsReadableMessage, IsReadableHeld, IsReadableDelay}
 use Rattle.jm_decoding.specs.Tables.{IsFirstDamaged, StandFor}
 use Rattle.jm_queries.specs.Shown.{AreDelays, AreHeld, AreMessages, AreStations, delay_shown, held_shown, message_shown, station_shown}
 use Rattle.jm_queries.specs.Shown as shown
@@ -37,7 +37,7 @@ use Rattle.jm_loading.specs.Stations.{IsKnown, IsKnownAs}
 use Rattle.jm_loading.specs.Unfit.{IsFirstUnfit}
 use Rattle.jm_loading.proofs.Unfit.{fewer}
 use Rattle.jm_load.specs.declared.reading.TableRows.{TableRows}
-use Rattle.jm_load.specs.Faults.{AreAllDelays, AreAllHeld, AreAllMessages, AreAllStations, IsFaultOf, IsFirstOf, IsStation, IsWhole}
+use Rattle.jm_load.specs.Faults.{AreAllDelays, AreAllHeld, AreAllMessages, AreAllStations, AreReadRows, IsFaultOf, IsFirstOf, IsStation, IsWhole}
 use Rattle.jm_load.specs.Loaded.{AreDecodedTo, AreRowsOf, IsFirstLater, IsUndecoded, IsUnmade}
 use Rattle.jm_load.proofs.Agreed.{delay_from, delay_to, held_from, held_to, kept_from, kept_to}
 use Rattle.jm_load.proofs.Keys.{columns_of}
@@ -278,6 +278,17 @@ module _ (db : Database) (s : Serves db) (rows : TableRows) (are : AreRowsOf db.
       told_delay Exhausted first = absurd first
       told_delay Memory first = tt
       told_delay Store first = absurd first
+
+    -- each row by itself is one that a store may have
+    pub read_rows : (hs : List HeldRow) (ds : List DelayRow) → StandFor IsHeldOf rows.held.items hs → StandFor IsDelayOf rows.delays.items ds → AreReadRows db.trees
+    read_rows hs ds stand_h stand_d = record {
+      stations = stations_are;
+      messages = messages_are;
+      held = all_behind held_shown (db.trees held_tree) rows.held.items are.held.same (λ r. IsCountIn (column r 5)) (λ q is. is)
+          (all_stand IsHeldOf (λ r. IsCountIn (column r 5)) (λ r x is. is.readable.deliveries) rows.held.items hs stand_h);
+      delays = all_behind delay_shown (db.trees delayed_tree) rows.delays.items delays_same (λ r. IsNaturalIn (column r 2)) (λ q is. is)
+          (all_stand IsDelayOf (λ r. IsNaturalIn (column r 2)) (λ r x is. is.readable.due) rows.delays.items ds stand_d);
+    }
 
     -- ---- together
 

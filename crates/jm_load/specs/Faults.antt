@@ -1,7 +1,7 @@
 -- Which rows a store may have, and the first fault of a database that has another.
 use Rattle.std.specs.Prelude.{◌≡◌, ◌⊎◌, ℕ, true, List, ⊤}
 use Rattle.std.specs.List.{AllByRecursion}
-use Rattle.sqlite_value.specs.Order.{Row}
+use Rattle.sqlite_value.specs.Order.{Row, column}
 use Rattle.sqlite_trees.specs.Tree.{Trees}
 use Rattle.jm_tables.specs.Schema.{station_tree, message_tree, held_tree, delayed_tree}
 use Rattle.jm_tables.specs.Valid.{IsKept, IsStoredDelay, IsStoredHeld, IsStoredMessage, is_station}
@@ -9,6 +9,7 @@ use Rattle.jm_queries.specs.Shown.{AreDelays, AreHeld, AreMessages, AreStations}
 use Rattle.jm_opening.specs.declared.judged.OpenFault.{OpenFault}
 use Rattle.jm_opening.specs.declared.judged.OpenFault.TheVariants.{Damaged, Memory, Store}
 use Rattle.jm_opening.specs.declared.judged.TableName.TheVariants.{Station, Message, Held, Delayed}
+use Rattle.jm_decoding.specs.Readable.{IsCountIn, IsNaturalIn}
 use Rattle.jm_decoding.specs.Tables.{IsFirstDamaged}
 
 -- ---- the rows that a store may have
@@ -41,6 +42,14 @@ pub record AreAllRows (db : Trees) : Type 0 where
 pub record IsWhole (db : Trees) : Type 0 where
   pub rows : AreAllRows db
   pub kept : AllByRecursion (IsKept db) (db message_tree)
+
+-- as far as each row by itself says, a store may have all rows: of station and of message it is such a row, of held it has a
+-- count of deliveries, and of delayed a moment
+pub record AreReadRows (db : Trees) : Type 0 where
+  pub stations : AreAllStations db
+  pub messages : AreAllMessages db
+  pub held : AllByRecursion (λ r. IsCountIn (column r 5)) (db held_tree)
+  pub delays : AllByRecursion (λ r. IsNaturalIn (column r 2)) (db delayed_tree)
 
 -- ---- the first fault
 

@@ -1,16 +1,17 @@
 //! A core of what a store holds.
 
-ghost use Rattle.std.specs.Prelude.{◌≡◌, ◌⊎◌, false, true, IsTrue, IfOk, IfErr};
+ghost use Rattle.std.specs.Prelude.{◌≡◌, ◌⊎◌, false, true, IsTrue, IfOk, IfErr, OnOk};
 ghost use Rattle.sqlite.specs.State.{HasCleanDisk, Survives};
 ghost use Rattle.sqlite.specs.Held.{state};
 ghost use Rattle.jm_core.specs.Provider.{may_open, state_of};
+ghost use Rattle.jm_holds.specs.Holds.{HoldsMessages};
 ghost use Rattle.jm_keep.specs.Persisted.{IsPersisted};
 ghost use Rattle.jm_queries.specs.Asked.{IsUndone};
 ghost use Rattle.jm_tables.specs.Rows.{stored_in};
 ghost use Rattle.jm_tables.specs.Sound.{Serves};
 ghost use Rattle.jm_opening.specs.declared.judged.OpenFault.TheVariants.{Memory, Store};
 ghost use Rattle.jm_load.specs.Causes.{IsStoreCause};
-ghost use Rattle.jm_load.specs.Faults.{IsFaultOf, IsWhole};
+ghost use Rattle.jm_load.specs.Faults.{AreReadRows, IsFaultOf, IsWhole};
 
 use crate::decoding::decode;
 use crate::making::make;
@@ -39,6 +40,12 @@ pub fn load<S: Alter>(
     ensures mode { conn.new.in_transaction ≡ false }
     ensures loaded { HasCleanDisk (state S.Store conn.new) → (state S.Store conn.old).now ≡ (state S.Store conn.old).committed → Serves (state S.Store conn.old).now
         → IfOk result (λ core. IsPersisted (state_of core) (stored_in (state S.Store conn.old).now.trees)) }
+    // Each row of the core holds a message that its queue or its subscription may hold.
+    ensures holds { HasCleanDisk (state S.Store conn.new) → (state S.Store conn.old).now ≡ (state S.Store conn.old).committed → Serves (state S.Store conn.old).now
+        → IfOk result (λ core. HoldsMessages (state_of core)) }
+    // As far as each row by itself says, a store may have all that was loaded.
+    ensures read { HasCleanDisk (state S.Store conn.new) → (state S.Store conn.old).now ≡ (state S.Store conn.old).committed → Serves (state S.Store conn.old).now
+        → OnOk result (AreReadRows (state S.Store conn.old).now.trees) }
     ensures fault { HasCleanDisk (state S.Store conn.new) → (state S.Store conn.old).now ≡ (state S.Store conn.old).committed → Serves (state S.Store conn.old).now
         → IfErr result (IsFaultOf (state S.Store conn.old).now.trees) }
     ensures cause { HasCleanDisk (state S.Store conn.new) → (state S.Store conn.old).now ≡ (state S.Store conn.old).committed → Serves (state S.Store conn.old).now

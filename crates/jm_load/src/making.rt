@@ -3,6 +3,9 @@
 ghost use Rattle.std.specs.Prelude.{◌≡◌, None, true, IfOk, IfErr, OnOk};
 ghost use Rattle.jm_core.specs.Provider.{may_open, state_of};
 ghost use Rattle.jm_keep.specs.Persisted.{IsPersisted};
+ghost use Rattle.std.specs.List.{AllByRecursion};
+ghost use Rattle.jm_holds.specs.Holds.{HoldsMessages};
+ghost use Rattle.jm_loading.specs.Holds.{HasMessage, HasSelector};
 ghost use Rattle.jm_loading.specs.Said.{said};
 ghost use Rattle.jm_load.specs.Loaded.{IsUnmade, first_told};
 
@@ -38,6 +41,7 @@ pub(crate) fn make(
     requires { may_open opening held_limit ≡ true }
     ensures whole { OnOk result (decoded.damaged ≡ None) }
     ensures stored { IfOk result (λ core. IsPersisted (state_of core) (said decoded.stations.items decoded.messages.items decoded.held.items decoded.delays.items)) }
+    ensures holds { IfOk result (λ core. AllByRecursion HasMessage decoded.messages.items → AllByRecursion HasSelector decoded.stations.items → HoldsMessages (state_of core)) }
     ensures err { IfErr result (IsUnmade decoded.stations.items decoded.messages.items decoded.held.items decoded.delays.items decoded.damaged) }
     ensures opening { IfOk result (λ core. (state_of core).opening ≡ opening) }
     ensures limit { IfOk result (λ core. (state_of core).limit ≡ held_limit) }

@@ -8,6 +8,7 @@ pub mod Taken
 pub mod Due
 pub mod Sorted
 pub mod Together
+pub mod Holds
 pub mod Search
 pub mod Holding
 pub mod Fitting

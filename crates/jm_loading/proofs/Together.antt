@@ -40,6 +40,8 @@ together stations rows held delays ss ms is known are h delay some have = record
     message = λ place. records (given_at place ms) (message_said place rows) (h.same place);
     due = λ place. dues ms delays place h.placed delay have;
   };
+  asked = is;
+  pairs = h.pairs;
 }
 
 -- the same is stored of a state

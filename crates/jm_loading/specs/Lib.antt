@@ -7,3 +7,4 @@ pub mod Delays
 pub mod Faults
 pub mod Unfit
 pub mod Fitting
+pub mod Holds

@@ -1,7 +1,8 @@
 -- What the rows of the four tables say is stored.
-use Rattle.std.specs.Prelude.{◌≡◌, ◌&&◌, ◌==◌, ℕ, Bool, List, [], ◌∷◌, All, find, Option, None, option_map, if◌then◌else◌}
+use Rattle.std.specs.Prelude.{◌≡◌, ◌&&◌, ◌==◌, ℕ, Bool, List, [], ◌∷◌, All, map, find, Option, None, option_map, if◌then◌else◌}
 use Rattle.jm_dest.specs.declared.key.Key.{Key}
 use Rattle.jm_dest.specs.Keys.{key_eq}
+use Rattle.jm_header.specs.declared.content.Content.{Content}
 use Rattle.jm_format.specs.Format as format
 use Rattle.jm_machine.specs.declared.state.Definition.{Definition}
 use Rattle.jm_keep.specs.Stored.{Stored}
@@ -13,6 +14,7 @@ use Rattle.jm_decoding.specs.declared.station.StationRow.{StationRow}
 use Rattle.jm_decoding.specs.declared.message.MessageRow.{MessageRow}
 use Rattle.jm_decoding.specs.declared.held.HeldRow.{HeldRow}
 use Rattle.jm_decoding.specs.declared.delay.DelayRow.{DelayRow}
+use Rattle.jm_loading.specs.Stations.{subscriptions_in}
 
 -- what the row of the key asks for
 abbrev pub definition_said : Key → List StationRow → Option Definition
@@ -51,8 +53,11 @@ pub record IsSame (a b : Stored) : Type 0 where
   pub message : (place : ℕ) → a.message place ≡ b.message place
   pub due : (place : ℕ) → a.due place ≡ b.due place
 
--- a core may be made of the subscriptions and the messages, each message is held by somebody, and they are what the rows say
+-- a core may be made of the subscriptions and the messages, each message is held by somebody, and they are what the rows say:
+-- the subscriptions are those of the rows, and so are the messages, each at its place
 pub record AreSaid (stations : List StationRow) (messages : List MessageRow) (held : List HeldRow) (delays : List DelayRow) (subscriptions : List StoredSubscription) (stored : List StoredMessage) : Type 0 where
   pub may : MayReopen subscriptions stored
   pub some : All (λ (m : StoredMessage). AreSome m.holders) stored
   pub same : IsSame (given subscriptions stored) (said stations messages held delays)
+  pub asked : subscriptions ≡ subscriptions_in stations
+  pub pairs : map {B = ℕ × Content} (λ (m : StoredMessage). (m.place, m.message)) stored ≡ map {B = ℕ × Content} (λ (m : MessageRow). (m.place, m.message)) messages

@@ -3,7 +3,10 @@
 ghost use Rattle.std.specs.Prelude.{◌≡◌, true, IfOk, IfErr};
 ghost use Rattle.jm_core.specs.Provider.{may_open, state_of};
 ghost use Rattle.jm_keep.specs.Persisted.{IsPersisted};
+ghost use Rattle.std.specs.List.{AllByRecursion};
+ghost use Rattle.jm_holds.specs.Holds.{HoldsMessages};
 ghost use Rattle.jm_loading.specs.Fitting.{IsFirstFault};
+ghost use Rattle.jm_loading.specs.Holds.{HasMessage, HasSelector};
 ghost use Rattle.jm_loading.specs.Said.{said};
 
 use crate::assembled::{Assembled, assemble};
@@ -26,6 +29,8 @@ pub fn reopened(
 ) -> Result<Core, OpenFault>
     requires { may_open opening held_limit ≡ true }
     ensures stored { IfOk result (λ core. IsPersisted (state_of core) (said stations.items messages.items held.now delays.now)) }
+    // Where the rows have messages, and no selector that is refused, the core holds messages that their keys may hold.
+    ensures holds { IfOk result (λ core. AllByRecursion HasMessage messages.items → AllByRecursion HasSelector stations.items → HoldsMessages (state_of core)) }
     ensures err { IfErr result (IsFirstFault stations.items messages.items held.now delays.now) }
     ensures opening { IfOk result (λ core. (state_of core).opening ≡ opening) }
     ensures limit { IfOk result (λ core. (state_of core).limit ≡ held_limit) }

@@ -2,7 +2,8 @@ use Rattle.std.proofs.lemmas.Result.{err_from_is_err_and}
 use Rattle.sqlite.specs.Held.{state}
 use Rattle.jm_load.specs.Causes.{IsStoreCause}
 use Rattle.jm_load.proofs.Caused.{store_cause}
-use Rattle.jm_load.proofs.Loaded.{loaded_ok, unmade_cause_err, unmade_err}
+use Rattle.jm_load.proofs.Asked.{holds_ok}
+use Rattle.jm_load.proofs.Loaded.{loaded_ok, read_ok, unmade_cause_err, unmade_err}
 use Rattle.jm_load.proofs.Told.{never_damaged, never_damaged_err, undecoded}
 use Rattle.jm_load.proofs.Unmade.{undecoded_cause}
 use Rattle.jm_load.proofs.loading.load.Goals as goal
@@ -10,6 +11,13 @@ use Rattle.jm_load.proofs.loading.load.Goals as goal
 pub returns-clause-loaded : goal.returns-clause-loaded
 returns-clause-loaded g c clean settled serves =
     loaded_ok (state g.S.Store c.args.conn.now).now.trees c.in_ok-rows.rows c.in_ok-decoded.decoded c.make.result (c.in_ok-rows.ensures.rows clean settled serves) c.in_ok-decoded.ensures.ok c.make.ensures.whole c.make.ensures.stored
+
+pub returns-clause-holds : goal.returns-clause-holds
+returns-clause-holds g c clean settled serves = holds_ok c.in_ok-rows.rows c.in_ok-decoded.decoded c.make.result c.in_ok-decoded.ensures.ok c.make.ensures.holds
+
+pub returns-clause-read : goal.returns-clause-read
+returns-clause-read g c clean settled serves =
+    read_ok (state g.S.Store c.args.conn.now).now c.in_ok-rows.rows c.in_ok-decoded.decoded c.make.result serves (c.in_ok-rows.ensures.rows clean settled serves) c.in_ok-decoded.ensures.ok c.make.ensures.whole
 
 pub returns-clause-fault : goal.returns-clause-fault
 returns-clause-fault g c clean settled serves =
