@@ -43,8 +43,9 @@ impl Error {
         self.refusal
     }
 
-    /// The cause behind an `IllegalState` or a `SubscriptionInUse`, to be matched on; none of another refusal, and none where
-    /// memory was wanted to find it (ours).
+    /// The cause of the refusal, to be matched on (ours). An `IllegalState` that a provider answers has one, and so has a
+    /// `SubscriptionInUse`, but where memory was wanted to find it. No other refusal has one, and none has the `IllegalState`
+    /// of a message that is read-only, which no provider answers.
     pub fn cause(&self) -> Option<Why>
         ensures { result ≡ self.now.cause }
     {

@@ -4,7 +4,7 @@
 //!
 //! `connect` opens the files at a path, or tells Memory or Store; `open` makes a provider over the store of a
 //! connection, which is `jm_store::open` and then `Provider::over`, so that what its lock carries by its type holds
-//! of the store.
+//! of the store. A refusal hands back what is left, and the fault is that of `jm_store::open` (`IsLeft`).
 #![tactic(auto)]
 
 mod opening;

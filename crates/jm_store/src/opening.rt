@@ -1,12 +1,14 @@
 //! A store is opened and loaded.
 
-ghost use Rattle.std.specs.Prelude.{◌≡◌, ◌&&◌, true, IsTrue, IfOk, IfErr};
+ghost use Rattle.std.specs.Prelude.{◌≡◌, ◌≤◌, ◌&&◌, true, IsTrue, IfOk, IfErr};
 ghost use Rattle.sqlite.specs.Held.{state};
 ghost use Rattle.sqlite_trees.specs.Tree.{Trees};
 ghost use Rattle.jm_core.specs.Provider.{may_open, state_of};
+ghost use Rattle.jm_holds.specs.Holds.{HoldsMessages};
 ghost use Rattle.jm_keep.specs.Persisted.{IsPersisted};
 ghost use Rattle.jm_opening.specs.Opening.{IsInNoTransaction, IsOpenedAgain};
 ghost use Rattle.jm_tables.specs.Rows.{stored_in};
+ghost use Rattle.jm_tables.specs.Valid.{IsOpening, IsValid};
 ghost use Rattle.jm_store.specs.Opened.{IsLeft};
 
 use jm_core::Core;
@@ -25,11 +27,19 @@ pub struct Reopened<S: Alter + Drop> {
     pub core: Core,
 }
 
+/// A number of 32 bits is that of an opening, where it is not 0; the function itself does nothing.
+fn is_opening(opening: u32)
+    requires { 1 ≤ opening }
+    ensures { IsOpening opening }
+{
+    let _ = opening;
+}
+
 /// Opens the store of a connection, and loads what it holds into a core of the new opening, in which a subscription that is not
 /// durable may hold so many rows, from 1 to 1,000,000. The first of these faults is told, and what is left is handed back with it:
 /// one of `jm_opening::open`, which leaves the store as it was; or one of `jm_load::load`, which leaves it opened, so that the next
 /// opening has the next number. Where the disk is clean, a stop of the process after an opening leaves what is stored, and nothing
-/// else (ours).
+/// else, and that is a valid file (ours).
 pub fn open<S: Alter + Drop>(
     alloc: Global,
     conn: Connection<S>,
@@ -37,6 +47,9 @@ pub fn open<S: Alter + Drop>(
 ) -> Result<Reopened<S>, Unopened<S>>
     requires { may_open 1 held_limit ≡ true }
     ensures stored { IfOk result (λ r. IsTrue ((state S.Store r.store.0).is_clean && (state S.Store r.store.0).is_open) → IsPersisted (state_of r.core) (stored_in (state S.Store r.store.0).now.trees)) }
+    ensures holds { IfOk result (λ r. IsTrue ((state S.Store r.store.0).is_clean && (state S.Store r.store.0).is_open) → HoldsMessages (state_of r.core)) }
+    // The database is a valid file, of the opening of the core.
+    ensures valid { IfOk result (λ r. IsTrue ((state S.Store r.store.0).is_clean && (state S.Store r.store.0).is_open) → IsValid (state_of r.core).opening (state S.Store r.store.0).now.trees) }
     ensures opened { IfOk result (λ r. IsTrue ((state S.Store r.store.0).is_clean && (state S.Store r.store.0).is_open) → IsOpenedAgain (state_of r.core).opening (state S.Store conn).committed.trees (state S.Store r.store.0)) }
     ensures durable { IfOk result (λ r. IsTrue ((state S.Store r.store.0).is_clean && (state S.Store r.store.0).is_open) → (db : Trees) → (state S.Store r.store.0).may_leave db → db ≡ (state S.Store r.store.0).now.trees) }
     ensures limit { IfOk result (λ r. (state_of r.core).limit ≡ held_limit) }
@@ -48,6 +61,7 @@ pub fn open<S: Alter + Drop>(
         Ok(opened) => opened,
         Err(unopened) => return Err(unopened),
     };
+    is_opening(opening);
     match load(alloc, &mut conn, opening, held_limit) {
         Ok(core) => Ok(Reopened {
             store: Store::over(conn),

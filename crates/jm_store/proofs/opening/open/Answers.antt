@@ -1,18 +1,29 @@
 use Rattle.std.proofs.Common.{inr}
 use Rattle.sqlite.specs.Held.{state}
 use Rattle.jm_core.specs.Provider.{state_of}
-use Rattle.jm_store.proofs.Reopening.{ours, still_left, still_opened, still_stored, stands_opened}
+use Rattle.jm_store.proofs.Reopening.{ours, still_holds, still_left, still_opened, still_stored, still_valid, stands_opened}
 use Rattle.jm_store.proofs.opening.open.Goals as goal
 
 pub over-requires-clause-ours : goal.over-requires-clause-ours
 over-requires-clause-ours g c =
     let o = c.in-Ok in
-    ours o.opened.opening _ (state g.S.Store o.opened.conn) (state g.S.Store c.load.new.conn) c.load.ensures.survives c.load.ensures.same o.ensures.opened o.ensures.serves
+    ours o.opened.opening _ (state g.S.Store o.opened.conn) (state g.S.Store c.load.new.conn) c.load.ensures.survives c.load.ensures.same o.ensures.opened c.is_opening.ensures o.ensures.serves c.in-Ok-load.ensures.read
 
 pub returns-in-Ok-load-clause-stored : goal.returns-in-Ok-load-clause-stored
 returns-in-Ok-load-clause-stored g c k =
     let o = c.in-Ok in
     rw c.over.ensures (still_stored o.opened.opening _ (state g.S.Store o.opened.conn) (state g.S.Store c.load.new.conn) c.load.ensures.survives c.load.ensures.same o.ensures.opened (rw c.over.ensures at k) (state_of c.in-Ok-load.core) o.ensures.serves c.in-Ok-load.ensures.loaded)
+
+pub returns-in-Ok-load-clause-holds : goal.returns-in-Ok-load-clause-holds
+returns-in-Ok-load-clause-holds g c k =
+    let o = c.in-Ok in
+    still_holds o.opened.opening _ (state g.S.Store o.opened.conn) (state g.S.Store c.load.new.conn) c.load.ensures.survives c.load.ensures.same o.ensures.opened (rw c.over.ensures at k) (state_of c.in-Ok-load.core) o.ensures.serves c.in-Ok-load.ensures.holds
+
+pub returns-in-Ok-load-clause-valid : goal.returns-in-Ok-load-clause-valid
+returns-in-Ok-load-clause-valid g c k =
+    let o = c.in-Ok in
+    rw (c.over.ensures, c.in-Ok-load.ensures.opening)
+    (still_valid o.opened.opening _ (state g.S.Store o.opened.conn) (state g.S.Store c.load.new.conn) c.load.ensures.survives c.load.ensures.same o.ensures.opened (rw c.over.ensures at k) (state_of c.in-Ok-load.core) c.is_opening.ensures o.ensures.serves c.in-Ok-load.ensures.read c.in-Ok-load.ensures.loaded c.in-Ok-load.ensures.holds)
 
 pub returns-in-Ok-load-clause-opened : goal.returns-in-Ok-load-clause-opened
 returns-in-Ok-load-clause-opened g c k =
