@@ -1,0 +1,4 @@
+pub mod Made
+pub mod Played
+pub mod Seated
+pub mod Sends

@@ -1,0 +1,19 @@
+use Rattle.std.proofs.Common.{subst, sym}
+use Rattle.std.specs.Prelude.{All}
+use Rattle.jm_core.specs.Provider.{state_of}
+use Rattle.jm_forks.specs.Forks.{IsBySessions}
+use Rattle.jm_forks.proofs.Laws.{parts-by_sessions}
+use Rattle.jm_threaded.proofs.Played.{if_there, played}
+use Rattle.jm_threaded.proofs.playing.play_threaded.Goals as goal
+
+pub returns-in-Ok-made-clause-played : goal.returns-in-Ok-made-clause-played
+returns-in-Ok-made-clause-played g c =
+    if_there c.play_script.result.outcome
+    (λ told ran.
+    rw (← c.opening-opening.ensures)
+    (played c.opening-opening.result c.args.items.items c.in-Ok.script.parts.items told.replies.items told.verdict (state_of c.play_script.result.core) c.in-Ok.ensures.parts ran))
+    c.play_script.ensures.ran
+
+pub returns-in-Ok-made-clause-seated : goal.returns-in-Ok-made-clause-seated
+returns-in-Ok-made-clause-seated g c = λ well.
+    c.play_script.ensures.seated (subst (λ ps. All IsBySessions ps) (sym c.in-Ok.ensures.parts) (parts-by_sessions c.args.items.items well))
