@@ -1,2 +1,3 @@
 pub mod Told
 pub mod Loaded
+pub mod Forked

@@ -3,3 +3,4 @@ pub mod Lone
 pub mod Perform
 pub mod Program
 pub mod Stored
+pub mod Threaded

@@ -7,6 +7,7 @@ ghost use Rattle.jm_runner.specs.Program as spec;
 
 use crate::command::perform;
 use crate::databases::Databases;
+use crate::threaded::PARTS;
 use clap::error::ErrorKind;
 use jm_play::{Ending, Fault, Sink, Source};
 use jm_words::{Words, WordsFault, not_text, read_words};
@@ -15,6 +16,9 @@ use std::env::Env;
 use std::io::Write;
 use std::process::ExitCode;
 use std::rt::Files;
+use std::sync::Wait;
+use std::sync::ledger::{Blank, Ledger};
+use std::thread::Threads;
 use std::{env, fs, io};
 
 /// What the program's words ask for.
@@ -33,31 +37,51 @@ fn asked(rt: &(impl Env + AllocGlobal)) -> Result<Words, WordsFault>
 
 /// Does what the words ask for, with the scenario of their file or of standard input. The scenario's file is opened before the
 /// database, which is not opened where that fails.
-fn answer<S: Alter + Drop, D: Databases<S>>(
+fn answer<
+    S: Alter + Drop + Send,
+    D: Databases<S>,
+    L: Ledger + Send + Sync,
+    T: Threads + Wait + Sync,
+>(
     rt: &(impl Files + Input + Print + AllocGlobal),
+    threads: &T,
+    blank: Blank,
     databases: &D,
     words: &Words,
 ) -> Ending
-    requires { HasLimit words.now }
+    requires name { blank.name ≡ L.name }
+    requires parts { (blank.parts ≡ L.parts) × (blank.parts ≡ PARTS) }
+    requires limit { HasLimit words.now }
 {
     let alloc = rt.alloc();
     let sink = &mut Sink::new(io::writer(rt));
     match words {
         Words::Input => {
             let mut source = Source::new(Ok(rt.reader()));
-            perform(alloc, words, databases, &mut source, sink)
+            perform::<S, D, _, _, L, T>(threads, alloc, blank, words, databases, &mut source, sink)
         }
         Words::Run {
             file,
             db: Some(_),
             ..
         } => match fs::open(rt, file.as_str()) {
-            Ok(reader) => perform(alloc, words, databases, &mut Source::new(Ok(reader)), sink),
+            Ok(reader) => {
+                let mut source = Source::new(Ok(reader));
+                perform::<S, D, _, _, L, T>(
+                    threads,
+                    alloc,
+                    blank,
+                    words,
+                    databases,
+                    &mut source,
+                    sink,
+                )
+            }
             Err(_) => Ending::of_fault(Fault::File),
         },
         Words::Run { file, .. } | Words::Select { file, .. } | Words::Lone { file, .. } => {
             let mut source = Source::new(fs::open(rt, file.as_str()));
-            perform(alloc, words, databases, &mut source, sink)
+            perform::<S, D, _, _, L, T>(threads, alloc, blank, words, databases, &mut source, sink)
         }
     }
 }
@@ -115,14 +139,29 @@ fn refused<W: Write>(rt: &(impl Print + Eprint), errors: &mut W, fault: &WordsFa
 }
 
 /// Runs the program: reads its words, does what they ask for, with the databases of stores that they name, and tells a fault on
-/// `errors`, its standard error. The exit status is that of the ending, or that of words which give nothing to do.
-pub fn run_program<S: Alter + Drop, D: Databases<S>, W: Write>(
+/// `errors`, its standard error. Threads are started with `threads`, and the ledger of the blank, which has `PARTS` parts, counts
+/// the calls that they make. The exit status is that of the ending, or that of words which give nothing to do.
+pub fn run_program<
+    S: Alter + Drop + Send,
+    D: Databases<S>,
+    W: Write,
+    L: Ledger + Send + Sync,
+    T: Threads + Wait + Sync,
+>(
     rt: &(impl Env + Files + Input + Print + Eprint + AllocGlobal),
+    threads: &T,
+    blank: Blank,
     databases: &D,
     errors: &mut W,
-) -> ExitCode {
+) -> ExitCode
+    requires name { blank.name ≡ L.name }
+    requires parts { (blank.parts ≡ L.parts) × (blank.parts ≡ PARTS) }
+{
     match asked(rt) {
-        Ok(words) => closed(errors, &answer(rt, databases, &words)),
+        Ok(words) => {
+            let ending = answer::<S, D, L, T>(rt, threads, blank, databases, &words);
+            closed(errors, &ending)
+        }
         Err(fault) => refused(rt, errors, &fault),
     }
 }

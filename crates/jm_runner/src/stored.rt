@@ -33,13 +33,13 @@ pub struct Played<S: Alter + Drop> {
 
 /// What is told of a run over a store, and what is left of the store.
 #[derive(Drop)]
-struct Outcome<S: Alter + Drop> {
-    told: Result<Printout, Fault>,
-    left: Left<S>,
+pub(crate) struct Outcome<S: Alter + Drop> {
+    pub(crate) told: Result<Printout, Fault>,
+    pub(crate) left: Left<S>,
 }
 
 /// The program's fault for a store that is not opened.
-fn fault_of(fault: &OpenFault) -> Fault
+pub(crate) fn fault_of(fault: &OpenFault) -> Fault
     ensures { result ≡ spec.fault_of fault.now }
 {
     match fault {

@@ -1,0 +1,4 @@
+use Rattle.jm_runner.proofs.command.run_on_threads.Goals as goal
+
+pub returns-in-Some-clause-ends : goal.returns-in-Some-clause-ends
+returns-in-Some-clause-ends g c = rw c.in-Some.is (rw c.as_str.ensures at c.run_over_on_threads.ensures.ends)

@@ -1,0 +1,16 @@
+use Rattle.std.proofs.lemmas.Result.{IfOk-weaker}
+use Rattle.jm_core.specs.Provider.{state_of}
+use Rattle.sqlite.specs.Held.{state}
+use Rattle.jm_runner.proofs.Loaded.{loaded}
+use Rattle.jm_runner.proofs.threaded.told_of_store.Goals as goal
+
+pub returns-in-Ok-clause-told : goal.returns-in-Ok-clause-told
+returns-in-Ok-clause-told g c =
+    let opened = c.in-Ok.ensures in
+    let reopened = c.in-Ok.reopened in
+    let told = c.run_stored.ensures.told in
+    IfOk-weaker c.run_stored.result.told _ _ (λ printout is. (
+      state_of reopened.core,
+      (λ left. loaded _ (state_of reopened.core) (state g.S.Store reopened.store.0) (opened.opened (c.run_stored.ensures.clean left)) (opened.stored (c.run_stored.ensures.clean left))),
+      is,
+    )) (rw c.into_inner.ensures at told)
