@@ -2,6 +2,8 @@ use crate::report::Report;
 use crate::sheet::{Kind, Sheet};
 use std::io::Print;
 use std::rt::Files;
+use std::sync::Wait;
+use std::thread::Threads;
 use std::{fs, io};
 
 /// The names in the folder, in order.
@@ -17,7 +19,7 @@ fn names(rt: &(impl Files + AllocGlobal + Clone + Drop), folder: &str) -> io::Re
 
 /// Runs the cases of the file of that name in the folder, where it has some.
 fn run_file(
-    rt: &(impl Files + Print + AllocGlobal),
+    rt: &(impl Files + Print + AllocGlobal + Threads + Wait + Sync),
     folder: &str,
     name: &str,
     report: &mut Report,
@@ -49,7 +51,7 @@ fn run_file(
 
 /// Runs the cases of each file of the folder.
 fn run_folder(
-    rt: &(impl Files + Print + AllocGlobal + Clone + Drop),
+    rt: &(impl Files + Print + AllocGlobal + Threads + Wait + Sync + Clone + Drop),
     folder: &str,
     report: &mut Report,
 ) -> io::Result<()> {
@@ -61,7 +63,7 @@ fn run_folder(
 
 /// Runs the cases of each file of each folder in the folder.
 pub fn run_folders(
-    rt: &(impl Files + Print + AllocGlobal + Clone + Drop),
+    rt: &(impl Files + Print + AllocGlobal + Threads + Wait + Sync + Clone + Drop),
     folder: &str,
     report: &mut Report,
 ) -> io::Result<()> {

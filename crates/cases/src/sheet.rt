@@ -3,6 +3,8 @@ use crate::report::Report;
 use crate::told::Told;
 use std::io;
 use std::io::Print;
+use std::sync::Wait;
+use std::thread::Threads;
 
 /// What stands in a file of cases.
 #[derive(Clone, Copy, PartialEq, Eq)]
@@ -69,7 +71,11 @@ pub struct Sheet<'a> {
 
 impl Sheet<'_> {
     /// Runs the program on each case of the file, and notes in the report whether it tells what is wanted.
-    pub fn run(&self, rt: &(impl Print + AllocGlobal), report: &mut Report) -> io::Result<()> {
+    pub fn run(
+        &self,
+        rt: &(impl Print + AllocGlobal + Threads + Wait + Sync),
+        report: &mut Report,
+    ) -> io::Result<()> {
         match self.kind {
             Kind::Lines => self.run_lines(rt, report),
             Kind::Commands => self.run_commands(rt, report, self.scenario, self.text),
@@ -78,9 +84,14 @@ impl Sheet<'_> {
         }
     }
 
-    fn run_lines(&self, rt: &(impl Print + AllocGlobal), report: &mut Report) -> io::Result<()> {
+    fn run_lines(
+        &self,
+        rt: &(impl Print + AllocGlobal + Threads + Wait + Sync),
+        report: &mut Report,
+    ) -> io::Result<()> {
         let alloc = rt.alloc();
         let told = Told::new(
+            rt,
             alloc,
             &["jmsrun", "run", self.file],
             self.file,
@@ -92,7 +103,7 @@ impl Sheet<'_> {
     /// Each command is a line that begins with `$ ` and has the words with `|` between them; what it tells follows.
     fn run_commands(
         &self,
-        rt: &(impl Print + AllocGlobal),
+        rt: &(impl Print + AllocGlobal + Threads + Wait + Sync),
         report: &mut Report,
         scenario: &str,
         text: &str,
@@ -107,7 +118,7 @@ impl Sheet<'_> {
 
     fn run_command(
         &self,
-        rt: &(impl Print + AllocGlobal),
+        rt: &(impl Print + AllocGlobal + Threads + Wait + Sync),
         report: &mut Report,
         scenario: &str,
         words: &str,
@@ -117,12 +128,16 @@ impl Sheet<'_> {
         let place = self.place;
         let place = format!(in alloc; "{place}, {words}")?;
         let words: Vec<&str> = words.split('|').collect(alloc)?;
-        let told = Told::new(alloc, &words, self.file, scenario).lines(alloc)?;
+        let told = Told::new(rt, alloc, &words, self.file, scenario).lines(alloc)?;
         let (told, wanted) = comparable(told.as_str(), wanted);
         report.note(rt, place.as_str(), wanted, told)
     }
 
-    fn run_whole(&self, rt: &(impl Print + AllocGlobal), report: &mut Report) -> io::Result<()> {
+    fn run_whole(
+        &self,
+        rt: &(impl Print + AllocGlobal + Threads + Wait + Sync),
+        report: &mut Report,
+    ) -> io::Result<()> {
         let alloc = rt.alloc();
         let text = repeated(alloc, self.text)?;
         let text = numbered(alloc, text.as_str())?;
@@ -133,7 +148,11 @@ impl Sheet<'_> {
     }
 
     /// Each row has ` => ` between its parts. Empty lines, and those that begin with `# `, are no rows.
-    fn run_rows(&self, rt: &(impl Print + AllocGlobal), report: &mut Report) -> io::Result<()> {
+    fn run_rows(
+        &self,
+        rt: &(impl Print + AllocGlobal + Threads + Wait + Sync),
+        report: &mut Report,
+    ) -> io::Result<()> {
         for row in self.text.split_terminator('\n') {
             if row.is_empty() || row.starts_with("# ") {
                 continue;
@@ -146,7 +165,7 @@ impl Sheet<'_> {
 
     fn run_row(
         &self,
-        rt: &(impl Print + AllocGlobal),
+        rt: &(impl Print + AllocGlobal + Threads + Wait + Sync),
         report: &mut Report,
         left: &str,
         wanted: &str,
@@ -155,17 +174,28 @@ impl Sheet<'_> {
         let place = self.place;
         let place = format!(in alloc; "{place}, {left}")?;
         let left = repeated(alloc, left)?;
-        let told = self.told(alloc, left.as_str()).row(alloc)?;
+        let told = self.told(rt, alloc, left.as_str()).row(alloc)?;
         report.note(rt, place.as_str(), wanted, told.as_str())
     }
 
     /// What the program tells of the left part of a row.
-    fn told(&self, alloc: std::alloc::Global, left: &str) -> Told {
+    fn told<T: Threads + Wait + Sync>(
+        &self,
+        rt: &T,
+        alloc: std::alloc::Global,
+        left: &str,
+    ) -> Told {
         let (file, scenario) = (self.file, self.scenario);
         match self.kind {
-            Kind::Selectors => Told::new(alloc, &["jmsrun", "select", left, file], file, scenario),
-            Kind::Keys => Told::new(alloc, &["jmsrun", "lone", file, left], file, scenario),
-            _ => Told::new(alloc, &["jmsrun"], file, left),
+            Kind::Selectors => Told::new(
+                rt,
+                alloc,
+                &["jmsrun", "select", left, file],
+                file,
+                scenario,
+            ),
+            Kind::Keys => Told::new(rt, alloc, &["jmsrun", "lone", file, left], file, scenario),
+            _ => Told::new(rt, alloc, &["jmsrun"], file, left),
         }
     }
 }

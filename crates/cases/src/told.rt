@@ -1,9 +1,13 @@
 use crate::stage::Stage;
-use jm_runner::{Databases, run_program};
+use jm_runner::{Databases, PARTS, run_program};
 use sqlite::{Connection, Error, ErrorCode, MemStore};
 use std::alloc::{AllocError, Global};
+use std::marker::Brand;
 use std::process::ExitCode;
 use std::str;
+use std::sync::Wait;
+use std::sync::ledger::Blank;
+use std::thread::Threads;
 
 /// What a run of the program ends with.
 #[derive(Drop)]
@@ -36,11 +40,25 @@ impl Databases<MemStore> for NoDatabases {
 }
 
 impl Told {
-    /// What the program ends with on those words, where the text is its standard input and the file of that name.
-    pub fn new(alloc: Global, words: &[&str], file: &str, text: &str) -> Told {
+    /// What the program ends with on those words, where the text is its standard input and the file of that name. It starts
+    /// threads with the runtime.
+    pub fn new<T: Threads + Wait + Sync>(
+        rt: &T,
+        alloc: Global,
+        words: &[&str],
+        file: &str,
+        text: &str,
+    ) -> Told {
         let stage = Stage::new(alloc, words, file, text.as_bytes());
         let mut fault = Vec::new(alloc);
-        let status = number(run_program(&stage, &NoDatabases, &mut fault));
+        let blank = Blank::new(PARTS);
+        let status = number(run_program::<MemStore, _, _, Brand, T>(
+            &stage,
+            rt,
+            blank,
+            &NoDatabases,
+            &mut fault,
+        ));
         let (printed, refused_words) = stage.into_printed();
         Told {
             status,
