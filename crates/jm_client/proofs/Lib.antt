@@ -2,3 +2,4 @@
 mod Replies
 mod Sending
 mod Causes
+mod Turns

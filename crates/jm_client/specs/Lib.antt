@@ -1,4 +1,5 @@
 pub mod Locked
 pub mod Told
 pub mod Sends
+pub mod Listening
 pub mod Wakes

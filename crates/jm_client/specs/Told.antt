@@ -1,9 +1,10 @@
 -- What a client is told of a call that is made through the lock: the state that it met does not show, but that the provider
 -- reaches it.
-use Rattle.std.specs.Prelude.{◌≡◌, ◌⊎◌, ℕ, Bool, true, false, Option, Some, None, Result, Ok, Err, MatchBool, count_by, length}
+use Rattle.std.specs.Prelude.{◌≡◌, ◌⊎◌, ℕ, Bool, true, false, List, Option, Some, None, Result, Ok, Err, MatchBool, count_by, length}
 use Rattle.jm_base.specs.declared.refusal.Refusal.{Refusal}
 use Rattle.jm_base.specs.declared.refusal.Refusal.TheVariants.{Exhausted, IllegalState, SubscriptionInUse}
 use Rattle.jm_dest.specs.declared.session.SessionId.{SessionId}
+use Rattle.jm_dest.specs.Names.{is_name}
 use Rattle.jm_machine.specs.declared.answer.Answer.{Answer}
 use Rattle.jm_machine.specs.declared.answer.Answer.TheVariants.{Done, Delivered, Nothing, Missed as MissedSoFar}
 use Rattle.jm_machine.specs.declared.answer.Delivery.{Delivery}
@@ -14,6 +15,8 @@ use Rattle.jm_machine.specs.declared.call.Call.TheVariants.{Ask}
 use Rattle.jm_machine.specs.declared.call.Request.{Request}
 use Rattle.jm_machine.specs.declared.call.Request.TheVariants.{Receive, Missed, Take}
 use Rattle.jm_client.specs.declared.overview.Overview.{Overview}
+use Rattle.jm_client.specs.declared.shared.Way.{Way}
+use Rattle.jm_client.specs.declared.shared.Way.TheVariants as ways
 use Rattle.jm_error.specs.Refused.{Refused, bare}
 use Rattle.jm_core.specs.Kept.{IsNumberOfMessages}
 use Rattle.jm_core.specs.Provider.{Provider, state_of}
@@ -56,7 +59,12 @@ abbrev pub done_reply : Result (Unit {0}) Refused → Result Answer Refused
 done_reply (Ok u) = Ok Done
 done_reply (Err r) = Err r
 
--- the answer to a receive that hands out that message, or none
+-- the request for the next message of a consumer at a moment: a receive, or a take for its listener
+abbrev pub asked : Way → ℕ → ℕ → Request
+asked ways.Receive c now = Receive c now
+asked ways.Take c now = Take c now
+
+-- the answer to such a request that hands out that message, or none
 abbrev pub message_answer : Option Delivery → Answer
 message_answer None = Nothing
 message_answer (Some d) = Delivered d
@@ -66,7 +74,7 @@ abbrev pub message_reply : Result (Option Delivery) Refused → Result Answer Re
 message_reply (Ok d) = Ok (message_answer d)
 message_reply (Err r) = Err r
 
--- an answer that a receive has
+-- an answer that such a request has
 abbrev pub is_receipt : Answer → Bool
 is_receipt Nothing = true
 is_receipt (Delivered d) = true
@@ -93,13 +101,26 @@ is_plain request = true
 abbrev pub Answers : Who → Request → Result (Unit {0}) Refused → Type 0
 Answers who request result = Told who (Ask request) (done_reply result)
 
--- the client is told so of a receive by the session's consumer, at some moment
+-- the client is told so of a request for the next message of the session's consumer, at some moment
+abbrev pub Asks : Way → SessionId → ℕ → Result (Option Delivery) Refused → Type 0
+Asks way s c result = (now : ℕ) × Told (Session s) (Ask (asked way c now)) (message_reply result)
+
+-- of a receive
 abbrev pub Receives : SessionId → ℕ → Result (Option Delivery) Refused → Type 0
-Receives s c result = (now : ℕ) × Told (Session s) (Ask (Receive c now)) (message_reply result)
+Receives s c result = Asks ways.Receive s c result
+
+-- of a take for its listener
+abbrev pub Takes : SessionId → ℕ → Result (Option Delivery) Refused → Type 0
+Takes s c result = Asks ways.Take s c result
 
 -- no number is left; or the request that names a number is refused so with some
 abbrev pub RefusesNew : (ℕ → Who) → (ℕ → Request) → Refused → Type 0
 RefusesNew who request r = (r ≡ bare Exhausted) ⊎ ((n : ℕ) × Told (who n) (Ask (request n)) (Err r))
+
+-- no text is handed in, or one that is a name
+abbrev pub is_named : Option (List ℕ) → Bool
+is_named None = true
+is_named (Some text) = is_name text
 
 -- so many connections and sessions are open, there are so many subscriptions, and subscriptions and queues hold so
 -- many messages, in a core whose state the provider reaches

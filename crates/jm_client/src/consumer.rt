@@ -10,24 +10,20 @@ ghost use Rattle.jm_machine.specs.declared.call.Request.TheVariants.{CloseConsum
 ghost use Rattle.jm_machine.specs.declared.call.Who.TheVariants.{Session as BySession};
 
 use crate::provider::Provider;
-use crate::time::Timer;
+use crate::shared::Way;
 use jm_core::{Answer, Delivery, Request, Who};
 use jm_dest::{ConsumerId, SessionId};
 use jm_error::Error;
 use jm_keep::Keep;
 use std::marker::Model;
-use std::sync::{CondvarTimeouts, Wait, WaitMethods};
+use std::sync::Wait;
 use std::time::{Clock, Duration};
-
-/// A wait looks again after so many milliseconds at the latest: what is held back comes due with no call that would wake it
-/// (ours).
-const LOOK_AGAIN: u64 = 20;
 
 /// A consumer, which closes as it is dropped. Contracts see its session and its number.
 pub struct Consumer<'p, R: Wait + Clock, K: Keep + Drop> {
     provider: &'p Provider<'p, R, K>,
     session: SessionId,
-    id: ConsumerId,
+    pub(crate) id: ConsumerId,
 }
 
 impl<'p, R: Wait + Clock, K: Keep + Drop> Model for Consumer<'p, R, K> {
@@ -103,23 +99,8 @@ impl<'p, R: Wait + Clock, K: Keep + Drop> Consumer<'p, R, K> {
     pub fn receive(&self, timeout: Duration) -> Result<Option<Delivery>, Error>
         ensures { (result ≡ Err (bare OutOfRange)) ⊎ Receives self.now.0 self.now.1 result }
     {
-        let provider = self.provider;
-        let timer = Timer::new(provider.rt, timeout)?;
-        let mut guard = provider.shared.lock(provider.rt);
-        for _ in provider.rt.forever() {
-            let now = provider.now()?;
-            let delivery = guard.receive(self.session, self.id, now)?;
-            if delivery.is_some() {
-                return Ok(delivery);
-            }
-            let Some(left) = timer.left(provider.rt) else {
-                return Ok(delivery);
-            };
-            let nap = left.min(Duration::from_millis(LOOK_AGAIN));
-            let (again, _) = provider.changed.wait_timeout(provider.rt, guard, nap);
-            guard = again;
-        }
-        unreachable!()
+        self.provider
+            .await_message(Way::Receive, &self.session, self.id, timeout)
     }
 
     /// The next message, or none where none is there now. A message and a refusal are as `receive` says.
@@ -131,7 +112,7 @@ impl<'p, R: Wait + Clock, K: Keep + Drop> Consumer<'p, R, K> {
         provider
             .shared
             .lock(provider.rt)
-            .receive(self.session, self.id, now)
+            .ask_message(Way::Receive, self.session, self.id, now)
     }
 
     /// How many publications the consumer's subscription missed, since it was at its limit; at 18,446,744,073,709,551,615 it

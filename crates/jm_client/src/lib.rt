@@ -7,25 +7,33 @@
 //! stored of the core's state, and its `apply` has the clauses of `jm_kept::step`. Through the lock a call is told
 //! the machine's reply to its request in some state that the provider reaches, or counts as not made (`Told`).
 //!
-//! `send` stamps the draft, and its number is told; in a transacted session it waits behind all that waited
+//! `send` stamps the draft and publishes it, and tells its number; in a transacted session it waits behind all that waited
 //! (`Sends`). A commit or a rollback that is refused leaves all that waits; one that is accepted leaves nothing.
+//!
+//! `listen` has a listener handle messages (`Listens` in `specs/Listening.antt`): it is set, and in each turn a message
+//! is taken, the listener handles just that, its delivery is ended, well just where it answered `Ok`, and the call that it
+//! names is accepted, a commit of all that waits; and it is taken away. A refusal is that of the first call that is refused;
+//! that the listener is taken away after one is only tested.
+//!
 //! `overview` tells how many connections and sessions are open, and how many subscriptions there are; its other
 //! numbers have no clause. Of waiting nothing is said.
 //!
-//! A refusal is told as an `Error`, which contracts see as the refusal. A refusal is told with its cause:
-//! `Error::cause` is exactly `why` (`jm_why`) of the state in which the call was refused, found under the same hold
-//! of the lock (`IsToldIn` in `specs/Told.antt`; `Shared::apply`, clause `told`). It is absent for a
-//! `SubscriptionInUse` where memory was wanted to find it; no other refusal has one.
+//! A refusal is told as an `Error`, which contracts see as the refusal and its cause. Of an `IllegalState` or a
+//! `SubscriptionInUse` that the machine replies, `Error::cause` is exactly `why` (`jm_why`) of the state in which the call
+//! was refused, found under the same hold of the lock (`IsToldIn` in `specs/Told.antt`; `Shared::apply`, clause `told`), but
+//! that it may be absent for a `SubscriptionInUse`, where memory was wanted to find it. No other refusal has a cause.
 #![tactic(auto)]
 
 mod connection;
 mod consumer;
+mod listening;
 mod overview;
 mod provider;
 mod session;
 mod shared;
 mod texts;
 mod time;
+mod waiting;
 mod wakes;
 
 pub use connection::Connection;
@@ -34,6 +42,7 @@ pub use jm_base::{MessageFault, Mode, Refusal};
 pub use jm_dest::Destination;
 pub use jm_error::Error;
 pub use jm_header::{Body, DeliveryMode, Draft, Message};
+pub use jm_listener::{After, Listener, ListenerFault, SessionListener};
 pub use jm_machine::Delivery;
 pub use jm_why::Why;
 pub use overview::Overview;

@@ -1,8 +1,9 @@
 //! The provider: the lock, and what is called through it.
 
-ghost use Rattle.std.specs.Prelude.{◌≡◌, ◌⊎◌, true, Err, IfOk, IfErr, IsTrue, Ok, OnOk};
+ghost use Rattle.std.specs.Prelude.{◌≡◌, ◌⊎◌, false, true, Err, IfOk, IfErr, IsTrue, Ok, OnOk};
 ghost use Rattle.std.specs.Option.{option_copied};
-ghost use Rattle.jm_client.specs.Told.{Answers, IsOverview, RefusesNew, Told, is_plain};
+ghost use Rattle.jm_client.specs.Sends.{IsPublished};
+ghost use Rattle.jm_client.specs.Told.{Answers, IsOverview, RefusesNew, Told, is_named, is_plain};
 ghost use Rattle.jm_core.specs.Provider.{state_of};
 ghost use Rattle.jm_error.specs.Refused.{bare};
 ghost use Rattle.jm_keep.specs.Persisted.{IsPersisted};
@@ -104,7 +105,7 @@ impl<'r, R: Wait + Clock, K: Keep + Drop> Provider<'r, R, K> {
         client: Option<&str>,
     ) -> Result<Connection<'p, R, K>, Error>
         ensures ok { IfOk result (λ c. Told (ByConnection c) (Ask (Open (option_copied client.entry))) (Ok Done)) }
-        ensures refused { IfErr result (λ r. (r ≡ bare Refusal.BadName)
+        ensures refused { IfErr result (λ r. ((r ≡ bare Refusal.BadName) × (is_named (option_copied client.entry) ≡ false))
             ⊎ RefusesNew (λ n. ByConnection n) (λ n. Open (option_copied client.entry)) r) }
     {
         let client = client_named(self.alloc, client)?;
@@ -157,8 +158,9 @@ impl<'r, R: Wait + Clock, K: Keep + Drop> Provider<'r, R, K> {
     }
 
     /// Publishes a message that the session stamped, and gives its number.
+    #[tactic(auto, using(crate::proofs::Replies::told_publish, crate::proofs::Replies::told_memory))]
     pub(crate) fn publish(&self, session: &SessionId, message: Message) -> Result<u64, Error>
-        ensures { IfOk result (λ number. number ≡ message.number) }
+        ensures { IsPublished session.now message result }
     {
         let number = message.number();
         let mut messages = List::new(Vec::new(self.alloc));

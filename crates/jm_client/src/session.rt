@@ -1,6 +1,6 @@
 //! Sessions.
 
-ghost use Rattle.std.specs.Prelude.{◌≡◌, ◌⊎◌, [], true, IfOk, IfErr, OnErr, OnOk, MatchResult, Ok, Err, IsTrue, if◌then◌else◌};
+ghost use Rattle.std.specs.Prelude.{◌≡◌, ◌⊎◌, [], false, true, IfOk, IfErr, OnErr, OnOk, MatchResult, Ok, Err, IsTrue, if◌then◌else◌};
 ghost use Rattle.std.specs.Option.{option_copied};
 ghost use Rattle.jm_base.specs.declared.refusal.Refusal.TheVariants.{BadName, Memory};
 ghost use Rattle.jm_client.specs.Told.{Answers, RefusesNew, Told, done_reply};
@@ -32,8 +32,8 @@ use std::time::Clock;
 /// A session, which one thread calls, and which closes as it is dropped, with its consumers. It keeps what is sent in a
 /// transaction until the commit. Contracts see what it has sent, and what waits: a `Buffer`.
 pub struct Session<'p, R: Wait + Clock, K: Keep + Drop> {
-    provider: &'p Provider<'p, R, K>,
-    id: SessionId,
+    pub(crate) provider: &'p Provider<'p, R, K>,
+    pub(crate) id: SessionId,
     half: SessionHalf,
 }
 
@@ -192,7 +192,8 @@ impl<'p, R: Wait + Clock, K: Keep + Drop> Session<'p, R, K> {
     ) -> Result<Consumer<'p, R, K>, Error>
         ensures ok { IfOk result (λ c. (c.0 ≡ self.now.sender.session)
             × Told (BySession c.0) (Ask (CreateDurable c.1 destination.now name.now (option_copied selector.entry) no_local)) (Ok Done)) }
-        ensures refused { IfErr result (λ r. (r ≡ bare BadName) ⊎ RefusesNew (λ n. BySession self.now.sender.session)
+        ensures refused { IfErr result (λ r. ((r ≡ bare BadName) × (is_name name.now ≡ false))
+            ⊎ RefusesNew (λ n. BySession self.now.sender.session)
             (λ n. CreateDurable n destination.now name.now (option_copied selector.entry) no_local) r) }
     {
         let destination = destination.copy()?;
@@ -224,7 +225,8 @@ impl<'p, R: Wait + Clock, K: Keep + Drop> Session<'p, R, K> {
     ) -> Result<Consumer<'p, R, K>, Error>
         ensures ok { IfOk result (λ c. (c.0 ≡ self.now.sender.session)
             × Told (BySession c.0) (Ask (CreateShared c.1 destination.now name.now (option_copied selector.entry))) (Ok Done)) }
-        ensures refused { IfErr result (λ r. (r ≡ bare BadName) ⊎ RefusesNew (λ n. BySession self.now.sender.session)
+        ensures refused { IfErr result (λ r. ((r ≡ bare BadName) × (is_name name.now ≡ false))
+            ⊎ RefusesNew (λ n. BySession self.now.sender.session)
             (λ n. CreateShared n destination.now name.now (option_copied selector.entry)) r) }
     {
         let destination = destination.copy()?;
@@ -257,7 +259,8 @@ impl<'p, R: Wait + Clock, K: Keep + Drop> Session<'p, R, K> {
     ) -> Result<Consumer<'p, R, K>, Error>
         ensures ok { IfOk result (λ c. (c.0 ≡ self.now.sender.session)
             × Told (BySession c.0) (Ask (CreateSharedDurable c.1 destination.now name.now (option_copied selector.entry))) (Ok Done)) }
-        ensures refused { IfErr result (λ r. (r ≡ bare BadName) ⊎ RefusesNew (λ n. BySession self.now.sender.session)
+        ensures refused { IfErr result (λ r. ((r ≡ bare BadName) × (is_name name.now ≡ false))
+            ⊎ RefusesNew (λ n. BySession self.now.sender.session)
             (λ n. CreateSharedDurable n destination.now name.now (option_copied selector.entry)) r) }
     {
         let destination = destination.copy()?;
@@ -283,7 +286,8 @@ impl<'p, R: Wait + Clock, K: Keep + Drop> Session<'p, R, K> {
     /// - `SubscriptionInUse`: a consumer of it is open, or a message of it is out.
     /// - `Memory`: a request for memory was refused. `Store`: the keeper failed.
     pub fn unsubscribe(&self, name: &str) -> Result<(), Error>
-        ensures { (result ≡ Err (bare BadName)) ⊎ Answers (BySession self.now.sender.session) (Unsubscribe name.now) result }
+        ensures { ((result ≡ Err (bare BadName)) × (is_name name.now ≡ false))
+            ⊎ Answers (BySession self.now.sender.session) (Unsubscribe name.now) result }
     {
         let name = subscription_named(self.provider.alloc, name)?;
         self.provider

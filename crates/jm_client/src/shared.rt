@@ -2,7 +2,7 @@
 
 ghost use Rattle.std.specs.Prelude.{◌≡◌, ◌+◌, ◌-◌, ◌^◌, false, true, count_by, length, IsTrue, IsErrOf, Err, IfErr, MatchResult};
 ghost use Rattle.jm_client.specs.Told as spec;
-ghost use Rattle.jm_client.specs.Told.{IsOverview, IsRefusedIn, IsToldIn, Receives, Told, is_receipt, message_answer};
+ghost use Rattle.jm_client.specs.Told.{Asks, IsOverview, IsRefusedIn, IsToldIn, Told, is_receipt, message_answer};
 ghost use Rattle.jm_core.specs.Kept.{IsNumberOfMessages};
 ghost use Rattle.jm_core.specs.Provider.{state_of};
 ghost use Rattle.jm_core.specs.Steps.{StepFits};
@@ -115,7 +115,26 @@ fn with_cause(
     }
 }
 
-/// What a receive hands out that was answered so.
+/// In which way a consumer's next message is asked for.
+#[derive(Clone, Copy)]
+pub(crate) enum Way {
+    /// By a receive.
+    Receive,
+    /// By a take, for its listener.
+    Take,
+}
+
+/// The request for the consumer's next message at that moment.
+fn request_of(way: Way, consumer: ConsumerId, now: Moment) -> Request
+    ensures { result ≡ spec.asked way consumer now }
+{
+    match way {
+        Way::Receive => Request::Receive { consumer, now },
+        Way::Take => Request::Take { consumer, now },
+    }
+}
+
+/// What is handed out to a request for a message that was answered so.
 fn handed_out(answer: Answer) -> Option<Delivery>
     requires { is_receipt answer ≡ true }
     ensures { message_answer result ≡ answer }
@@ -188,17 +207,18 @@ impl<K: Keep + Drop> Shared<K> {
     }
 
     /// The next message of the session's consumer at that moment, or none, with the refusals of `apply`.
-    pub(crate) fn receive(
+    pub(crate) fn ask_message(
         &mut self,
+        way: Way,
         session: SessionId,
         consumer: ConsumerId,
         now: Moment,
     ) -> Result<Option<Delivery>, Error>
-        ensures { Receives session consumer result }
+        ensures { Asks way session consumer result }
     {
         let step = Step {
             who: Who::Session(session),
-            call: Call::Ask(Request::Receive { consumer, now }),
+            call: Call::Ask(request_of(way, consumer, now)),
         };
         let answer = self.tell(&step)?;
         Ok(handed_out(answer))

@@ -10,6 +10,6 @@ invariant_of-self g c = ap (λ (s : Sender). s.session) (sender_stays _ _ _ _ _ 
 pub returns : goal.returns
 returns g c = elim c.match-send.branch [
   | in-Ok-Kept w ↦ rw (w.result-is, ← c.self.view_is) (kept_sends c.self.inside.half c.send.new.self c.args.draft _ c.in_ok-now.now _ (rw (w.in-Ok-Kept.field-0-is, c.in_ok-destination.ensures) at w.in-Ok-Kept.ensures))
-  | in-Ok-Publish w ↦ rw (w.result-is, ← c.self.view_is) (published_sends c.self.inside.half c.send.new.self c.args.draft _ c.in_ok-now.now _ _ (rw (w.in-Ok-Publish.field-0-is, c.in_ok-destination.ensures) at w.in-Ok-Publish.ensures) w.publish.ensures)
-  | in-Err w ↦ rw (w.result-is, ← c.self.view_is) (refused_sends c.self.inside.half c.send.new.self c.args.draft _ c.in_ok-now.now _ (rw c.in_ok-destination.ensures at w.in-Err.ensures))
+  | in-Ok-Publish w ↦ rw (w.result-is, ← c.self.view_is) (published_sends c.self.inside.half c.send.new.self c.args.draft _ c.in_ok-now.now _ _ _ (rw (w.in-Ok-Publish.field-0-is, c.in_ok-destination.ensures) at w.in-Ok-Publish.ensures) c.self.invariant w.publish.ensures)
+  | in-Err w ↦ rw (w.result-is, w.new.ensures, ← c.self.view_is) (refused_sends c.self.inside.half c.send.new.self c.args.draft c.args.destination.now c.in_ok-now.now _ (rw c.in_ok-destination.ensures at w.in-Err.ensures))
 ]
