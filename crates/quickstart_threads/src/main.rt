@@ -1,7 +1,7 @@
-//! The second quick start: a thread sends orders to a queue, and another bills them.
+//! The second quick start: a thread sends orders to a queue, and a listener on another bills them.
 #![tactic(auto)]
 
-use jm_client::{Error, Mode, Provider};
+use jm_client::{After, Delivery, Error, Listener, ListenerFault, Mode, Provider};
 use jm_keep::NoKeep;
 use std::alloc::Global;
 use std::sync::Wait;
@@ -23,23 +23,32 @@ fn send_orders<R: Wait + Clock>(provider: &Provider<'_, R, NoKeep>) -> Result<()
     Ok(())
 }
 
-/// Bills each order as it comes; how many were billed.
+/// Bills each order that comes.
+#[derive(Drop)]
+struct Billing {
+    billed: u64,
+}
+
+impl Listener for Billing {
+    fn on_message(&mut self, _order: &Delivery) -> Result<After, ListenerFault> {
+        self.billed = self.billed.saturating_add(1);
+        Ok(After::Go)
+    }
+}
+
+/// Listens until all orders came, or none came for 30 seconds; how many were billed.
 fn bill_orders<R: Wait + Clock>(provider: &Provider<'_, R, NoKeep>) -> Result<u64, Error> {
     let connection = provider.create_connection(None)?;
     connection.start()?;
-    let session = connection.create_session(Mode::Auto)?;
+    let mut session = connection.create_session(Mode::Auto)?;
     let orders = session.create_queue("orders")?;
     let consumer = session.create_consumer(&orders, None, false)?;
-    let mut billed: u64 = 0;
-    for _ in 0..ORDERS {
-        if consumer.receive(Duration::from_secs(30))?.is_some() {
-            billed = billed.saturating_add(1);
-        }
-    }
-    Ok(billed)
+    let mut billing = Billing { billed: 0 };
+    session.listen(&consumer, &mut billing, Duration::from_secs(30), ORDERS)?;
+    Ok(billing.billed)
 }
 
-/// Sends on another thread, and bills on this one.
+/// Sends on another thread, and listens on this one.
 fn both<R: Threads + Wait + Clock + Sync>(
     rt: &R,
     provider: &Provider<'_, R, NoKeep>,

@@ -1,6 +1,9 @@
-//! A thread that sends, and one that receives, through a queue.
+//! A thread that sends, and one whose listener handles what is sent, through a queue.
 
-use jm_client::{Connection, Consumer, Destination, Error, Mode, Provider, Session};
+use crate::desk::{consumer_of, holds, send};
+use jm_client::{
+    After, Connection, Delivery, Error, Listener, ListenerFault, Mode, Provider, Session,
+};
 use jm_keep::{Keep, NoKeep};
 use std::alloc::Global;
 use std::sync::Wait;
@@ -11,27 +14,36 @@ use std::time::{Clock, Duration};
 /// How many messages are sent.
 const MESSAGES: u64 = 200;
 
-/// How long a receive waits at most.
+/// How long a listener waits at most for a message, in seconds.
 const PATIENCE: u64 = 30;
 
-fn send_one<R: Wait + Clock, K: Keep + Drop>(
-    session: &mut Session<'_, R, K>,
-    queue: &Destination,
-) -> Result<(), Error> {
-    let draft = session.create_text_message("work")?;
-    session.send(queue, draft)?;
-    Ok(())
+/// Handles messages that are numbered each one above the one before, and fails with any other.
+#[derive(Drop)]
+struct InOrder {
+    last: u64,
 }
 
-fn send_all<R: Wait + Clock, K: Keep + Drop>(mut session: Session<'_, R, K>) -> Result<(), Error> {
-    let queue = session.create_queue("q")?;
-    for _ in 0..MESSAGES {
-        send_one(&mut session, &queue)?;
+impl Listener for InOrder {
+    fn on_message(&mut self, delivery: &Delivery) -> Result<After, ListenerFault> {
+        let number = delivery.message.number();
+        if number.checked_sub(1) == Some(self.last) {
+            self.last = number;
+            Ok(After::Go)
+        } else {
+            Err(ListenerFault)
+        }
     }
-    Ok(())
 }
 
-/// A session of a connection of its own.
+/// Sends all messages; whether that was accepted.
+fn sends<R: Wait + Clock, K: Keep + Drop>(provider: &Provider<'_, R, K>) -> bool {
+    match provider.create_connection(None) {
+        Ok(connection) => send(&connection, MESSAGES).is_ok(),
+        Err(_) => false,
+    }
+}
+
+/// A session of a connection that is started.
 fn open_session<'p, R: Wait + Clock, K: Keep + Drop>(
     connection: &Connection<'p, R, K>,
 ) -> Result<Session<'p, R, K>, Error> {
@@ -39,75 +51,44 @@ fn open_session<'p, R: Wait + Clock, K: Keep + Drop>(
     connection.create_session(Mode::Auto)
 }
 
-/// Sends all messages; whether that was accepted.
-fn sends<R: Wait + Clock, K: Keep + Drop>(provider: &Provider<'_, R, K>) -> bool {
+/// How many deliveries the session's listener handled, and the number of the last message that came in order.
+fn handled<R: Wait + Clock, K: Keep + Drop>(
+    session: &mut Session<'_, R, K>,
+) -> Result<(u64, u64), Error> {
+    let consumer = consumer_of(session)?;
+    let mut listener = InOrder { last: 0 };
+    let patience = Duration::from_secs(PATIENCE);
+    let deliveries = session.listen(&consumer, &mut listener, patience, MESSAGES)?;
+    Ok((deliveries, listener.last))
+}
+
+/// The same of a new connection; none where a call was refused.
+fn listens<R: Wait + Clock, K: Keep + Drop>(provider: &Provider<'_, R, K>) -> Option<(u64, u64)> {
     match provider.create_connection(None) {
         Ok(connection) => match open_session(&connection) {
-            Ok(session) => send_all(session).is_ok(),
-            Err(_) => false,
+            Ok(mut session) => handled(&mut session).ok(),
+            Err(_) => None,
         },
-        Err(_) => false,
+        Err(_) => None,
     }
 }
 
-/// The number of the next message; none where none came.
-fn next_number<R: Wait + Clock, K: Keep + Drop>(consumer: &Consumer<'_, R, K>) -> Option<u64> {
-    match consumer.receive(Duration::from_secs(PATIENCE)) {
-        Ok(Some(delivery)) => Some(delivery.message.number()),
-        Ok(None) | Err(_) => None,
-    }
-}
-
-/// How many messages come, each numbered one above the one before.
-fn numbered<R: Wait + Clock, K: Keep + Drop>(consumer: &Consumer<'_, R, K>) -> u64 {
-    let mut last = 0;
-    for _ in 0..MESSAGES {
-        match next_number(consumer) {
-            Some(number) if number.checked_sub(1) == Some(last) => last = number,
-            Some(_) | None => return last,
-        }
-    }
-    last
-}
-
-/// How many messages the session receives so.
-fn receive_all<R: Wait + Clock, K: Keep + Drop>(session: &Session<'_, R, K>) -> Result<u64, Error> {
-    let queue = session.create_queue("q")?;
-    let consumer = session.create_consumer(&queue, None, false)?;
-    Ok(numbered(&consumer))
-}
-
-/// How many messages come so.
-fn receives<R: Wait + Clock, K: Keep + Drop>(provider: &Provider<'_, R, K>) -> u64 {
-    match provider.create_connection(None) {
-        Ok(connection) => match open_session(&connection) {
-            Ok(session) => match receive_all(&session) {
-                Ok(received) => received,
-                Err(_) => 0,
-            },
-            Err(_) => 0,
-        },
-        Err(_) => 0,
-    }
-}
-
-/// Sends on another thread, and receives on this one.
+/// Sends on another thread, and listens on this one.
 fn both<R: Threads + Wait + Clock + Sync>(
     rt: &R,
     provider: &Provider<'_, R, NoKeep>,
-) -> (bool, u64) {
-    thread::join(rt, || sends(provider), || receives(provider))
+) -> (bool, Option<(u64, u64)>) {
+    thread::join(rt, || sends(provider), || listens(provider))
 }
 
 /// The same over a new provider.
-fn both_over<R: Threads + Wait + Clock + Sync>(rt: &R, alloc: Global) -> (bool, u64) {
+fn both_over<R: Threads + Wait + Clock + Sync>(rt: &R, alloc: Global) -> bool {
     let provider = Provider::in_memory(rt, alloc);
-    both(rt, &provider)
+    both(rt, &provider) == (true, Some((MESSAGES, MESSAGES)))
 }
 
 #[test]
-fn one_thread_receives_what_another_sends(rt: HostRuntime) {
-    let (is_sent, received) = both_over(&rt, rt.alloc());
-    assert!(&rt; is_sent);
-    assert_eq!(&rt; received, MESSAGES);
+fn a_listener_handles_what_another_thread_sends(rt: HostRuntime) {
+    let handled = both_over(&rt, rt.alloc());
+    holds(&rt, "all messages in order", handled);
 }
