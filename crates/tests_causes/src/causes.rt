@@ -1,12 +1,19 @@
 //! Each cause that a client can bring about, and the call that goes through once it is gone.
 
 use crate::desk::right_in_memory;
+use crate::meanwhile::Meanwhile;
 use crate::op::{At, Kind, Op, Row, Told};
 use jm_client::{Mode, Refusal, Why};
 
 const CONNECTION_NOT_OPEN: Told = Told::Because(Refusal::IllegalState, Why::ConnectionNotOpen);
 
 const SESSION_NOT_OPEN: Told = Told::Because(Refusal::IllegalState, Why::SessionNotOpen);
+
+const CONSUMER_NOT_OPEN: Told = Told::Because(Refusal::IllegalState, Why::ConsumerNotOpen);
+
+const LISTENING: Told = Told::Because(Refusal::IllegalState, Why::Listening);
+
+const BUSY: Told = Told::Because(Refusal::IllegalState, Why::Busy);
 
 const NO_CLIENT: Told = Told::Because(Refusal::IllegalState, Why::NoClient);
 
@@ -147,6 +154,30 @@ static OUT: [Row; 24] = [
     (Op::Receive(3), Told::Nothing),
 ];
 
+/// A session listens to another's consumer; and a listener has a message while its consumer is called, and once it has none.
+static LISTENERS: [Row; 17] = [
+    (Op::Connect(None), Told::Done),
+    (Op::Start(0), Told::Done),
+    (Op::Session(0, Mode::Auto), Told::Done),
+    (Op::Session(0, Mode::Auto), Told::Done),
+    (Op::Consumer(0, Kind::Plain, Q), Told::Done),
+    (Op::Listen(1, 0, Meanwhile::Nothing), CONSUMER_NOT_OPEN),
+    (Op::Listen(0, 0, Meanwhile::Nothing), Told::Nothing),
+    (Op::Send(1, Q), Told::Done),
+    (Op::Listen(0, 0, Meanwhile::Receive), LISTENING),
+    (
+        Op::Says("IllegalState: the consumer listens: take its listener away before a receive"),
+        Told::Done,
+    ),
+    (Op::Receive(0), Told::Nothing),
+    (Op::Send(1, Q), Told::Done),
+    (Op::Listen(0, 0, Meanwhile::Listen), BUSY),
+    (Op::Listen(0, 0, Meanwhile::Listen), Told::Nothing),
+    (Op::Send(1, Q), Told::Done),
+    (Op::Listen(0, 0, Meanwhile::Nothing), Told::Done),
+    (Op::Receive(0), Told::Nothing),
+];
+
 #[test]
 fn each_cause(rt: HostRuntime) {
     let runs = [
@@ -154,6 +185,7 @@ fn each_cause(rt: HostRuntime) {
         MODES.as_slice(),
         CONSUMERS.as_slice(),
         OUT.as_slice(),
+        LISTENERS.as_slice(),
     ];
     for rows in &runs {
         let right = right_in_memory(&rt, rt.alloc(), rows);

@@ -1,5 +1,6 @@
 //! A client of a provider, who makes calls in few words.
 
+use crate::meanwhile::{Meanwhile, listened};
 use crate::op::{At, Kind, Op, Row, Told, done, told_by};
 use crate::watch::Watch;
 use jm_client::{Connection, Consumer, Delivery, Destination, Error, Provider, Session};
@@ -134,6 +135,17 @@ impl<'p, R: Wait + Drop> Desk<'p, R> {
         }
     }
 
+    /// The session listens to the consumer.
+    fn listen(&mut self, at: usize, to: usize, meanwhile: Meanwhile) -> Reply {
+        let session = part(&mut self.sessions, at)?;
+        let consumer = part(&mut self.consumers, to)?;
+        match listened(session, consumer, meanwhile) {
+            Ok(0) => Some(Ok(Told::Nothing)),
+            Ok(_) => Some(Ok(Told::Done)),
+            Err(error) => Some(Err(error)),
+        }
+    }
+
     fn reply(&mut self, op: Op) -> Reply {
         match op {
             Op::Connect(client) => {
@@ -148,6 +160,7 @@ impl<'p, R: Wait + Drop> Desk<'p, R> {
             Op::Receive(at) | Op::Read(at) | Op::Write(at) | Op::Missed(at) => {
                 self.by_consumer(at, op)
             }
+            Op::Listen(at, to, meanwhile) => self.listen(at, to, meanwhile),
             Op::Consumer(at, _, _)
             | Op::Unsubscribe(at, _)
             | Op::Send(at, _)

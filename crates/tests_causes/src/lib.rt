@@ -4,9 +4,8 @@
 //! By the provider's objects no client can bring about these causes, which `tests_explain` brings about over a core:
 //!
 //! - `NumberUsed`: the provider gives the numbers of connections, sessions and consumers, each once.
-//! - `ConsumerNotOpen`: a consumer is gone as it is closed. One that is still there was closed with its session or with its
-//!   connection, which is the cause then.
-//! - `Listening`, `NotListening`, `Busy`, `NotBusy`: no object sets a listener.
+//! - `NotListening`, `NotBusy`: a session that listens sets the listener before it asks for a message, and ends the delivery
+//!   of one that came.
 //! - `ForeignStamp`: what is sent is a draft, which the session that sends it stamps.
 //! - `OtherCaller`: a connection makes a connection's calls alone, and a session and its consumers a session's.
 #![tactic(auto)]
@@ -17,6 +16,8 @@ mod bare;
 mod causes;
 #[cfg(test)]
 mod desk;
+#[cfg(test)]
+mod meanwhile;
 #[cfg(test)]
 mod op;
 #[cfg(test)]

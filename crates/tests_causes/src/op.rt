@@ -1,5 +1,6 @@
 //! Calls in few words, and what they are told. Connections, sessions and consumers are named by their order, from 0.
 
+use crate::meanwhile::Meanwhile;
 use jm_client::{Error, Mode, Refusal, Why};
 
 /// Where a consumer receives from, and where a message is sent to.
@@ -42,6 +43,8 @@ pub(crate) enum Op {
     /// The same, and writes a text into the message.
     Write(usize),
     Missed(usize),
+    /// The session listens to the consumer, for one message at most, with no wait; and what its listener calls.
+    Listen(usize, usize, Meanwhile),
     /// Drops it, which closes it; and so the others.
     CloseConnection(usize),
     CloseSession(usize),
