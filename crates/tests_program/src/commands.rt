@@ -1,12 +1,10 @@
 //! The commands over readers and writers, also such as fail.
 
 use crate::told::{holds, is_text};
-use jm_runner::{Databases, Ending, Fault, Sink, Source, lone, perform, pick, play};
-use jm_words::read_words;
-use sqlite::{Connection, Error, ErrorCode, MemStore};
+use jm_runner::{Ending, Fault, Sink, Source, lone, pick, play};
 use std::alloc::{AllocError, Global};
+use std::io;
 use std::io::{Read, Write};
-use std::{io, str};
 
 /// What is done with a scenario.
 #[derive(Clone, Copy)]
@@ -35,7 +33,7 @@ fn done<R: Read, W: Write>(
     }
 }
 
-const SCENARIO: &str = r#"{"calls": [
+pub(crate) const SCENARIO: &str = r#"{"calls": [
   {"op": "open", "c": 1},
   {"op": "session", "s": [1, 1], "mode": "auto"},
   {"op": "consumer", "s": [1, 1], "k": 1, "topic": "t"},
@@ -45,7 +43,7 @@ const SCENARIO: &str = r#"{"calls": [
   {"op": "receive", "s": [1, 1], "k": 1, "now": 1000}
 ]}"#;
 
-const LINES: &str = "1 ok
+pub(crate) const LINES: &str = "1 ok
 2 ok
 3 ok
 4 ok
@@ -54,7 +52,7 @@ const LINES: &str = "1 ok
 7 none
 ";
 
-const LINES_ALONE: &str = "3 ok
+pub(crate) const LINES_ALONE: &str = "3 ok
 6 message ID:1-1.1.1 count=1 redelivered=no priority=4 body=text \"a\"
 7 none
 ";
@@ -81,7 +79,7 @@ fn lines_of_commands(rt: HostRuntime) {
 
 /// A scenario in which a consumer of a queue has the number 1, and one of a topic the number 2, which was first asked for
 /// one of a queue.
-const QUEUES: &str = r#"{"calls": [
+pub(crate) const QUEUES: &str = r#"{"calls": [
   {"op": "open", "c": 1, "client": "k"},
   {"op": "session", "s": [1, 1], "mode": "auto"},
   {"op": "consumer", "s": [1, 1], "k": 1, "queue": "q"},
@@ -93,20 +91,9 @@ const QUEUES: &str = r#"{"calls": [
   {"op": "receive", "s": [1, 1], "k": 1, "now": 1000}
 ]}"#;
 
-const QUEUE_LINES: &str = "1 ok
-2 ok
-3 ok
-4 refused InvalidSelector Expected 4
-5 ok
-6 sent 1
-7 ok
-8 none
-9 message ID:1-1.1.1 count=1 redelivered=no priority=4 body=text \"a\"
-";
-
 /// A scenario in which the client k has an unshared durable subscription n, which it deletes, and a shared one m, beside a
 /// shared non-durable one n.
-const NAMES: &str = r#"{"calls": [
+pub(crate) const NAMES: &str = r#"{"calls": [
   {"op": "open", "c": 1, "client": "k"},
   {"op": "session", "s": [1, 1], "mode": "auto"},
   {"op": "durable", "s": [1, 1], "k": 1, "topic": "t", "name": "n"},
@@ -120,28 +107,6 @@ const NAMES: &str = r#"{"calls": [
   {"op": "unsubscribe", "s": [1, 1], "name": "n"},
   {"op": "unsubscribe", "s": [1, 1], "name": "n"}
 ]}"#;
-
-const NAMES_LINES: &str = "1 ok
-2 ok
-3 ok
-4 ok
-5 ok
-6 refused SubscriptionInUse
-7 sent 1
-8 ok
-9 message ID:1-1.1.1 count=1 redelivered=no priority=4 body=text \"a\"
-10 ok
-11 ok
-12 refused InvalidDestination
-";
-
-const DURABLE_ALONE: &str = "3 ok
-6 refused SubscriptionInUse
-9 message ID:1-1.1.1 count=1 redelivered=no priority=4 body=text \"a\"
-10 ok
-11 ok
-12 refused InvalidDestination
-";
 
 /// Commands, scenarios, and what is told of the first fault.
 static FAULTS: [(Command, &str, &str); 13] = [
@@ -328,88 +293,5 @@ fn failing_writes(rt: HostRuntime) {
             "room and no flush",
             written(rt.alloc(), *command, 1_000, true) == (1, true, false),
         );
-    }
-}
-
-/// A scenario that lets a subscription hold one row.
-const LIMITED: &str = r#"{"held": 1, "calls": [
-  {"op": "open", "c": 1},
-  {"op": "session", "s": [1, 1], "mode": "client"},
-  {"op": "consumer", "s": [1, 1], "k": 1, "topic": "t"},
-  {"op": "send", "s": [1, 1], "topic": "t", "now": 1000, "text": "a"},
-  {"op": "send", "s": [1, 1], "topic": "t", "now": 1000, "text": "b"},
-  {"op": "missed", "s": [1, 1], "k": 1}
-]}"#;
-
-/// Words with `|` between them, the scenario, and the lines that are printed.
-static PERFORMED: [(&str, &str, &str); 15] = [
-    ("jmsrun", SCENARIO, LINES),
-    ("jmsrun|run|f", SCENARIO, LINES),
-    ("jmsrun|run|f|--db|d", SCENARIO, "a fault"),
-    ("jmsrun|select|x = 1|f", SCENARIO, "5 TRUE\n"),
-    ("jmsrun|lone|f|{\"own\":[1,1,1]}", SCENARIO, LINES_ALONE),
-    (
-        "jmsrun",
-        LIMITED,
-        "1 ok\n2 ok\n3 ok\n4 sent 1\n5 sent 2\n6 missed 1\n",
-    ),
-    (
-        "jmsrun|run|f",
-        LIMITED,
-        "1 ok\n2 ok\n3 ok\n4 sent 1\n5 sent 2\n6 missed 1\n",
-    ),
-    (
-        "jmsrun|run|f|--held|2",
-        LIMITED,
-        "1 ok\n2 ok\n3 ok\n4 sent 1\n5 sent 2\n6 missed 0\n",
-    ),
-    (
-        "jmsrun|lone|f|{\"own\":[1,1,1]}",
-        LIMITED,
-        "3 ok\n6 missed 1\n",
-    ),
-    ("jmsrun|select|x = 1|f", LIMITED, "4 UNKNOWN\n5 UNKNOWN\n"),
-    ("jmsrun", QUEUES, QUEUE_LINES),
-    ("jmsrun|select|x = 1|f", QUEUES, "6 TRUE\n"),
-    ("jmsrun", NAMES, NAMES_LINES),
-    (
-        "jmsrun|lone|f|{\"durable\":[\"k\",\"n\"]}",
-        NAMES,
-        DURABLE_ALONE,
-    ),
-    ("jmsrun|lone|f|{\"durable\":[\"k\",\"n\"]}", SCENARIO, ""),
-];
-
-/// No databases: none can be opened.
-struct NoDatabases;
-
-impl Databases<MemStore> for NoDatabases {
-    fn connect(&self, _name: &str) -> Result<Connection<MemStore>, Error> {
-        Err(Error::SqliteFailure(ErrorCode::CannotOpen))
-    }
-}
-
-/// What is printed for the words that stand between the marks; of words that are refused, and of a fault, so much.
-fn performed(alloc: Global, line: &str, scenario: &str) -> Result<String, AllocError> {
-    let words: Vec<&str> = line.split('|').collect(alloc)?;
-    let Ok(words) = read_words(alloc, &words) else {
-        return String::from_str(alloc, "refused words");
-    };
-    let mut written = Vec::new(alloc);
-    let mut source = Source::new(Ok(scenario.as_bytes()));
-    let ending = {
-        let mut sink = Sink::new(&mut written);
-        perform(alloc, &words, &NoDatabases, &mut source, &mut sink)
-    };
-    if ending.status != 0 || ending.fault.is_some() {
-        return String::from_str(alloc, "a fault");
-    }
-    String::from_str(alloc, str::from_utf8(&written).unwrap_or("no text"))
-}
-
-#[test]
-fn words_are_performed(rt: HostRuntime) {
-    for (line, scenario, wanted) in &PERFORMED {
-        is_text(&rt, wanted, performed(rt.alloc(), line, scenario));
     }
 }

@@ -12,6 +12,8 @@ mod keys;
 #[cfg(test)]
 mod lines;
 #[cfg(test)]
+mod program;
+#[cfg(test)]
 mod scenarios;
 #[cfg(test)]
 mod told;

@@ -29,33 +29,53 @@ fn read(alloc: Global, words: &[&str]) -> Result<String, AllocError> {
 }
 
 /// Words after the program's name, with `|` between them, and what they are read as.
-static WORDS: [(&str, &str); 26] = [
+static WORDS: [(&str, &str); 34] = [
     ("jmsrun", "Input"),
-    ("jmsrun|run|F", "Run { file: \"F\", db: None, held: None }"),
+    (
+        "jmsrun|run|F",
+        "Run { file: \"F\", db: None, threads: false, held: None }",
+    ),
     (
         "jmsrun|run|--|-F",
-        "Run { file: \"-F\", db: None, held: None }",
+        "Run { file: \"-F\", db: None, threads: false, held: None }",
     ),
     (
         "jmsrun|run|F|--held|1",
-        "Run { file: \"F\", db: None, held: Some(1) }",
+        "Run { file: \"F\", db: None, threads: false, held: Some(1) }",
     ),
     (
         "jmsrun|run|--held=1000000|F",
-        "Run { file: \"F\", db: None, held: Some(1000000) }",
+        "Run { file: \"F\", db: None, threads: false, held: Some(1000000) }",
     ),
     (
         "jmsrun|run|F|--held|+7",
-        "Run { file: \"F\", db: None, held: Some(7) }",
+        "Run { file: \"F\", db: None, threads: false, held: Some(7) }",
     ),
     (
         "jmsrun|run|F|--db|D",
-        "Run { file: \"F\", db: Some(\"D\"), held: None }",
+        "Run { file: \"F\", db: Some(\"D\"), threads: false, held: None }",
     ),
     (
         "jmsrun|run|--db=D|--held|7|F",
-        "Run { file: \"F\", db: Some(\"D\"), held: Some(7) }",
+        "Run { file: \"F\", db: Some(\"D\"), threads: false, held: Some(7) }",
     ),
+    (
+        "jmsrun|run|F|--threads",
+        "Run { file: \"F\", db: None, threads: true, held: None }",
+    ),
+    (
+        "jmsrun|run|--threads|F",
+        "Run { file: \"F\", db: None, threads: true, held: None }",
+    ),
+    (
+        "jmsrun|run|--threads|--db|D|F|--held=7",
+        "Run { file: \"F\", db: Some(\"D\"), threads: true, held: Some(7) }",
+    ),
+    ("jmsrun|run|F|--threads|--threads", "error 2"),
+    ("jmsrun|run|F|--threads=yes", "error 2"),
+    ("jmsrun|--threads", "error 2"),
+    ("jmsrun|select|A|F|--threads", "error 2"),
+    ("jmsrun|lone|F|K|--threads", "error 2"),
     ("jmsrun|run|F|--db", "error 2"),
     ("jmsrun|select|A|F|--db|D", "error 2"),
     ("jmsrun|run|F|--held|0", "error 2"),

@@ -1,9 +1,15 @@
 //! Runs of a scenario over the store of a connection.
 
-use jm_runner::{Ending, Fault, Played, Sink, Source, play_stored};
+ghost use Rattle.std.specs.Prelude.{◌≡◌};
+
+use jm_runner::{Ending, Fault, PARTS, Played, Sink, Source, play_stored, play_stored_on_threads};
 use jm_store::Left;
 use sqlite::{Alter, Connection};
 use std::alloc::{AllocError, Global};
+use std::marker::Brand;
+use std::sync::Wait;
+use std::sync::ledger::Blank;
+use std::thread::Threads;
 
 /// A run, and what it ends with.
 pub(crate) struct Run {
@@ -66,13 +72,38 @@ fn printed<S: Alter + Drop>(
     Some((ending, printed, left))
 }
 
-/// Runs the scenario over the store of the connection, and hands it back where the run ends as it should.
-fn one_played<S: Alter + Drop>(
+/// The same, where its sessions call on threads of their own.
+fn printed_on_threads<S: Alter + Drop + Send, T: Threads + Wait + Sync>(
+    rt: &T,
     alloc: Global,
     conn: Connection<S>,
+    scenario: &'static str,
+) -> Option<(Ending, Vec<u8>, Left<S>)> {
+    if !conn.is_autocommit() {
+        return None;
+    }
+    let blank = Blank::new(PARTS);
+    let mut printed = Vec::new(alloc);
+    let mut source = Source::new(Ok(scenario.as_bytes()));
+    let Played { ending, left } = play_stored_on_threads::<S, Brand, _, _, T>(
+        rt,
+        alloc,
+        blank,
+        None,
+        conn,
+        &mut source,
+        &mut Sink::new(&mut printed),
+    );
+    Some((ending, printed, left))
+}
+
+/// The connection that is left of a run, where it ended as it should.
+fn left_of<S: Alter + Drop>(
+    alloc: Global,
+    ended: (Ending, Vec<u8>, Left<S>),
     run: &Run,
 ) -> Option<Connection<S>> {
-    let (ending, printed, left) = printed(alloc, conn, run.scenario)?;
+    let (ending, printed, left) = ended;
     if is_ended(alloc, &ending, &printed, run) {
         connection_left(left)
     } else {
@@ -87,7 +118,22 @@ pub(crate) fn all_played<S: Alter + Drop>(
     runs: &[Run],
 ) -> Option<Connection<S>> {
     for run in runs {
-        conn = one_played(alloc, conn, run)?;
+        let ended = printed(alloc, conn, run.scenario)?;
+        conn = left_of(alloc, ended, run)?;
+    }
+    Some(conn)
+}
+
+/// The same, where their sessions call on threads of their own.
+pub(crate) fn all_played_on_threads<S: Alter + Drop + Send, T: Threads + Wait + Sync>(
+    rt: &T,
+    alloc: Global,
+    mut conn: Connection<S>,
+    runs: &[Run],
+) -> Option<Connection<S>> {
+    for run in runs {
+        let ended = printed_on_threads(rt, alloc, conn, run.scenario)?;
+        conn = left_of(alloc, ended, run)?;
     }
     Some(conn)
 }

@@ -1,10 +1,15 @@
 //! Databases, the runs over each, and what stands in meta then.
 
-use crate::played::{Run, all_played};
-use crate::scenarios::{FIRST, FIRST_LINES, FULL, FULL_LINES, NONE, SECOND, SECOND_LINES};
+use crate::played::{Run, all_played, all_played_on_threads};
+use crate::scenarios::{
+    FIRST, FIRST_LINES, FORKED, FORKED_LINES, FULL, FULL_LINES, JOINED, JOINED_LINES, NONE, SECOND,
+    SECOND_LINES,
+};
 use crate::told::holds;
 use sqlite::{Alter, Connection};
 use std::alloc::Global;
+use std::sync::Wait;
+use std::thread::Threads;
 use tests_databases::{META, Part, is_shown, made};
 
 /// A database, the runs over it in turn, and the rows of meta then.
@@ -31,7 +36,7 @@ const HI: Part = Part::Sql(
     "INSERT INTO message VALUES (1, x'01000000010000000100000001000000000000000100000000000003e80000000000000000010401000000000000000174000001000000000000000268690000000000000001000000000000000178050000000000000001')",
 );
 
-static STORES: [Store; 14] = [
+static STORES: [Store; 15] = [
     Store {
         what: "a new store, and the same again",
         parts: &[],
@@ -45,6 +50,23 @@ static STORES: [Store; 14] = [
                 scenario: SECOND,
                 status: 0,
                 told: SECOND_LINES,
+            },
+        ],
+        last: &["1|2|2"],
+    },
+    Store {
+        what: "two sessions that call at once, and again",
+        parts: &[],
+        runs: &[
+            Run {
+                scenario: FORKED,
+                status: 0,
+                told: FORKED_LINES,
+            },
+            Run {
+                scenario: JOINED,
+                status: 0,
+                told: JOINED_LINES,
             },
         ],
         last: &["1|2|2"],
@@ -240,9 +262,29 @@ fn is_left<S: Alter + Drop>(alloc: Global, conn: Connection<S>, store: &Store) -
     }
 }
 
+/// The same of runs on threads.
+fn is_left_by_threads<S: Alter + Drop + Send, T: Threads + Wait + Sync>(
+    rt: &T,
+    alloc: Global,
+    conn: Connection<S>,
+    store: &Store,
+) -> bool {
+    match all_played_on_threads(rt, alloc, conn, store.runs) {
+        Some(mut conn) => is_shown(&mut conn, META, store.last),
+        None => false,
+    }
+}
+
 fn passes(alloc: Global, store: &Store) -> bool {
     match made(alloc, store.parts) {
         Some(conn) => is_left(alloc, conn, store),
+        None => false,
+    }
+}
+
+fn passes_on_threads<T: Threads + Wait + Sync>(rt: &T, alloc: Global, store: &Store) -> bool {
+    match made(alloc, store.parts) {
+        Some(conn) => is_left_by_threads(rt, alloc, conn, store),
         None => false,
     }
 }
@@ -251,6 +293,14 @@ fn passes(alloc: Global, store: &Store) -> bool {
 fn runs_over_stores(rt: HostRuntime) {
     for store in &STORES {
         let passes = passes(rt.alloc(), store);
+        holds(&rt, store.what, passes);
+    }
+}
+
+#[test]
+fn runs_on_threads_over_stores(rt: HostRuntime) {
+    for store in &STORES {
+        let passes = passes_on_threads(&rt, rt.alloc(), store);
         holds(&rt, store.what, passes);
     }
 }

@@ -5,7 +5,7 @@ use crate::turns::{Run, Turn, calls_of, made_before};
 use jm_core::Core;
 use jm_keep::Keep;
 use jm_kept::run;
-use jm_store::{Left, Reopened, open};
+use jm_store::{Left, Reopened, close, open};
 use sqlite::{Alter, Connection};
 use std::alloc::Global;
 
@@ -73,7 +73,7 @@ fn is_core_of(core: &Core, opening: u32, tables: &Tables) -> bool {
 fn is_of<S: Alter + Drop>(reopened: Reopened<S>, opening: u32, tables: &Tables) -> bool {
     let Reopened { store, core } = reopened;
     let is_core = is_core_of(&core, opening, tables);
-    let mut conn = store.into_connection();
+    let mut conn = close(store);
     is_core && tables.hold_state(&mut conn)
 }
 

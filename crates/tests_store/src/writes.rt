@@ -1,10 +1,12 @@
 //! What rows stand after a list of changes, and after the store was opened again.
 
+ghost use Rattle.std.specs.Prelude.{◌≡◌, false, IfSome};
+
 use crate::told::holds;
-use jm_keep::{Keep, RowChange, StoreFault};
+use jm_keep::{RowChange, StoreFault};
 use jm_opening::open;
-use jm_writes::Store;
-use sqlite::{Alter, Connection, MemStore};
+use jm_writes::write;
+use sqlite::{Alter, Connection, Error, ErrorCode, MemStore};
 use std::alloc::Global;
 use tests_databases::{
     Asks, Change, DELAYED, HELD, MESSAGE, META, Of, Part, STATION, changes, is_shown, made,
@@ -302,7 +304,7 @@ static WRITTEN: [Write; 22] = [
 ];
 
 /// What is refused, each after a change that is undone with it.
-static REFUSED: [Write; 22] = [
+static REFUSED: [Write; 25] = [
     Write {
         what: "a subscription that stands",
         changes: &[
@@ -408,6 +410,33 @@ static REFUSED: [Write; 22] = [
     Write {
         what: "a second delivery time",
         changes: &[Change::SetCount(Q, 5, 3), Change::PutDelay(8, 1500)],
+        fault: Some(StoreFault::Device),
+        tables: &[],
+    },
+    Write {
+        what: "an unshared subscription of no client",
+        changes: &[
+            Change::SetCount(Q, 5, 3),
+            Change::PutStation(Of::Durable(None, "m"), Some(Asks("t", None, false, false))),
+        ],
+        fault: Some(StoreFault::Device),
+        tables: &[],
+    },
+    Write {
+        what: "a shared subscription with noLocal",
+        changes: &[
+            Change::SetCount(Q, 5, 3),
+            Change::PutStation(NEW, Some(Asks("t", None, true, true))),
+        ],
+        fault: Some(StoreFault::Device),
+        tables: &[],
+    },
+    Write {
+        what: "a count past the greatest",
+        changes: &[
+            Change::SetCount(Q, 5, 3),
+            Change::SetCount(Q, 5, 2_147_483_648),
+        ],
         fault: Some(StoreFault::Device),
         tables: &[],
     },
@@ -524,55 +553,74 @@ fn stand<S: Alter>(conn: &mut Connection<S>, tables: &[Table], last: &str) -> bo
     is_shown(conn, META, &[last]) && are_tables(conn, tables) && are_others(conn, tables)
 }
 
-/// The store of the connection, opened.
-fn stored(alloc: Global, conn: Connection<MemStore>) -> Option<Store<MemStore>> {
+/// The database of the connection, opened.
+fn opened(alloc: Global, conn: Connection<MemStore>) -> Option<Connection<MemStore>>
+    ensures { IfSome result (λ conn. conn.in_transaction ≡ false) }
+{
     match open(alloc, conn) {
-        Ok(opened) => Some(Store::over(opened.conn)),
+        Ok(opened) => Some(opened.conn),
         Err(_) => None,
     }
 }
 
-/// The store that the parts make.
-fn made_before(alloc: Global) -> Option<Store<MemStore>> {
+/// The database that the parts make, opened.
+fn made_before(alloc: Global) -> Option<Connection<MemStore>>
+    ensures { IfSome result (λ conn. conn.in_transaction ≡ false) }
+{
     match made(alloc, &BEFORE) {
-        Some(conn) => stored(alloc, conn),
+        Some(conn) => opened(alloc, conn),
         None => None,
     }
 }
 
-/// Whether the store is told that of the changes.
-fn is_told<K: Keep>(keeper: &mut K, changes: &[RowChange], fault: Option<StoreFault>) -> bool {
-    match keeper.write(changes) {
-        Ok(()) => fault.is_none(),
-        Err(told) => fault == Some(told),
+/// The error as a store tells it.
+fn fault_of(error: &Error) -> StoreFault {
+    match error {
+        Error::SqliteFailure(ErrorCode::OutOfMemory) => StoreFault::Memory,
+        _ => StoreFault::Device,
     }
 }
 
-fn is_written<K: Keep>(alloc: Global, keeper: &mut K, row: &Write) -> bool {
+/// Whether that is told of the changes.
+fn is_told(
+    conn: &mut Connection<MemStore>,
+    changes: &[RowChange],
+    fault: Option<StoreFault>,
+) -> bool
+    requires { conn.old.in_transaction ≡ false }
+{
+    match write(conn, changes) {
+        Ok(()) => fault.is_none(),
+        Err(error) => fault == Some(fault_of(&error)),
+    }
+}
+
+fn is_written(alloc: Global, conn: &mut Connection<MemStore>, row: &Write) -> bool
+    requires { conn.old.in_transaction ≡ false }
+{
     match changes(alloc, row.changes) {
-        Ok(changes) => is_told(keeper, &changes, row.fault),
+        Ok(changes) => is_told(conn, &changes, row.fault),
         Err(_) => false,
     }
 }
 
-/// Whether those tables stand in the store, and also once it was opened again.
-fn are_left(alloc: Global, store: Store<MemStore>, tables: &[Table]) -> bool {
-    let mut conn = store.into_connection();
+/// Whether those tables stand in the database, and also once it was opened again.
+fn are_left(alloc: Global, mut conn: Connection<MemStore>, tables: &[Table]) -> bool {
     if !stand(&mut conn, tables, "1|2|5") {
         return false;
     }
-    match stored(alloc, conn) {
-        Some(store) => stand(&mut store.into_connection(), tables, "1|2|6"),
+    match opened(alloc, conn) {
+        Some(mut conn) => stand(&mut conn, tables, "1|2|6"),
         None => false,
     }
 }
 
-/// Whether the changes are told what they should be, over the store before, and leave what they should.
+/// Whether the changes are told what they should be, over what stood before, and leave what they should.
 fn passes(alloc: Global, row: &Write) -> bool {
     match made_before(alloc) {
-        Some(mut store) => {
-            let is_written = is_written(alloc, &mut store, row);
-            let are_left = are_left(alloc, store, row.tables);
+        Some(mut conn) => {
+            let is_written = is_written(alloc, &mut conn, row);
+            let are_left = are_left(alloc, conn, row.tables);
             is_written && are_left
         }
         None => false,
