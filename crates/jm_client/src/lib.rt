@@ -15,8 +15,8 @@
 //! names is accepted, a commit of all that waits; and it is taken away. A refusal is that of the first call that is refused;
 //! that the listener is taken away after one is only tested.
 //!
-//! `overview` tells how many connections and sessions are open, and how many subscriptions there are; its other
-//! numbers have no clause. Of waiting nothing is said.
+//! `overview` tells how many connections and sessions are open, how many subscriptions there are, and how many messages these
+//! and the queues hold, in one state that the provider reaches (`IsOverview`). Of waiting nothing is said.
 //!
 //! A refusal is told as an `Error`, which contracts see as the refusal and its cause. Of an `IllegalState` or a
 //! `SubscriptionInUse` that the machine replies, `Error::cause` is exactly `why` (`jm_why`) of the state in which the call
