@@ -13,8 +13,8 @@
 //! `play`, or where the words name a store, the database of that name is opened first, which is told as a fault where
 //! that fails, with nothing read or written (`IsUnopened`), and then it is `play_stored` over a connection that this
 //! name opens (`IsStored`). Where the words ask for threads it is `play_on_threads`, or `play_stored_on_threads`
-//! (`IsStoredOnThreads`); and else no thread is started. Which name opens what is said by the databases (`opens` of
-//! `Databases`).
+//! (`IsStoredOnThreads`); and else what is called is not handed the runtime, so that it starts no thread. Which name opens
+//! what is said by the databases (`opens` of `Databases`).
 //!
 //! It asks nothing of the words but that a limit of held rows is one, and of the blank that its ledger has `PARTS`
 //! parts. `run_program` is the whole program over a runtime and a writer for faults, and has no contract: nothing is
@@ -24,7 +24,7 @@
 //! connection back: each reply is the machine's or counts as not made, the replies are isolated, and while the store
 //! is clean it holds what is stored of the state that they lead to, which was loaded from what was committed
 //! (`PlaysStored`); a store that is not opened is told as its fault, and stands as it was or opened
-//! (`RefusesStored`).
+//! (`RefusesStored`), but that a want of memory says nothing of it.
 //!
 //! `play_on_threads` reads a scenario, makes its calls on a new provider as `jm_threaded` makes them, each session's between a
 //! fork and its join on a thread of its own, and prints the line of each reply at the place of its call: what the calls were told
@@ -34,8 +34,9 @@
 //! (`PlaysStoredOnThreads`). The audit's verdict is not printed; the status is 3 where memory was wanted for it. Which state
 //! the trace begins with is not said, nor anything of waiting, or of the order between threads.
 //!
-//! It says nothing of which limit the core has. The numbers that `select` and `lone` print are those of items: forks
-//! and joins count too.
+//! A run on a new provider without threads has the limit of held rows that is given, else the scenario's own, else 100,000
+//! (`held_limit`); which limit the core of a run over a store, or on threads, has is in no clause. The numbers that `select`
+//! and `lone` print are those of items: forks and joins count too.
 #![tactic(auto)]
 
 mod command;

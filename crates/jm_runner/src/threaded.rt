@@ -293,8 +293,8 @@ fn told_stored<S: Alter + Drop + Send, L: Ledger + Send + Sync, R: Read, T: Thre
 }
 
 /// Reads a scenario, opens the store of the connection and hands it back as `play_stored` does, and makes the calls over it as
-/// `play_on_threads` makes them. While the store is clean it holds what is stored of the state that the calls lead to, which
-/// began with what was committed. The faults are those of `play_stored`.
+/// `play_on_threads` makes them, in the opening of a state that was loaded from what was committed. While the store is clean it
+/// holds what is stored of the state in which the trace of the calls ends. The faults are those of `play_stored`.
 pub fn play_stored_on_threads<
     S: Alter + Drop + Send,
     L: Ledger + Send + Sync,
