@@ -1,5 +1,5 @@
 -- How a database is found, whose last opening is read.
-use Rattle.std.proofs.Common.{◌≡◌, inl, inr, ℕ, ◌+◌, pos, arith, List, [], ◌∷◌, map, Some, Result, Ok, Err, IfOk, refl, sym, ap, subst, ◌∙◌}
+use Rattle.std.proofs.Common.{◌≡◌, ◌<◌, inl, inr, ℕ, ◌+◌, pos, arith, List, [], ◌∷◌, map, Some, Result, Ok, Err, IfOk, refl, sym, ap, subst, ◌∙◌}
 use Rattle.std.specs.List.Sorted.{IsPermutation}
 use Rattle.std.proofs.lemmas.List.Sorted.{length_permutation}
 use Rattle.sqlite_value.specs.declared.value.Value.TheVariants.{Int}
@@ -12,9 +12,10 @@ use Rattle.jm_opening.specs.declared.found.Found.{Found}
 use Rattle.jm_opening.specs.declared.found.Found.TheVariants.{Blank, Bare, Indexed, Current}
 use Rattle.jm_opening.specs.declared.judged.LastOpening.{LastOpening}
 use Rattle.jm_opening.specs.declared.judged.OpenFault.{OpenFault}
-use Rattle.jm_opening.specs.Judged.{HasKey, IsLast, version_number}
-use Rattle.jm_opening.specs.Meta.{meta_shown}
-use Rattle.jm_opening.specs.Opened.{IsFound, IsOfStore, SaysLast, opening_of, schema_of, version_of}
+use Rattle.jm_opening.specs.Judged.{HasKey, IsLast, greatest_opening, version_number}
+use Rattle.jm_tables.specs.Valid.{IsOpening}
+use Rattle.jm_opening.specs.Meta.{meta_row, meta_shown}
+use Rattle.jm_opening.specs.Opened.{IsFound, IsOfStore, IsOpened, SaysLast, opening_of, schema_of, version_of}
 
 one_row : (all : List Row) (row : Row) → IsPermutation (map meta_shown all) (row ∷ []) → (r : Row) × (all ≡ r ∷ []) × (row ≡ meta_shown r)
 one_row [] row h = absurd (omega (arith, length_permutation _ _ h))
@@ -46,3 +47,15 @@ found_so (Ok f) old db last rows row same a b c shown one is key =
       schema_is = a;
       says = subst (λ v. SaysLast v (opening_of f) (db.trees meta_tree)) (sym b) (subst (λ n. SaysLast (Some (version_number last.is_current)) n (db.trees meta_tree)) (sym c) there);
     }
+
+-- the number of this opening is that of one
+pub first_number : IsOpening 1
+first_number = record { positive = omega arith; within = omega arith }
+
+pub next_number : (r : Result Found OpenFault) (last : ℕ) → last < greatest_opening → IfOk r (λ f. opening_of f ≡ last + 1) → IfOk r (λ f. IsOpening (opening_of f))
+next_number (Err e) last low is = tt
+next_number (Ok f) last low is = record { positive = omega (arith, is); within = omega (arith, low, is) }
+
+-- the next opening finds what was opened, with one more
+pub opened_is_found : (found : Found) (old new : Database) → IsOpened found old new → IsFound (Current (opening_of found + 1)) new
+opened_is_found found old new opened = record { schema_is = opened.schema_is; says = (opening_of found, refl, (meta_row 2 (opening_of found), opened.meta, refl)) }

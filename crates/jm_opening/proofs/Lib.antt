@@ -6,4 +6,5 @@ pub mod Steps
 pub mod Tables
 pub mod MetaRows
 pub mod FoundLemmas
+pub mod Leaving
 pub mod Serving

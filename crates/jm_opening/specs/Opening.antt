@@ -10,6 +10,7 @@ use Rattle.sqlite_trees.specs.View.{IsClean}
 use Rattle.sqlite_trees.specs.declared.store.Store.{Ghosts}
 use Rattle.jm_opening.specs.declared.found.Found.{Found}
 use Rattle.jm_tables.specs.Schema.{meta_tree}
+use Rattle.jm_tables.specs.Valid.{IsOpening}
 use Rattle.jm_opening.specs.declared.judged.OpenFault.{OpenFault}
 use Rattle.jm_opening.specs.declared.judged.OpenFault.TheVariants.{Memory, Store}
 use Rattle.jm_opening.specs.Judged.{IsFault}
@@ -36,9 +37,17 @@ pub record IsOpenedFrom (opening : ℕ) (before : Database) (after : State) : Ty
   pub is_open : IsTrue after.is_open
   pub committed : after.committed ≡ after.now
 
--- what a crash leaves is the database, opened
+-- what a crash leaves is the database, opened, with the number of an opening
 abbrev pub LeavesOpened : Database → Trees → Type 0
-LeavesOpened before db = (found : Found) × IsFound found before × HoldsOpened found before db
+LeavesOpened before db = (found : Found) × IsFound found before × IsOpening (opening_of found) × HoldsOpened found before db
+
+-- what a crash leaves is what was committed, read once more and opened
+abbrev pub LeavesOpenedAgain : Trees → Trees → Type 0
+LeavesOpenedAgain committed db = (before : Database) × (before.trees ≡ committed) × LeavesOpened before db
+
+-- what a crash leaves is what it could leave before, or what was committed, opened
+abbrev pub LeavesOrOpened : State → (Trees → Type 0) → Type 0
+LeavesOrOpened old leaves = (db : Trees) → leaves db → old.may_leave db ⊎ LeavesOpenedAgain old.committed.trees db
 
 -- what was committed, read once more, is opened with that number
 pub record IsOpenedAgain (opening : ℕ) (committed : Trees) (after : State) : Type 0 where
@@ -60,3 +69,9 @@ Stands g committed (Shut store) = IsClean (g.view store) → IsTrue (g.view stor
 abbrev pub IsRefusedAs : {S : Type 0} → Ghosts S → Trees → OpenFault → Left S → Type 0
 IsRefusedAs g committed fault (Settled conn) = HasCleanDisk (state g conn) → (before : Database) × (before.trees ≡ committed) × IsRefusal before fault
 IsRefusedAs g committed fault (Shut store) = (fault ≡ Memory) ⊎ (fault ≡ Store)
+
+-- what a crash leaves of what is left: of a connection, what it could leave before, or what was committed, opened; of the store
+-- alone, what it could leave before
+abbrev pub LeavesOf : {S : Type 0} → Ghosts S → State → Left S → Type 0
+LeavesOf g old (Settled conn) = HasCleanDisk (state g conn) → LeavesOrOpened old (state g conn).may_leave
+LeavesOf g old (Shut store) = (db : Trees) → g.recovers store db → old.may_leave db

@@ -5,7 +5,7 @@ ghost use Rattle.sqlite.specs.State.{HasCleanDisk};
 ghost use Rattle.sqlite.specs.Held.{state};
 ghost use Rattle.sqlite_trees.specs.Tree.{Trees};
 ghost use Rattle.jm_tables.specs.Sound.{Serves};
-ghost use Rattle.jm_opening.specs.Opening.{IsInNoTransaction, IsOpenedAgain, IsRefusedAs, Stands};
+ghost use Rattle.jm_opening.specs.Opening.{IsInNoTransaction, IsOpenedAgain, IsRefusedAs, LeavesOf, Stands};
 
 use crate::judged::OpenFault;
 use crate::opening::open_settled;
@@ -17,7 +17,8 @@ use std::alloc::Global;
 /// Opens the store of a connection: it is settled, its tables are made or carried over, and the number of its opening is raised.
 /// What was not committed is undone. The first of these faults is told: it cannot be settled (Memory, or Store), and the store is
 /// handed back alone; or one of `open_settled`, and the connection is handed back. Where the disk is clean, a fault leaves what
-/// was committed, and after an opening a stop of the process leaves the opened database, and nothing else (ours).
+/// was committed. A stop of the process within an opening leaves the database as it was or as it is opened, and one after it the
+/// opened database, and nothing else (ours).
 pub fn open<S: Alter + Drop>(alloc: Global, conn: Connection<S>) -> Result<Opened<S>, Unopened<S>>
     ensures mode { IfOk result (λ o. o.conn.in_transaction ≡ false) }
     ensures opened { IfOk result (λ o. HasCleanDisk (state S.Store o.conn) → IsOpenedAgain o.opening (state S.Store conn).committed.trees (state S.Store o.conn)) }
@@ -27,6 +28,8 @@ pub fn open<S: Alter + Drop>(alloc: Global, conn: Connection<S>) -> Result<Opene
     ensures left { IfErr result (λ u. IsInNoTransaction u.left) }
     ensures fault { IfErr result (λ u. IsRefusedAs S.Store (state S.Store conn).committed.trees u.fault u.left) }
     ensures same { IfErr result (λ u. Stands S.Store (state S.Store conn).committed.trees u.left) }
+    // A crash leaves what it could leave before the call, or the opened database.
+    ensures stop { IfErr result (λ u. LeavesOf S.Store (state S.Store conn) u.left) }
 {
     let mut conn = match settle(alloc, conn) {
         Ok(conn) => conn,

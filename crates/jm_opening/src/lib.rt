@@ -3,9 +3,10 @@
 //!
 //! # Contract
 //!
-//! `settle`: each table has its rowids once, and the rows of the last commit. `read_meta`: the rows of meta, nothing
-//! changed. `judge`: the last opening, or exactly why not. `write`: one transaction that makes or carries over the
-//! tables and sets the opening; refused: as before; a stop: before or after.
+//! `settle`: each table has its rowids once, and the rows of the last commit; a stop leaves what it could leave before,
+//! whatever it answers. `read_meta`: the rows of meta, nothing changed. `judge`: the last opening, or exactly why not.
+//! `write`: one transaction that makes or carries over the tables and sets the opening; refused: as before; a stop:
+//! before or after.
 //!
 //! `open_settled` joins them over a settled connection: a blank database gets the tables of version 2 and opening 1,
 //! version 1 is carried over, version 2 raised; the result serves a store (`Serves`) and tells the number of the
@@ -14,8 +15,9 @@
 //!
 //! `open` takes the connection by value: `settle`, then `open_settled`; an error hands back what is left (`Left`: the
 //! connection, or the store alone where it is shut), and what was committed stands. After an opening a crash leaves
-//! the opened database; of one within the call `open` has no clause, since the library says nothing of what a crash
-//! leaves at its own second look.
+//! the opened database (`durable`); one within the call leaves what it could leave before, or what was committed, opened:
+//! the same rows, under the next number (`stop`, with `LeavesOf`). The next opening finds that as one of version 2
+//! (`opened_is_found`, a lemma).
 #![tactic(auto)]
 
 mod by_value;

@@ -5,6 +5,7 @@ ghost use Rattle.sqlite.specs.State.{HasCleanDisk, Survives};
 ghost use Rattle.sqlite.specs.Held.{state};
 ghost use Rattle.sqlite_trees.specs.Tree.{Trees};
 ghost use Rattle.jm_tables.specs.Sound.{Serves};
+ghost use Rattle.jm_tables.specs.Valid.{IsOpening};
 ghost use Rattle.jm_opening.specs.Opened.{AreTables, IsFound, opening_of};
 ghost use Rattle.jm_opening.specs.Opening.{IsOpenedFrom, IsRefusal, LeavesOpened};
 
@@ -22,7 +23,7 @@ fn find<S: Alter>(alloc: Global, conn: &mut Connection<S>) -> Result<Found, Open
     ensures mode { conn.new.in_transaction ≡ false }
     ensures found { HasCleanDisk (state S.Store conn.new) → IsTrue (state S.Store conn.new).is_open → (state S.Store conn.old).now ≡ (state S.Store conn.old).committed
         → IfOk result (λ found. IsFound found (state S.Store conn.new).now) }
-    ensures number { IfOk result (λ found. 1 ≤ opening_of found) }
+    ensures number { IfOk result (λ found. IsOpening (opening_of found)) }
     ensures fault { HasCleanDisk (state S.Store conn.new) → IfErr result (IsRefusal (state S.Store conn.old).now) }
     ensures same { HasCleanDisk (state S.Store conn.new) → IsTrue (state S.Store conn.new).is_open → (state S.Store conn.old).now ≡ (state S.Store conn.old).committed
         → ((state S.Store conn.new).now ≡ (state S.Store conn.old).now) × ((state S.Store conn.new).committed ≡ (state S.Store conn.old).committed) }

@@ -3,6 +3,7 @@ use Rattle.sqlite.specs.Effect.{Database}
 use Rattle.sqlite.specs.State.{HasCleanDisk}
 use Rattle.sqlite.specs.Held.{state}
 use Rattle.jm_opening.specs.Opened.{IsFound, IsOpened}
+use Rattle.jm_opening.proofs.Leaving.{found_leaves}
 use Rattle.jm_opening.proofs.Serving.{serves}
 use Rattle.jm_opening.proofs.opening.open_settled.Goals as goal
 
@@ -35,3 +36,13 @@ returns-in_err-found-clause-fault g c clean =
     let fault = c.in_err-found.ensures.fault clean in
     let is = c.from_residual.ensures in
     search rules
+
+pub returns-clause-survives : goal.returns-clause-survives
+returns-clause-survives g c =
+    let it = c.in_ok-found.ensures in
+    found_leaves (state g.S.Store c.args.conn.now) (state g.S.Store c.find.new.conn) (state g.S.Store c.write.new.conn) c.in_ok-found.found c.find.ensures.survives c.write.ensures.survives it.found c.find.ensures.same it.number
+
+pub returns-in_err-write-clause-survives : goal.returns-in_err-write-clause-survives
+returns-in_err-write-clause-survives g c =
+    let it = c.in_ok-found.ensures in
+    found_leaves (state g.S.Store c.args.conn.now) (state g.S.Store c.find.new.conn) (state g.S.Store c.write.new.conn) c.in_ok-found.found c.find.ensures.survives c.write.ensures.survives it.found c.find.ensures.same it.number
