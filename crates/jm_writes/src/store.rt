@@ -6,6 +6,7 @@ ghost use Rattle.sqlite.specs.Held.{state};
 ghost use Rattle.sqlite.specs.State.{HasCleanDisk};
 ghost use Rattle.jm_keep.specs.Stored.{HasRisen, changed_all};
 ghost use Rattle.jm_tables.specs.Rows.{stored_in};
+ghost use Rattle.jm_writes.specs.Faults as spec;
 ghost use Rattle.jm_writes.specs.Records.{BringsRecord, StoresRecords};
 ghost use Rattle.jm_writes.specs.Steps.{IsOurs, LeavesOnly, LeavesOr};
 
@@ -37,7 +38,10 @@ impl<S: Alter> Model for Store<S> {
     ghost invariant = { λ s. (s.conn.in_transaction ≡ false) × IsOurs (state S.Store s.conn) };
 }
 
-fn fault_of(error: &Error) -> StoreFault {
+/// What the error is told as: `Memory` where a request for memory was refused, and `Device` for any other.
+fn fault_of(error: &Error) -> StoreFault
+    ensures { result ≡ spec.fault_of error.now }
+{
     match error {
         Error::SqliteFailure(ErrorCode::OutOfMemory) => StoreFault::Memory,
         _ => StoreFault::Device,
@@ -45,7 +49,8 @@ fn fault_of(error: &Error) -> StoreFault {
 }
 
 impl<S: Alter> Store<S> {
-    /// The store over a database of its schema, in no transaction. It has not failed yet.
+    /// The store over a database of its schema, in no transaction, each of whose rows by itself is one of a store's: so are those
+    /// that an opening and a loading took, or that `into_connection` hands back. It has not failed yet.
     pub fn over(conn: Connection<S>) -> Store<S>
         requires autocommit { conn.in_transaction ≡ false }
         requires ours { IsOurs (state S.Store conn) }
