@@ -90,7 +90,7 @@ class Allocations(unittest.TestCase):
     def told(self, made: str, take_none: str = "") -> tuple[int, list[str]]:
         """The status and the lines over the small repository, with those lists."""
         tool = load()
-        tool.TAKE_NONE, tool.MADE_BY_RUNS, tool.UNTRIED = take_none, made, ""
+        tool.TAKE_NONE, tool.MADE_BY_RUNS, tool.ONE_BY_ONE, tool.UNTRIED = take_none, made, "", ""
         with tempfile.TemporaryDirectory() as room:
             files = {"jm_one/src/lib.rt": LIB, "jm_one/src/list.rt": LIST, "jm_one/src/hidden.rt": LIST}
             files |= {"one/src/lib.rt": "pub use a;\n\npub fn a() -> AllocError {}\n"}

@@ -81,6 +81,13 @@ class Gate(unittest.TestCase):
         self.assertEqual((lines[-1], status), ("11 passed, 1 failed", 1))
         self.assertIn("gate: failed: one: request 3: status -6", lines)
 
+    def test_requests_of_single_calls_are_refused_with_their_program(self) -> None:
+        tool = "import sys; print(*sys.argv[1:]); print('a b: request of a call that is not made'); print('8 passed, 1 failed'); raise SystemExit(1)"
+        lines, status = said(BUILDS.replace("jmsrun", "allocations"), refused=tool)
+        self.assertEqual((lines[-1], status), ("11 passed, 1 failed", 1))
+        self.assertRegex("\n".join(lines), r"(?m)^--calls .*/crates/allocations/out/allocations$")
+        self.assertIn("gate: failed: a b: request of a call that is not made", lines)
+
     def test_without_the_tool_nothing_is_killed(self) -> None:
         lines, status = said(BUILDS)
         self.assertEqual((lines[-1], status), ("3 passed, 0 failed", 0))

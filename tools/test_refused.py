@@ -62,6 +62,40 @@ if db:
     json.dump(waiting, open(db, "w"))
 sys.exit(status)
 """
+# A program with two calls on a list of 3 items, the first of which makes two requests: one for what it is made on, and one of its own.
+CALLS = """
+import os, sys
+at, on, count = int(os.environ.get("REFUSED_AT", 0)), "REFUSED_ON" in os.environ, 0
+items = [1, 2, 3]
+
+def refused():
+    global count
+    count += 1
+    if at and count == at:
+        open(os.environ["REFUSED_TO"], "w").close()
+    return at and (count == at or on and count > at)
+
+def grown():
+    if refused():
+        FAULT
+        return "memory"
+    items.append(4)
+    return str(len(items))
+
+def copied():
+    return "memory" if refused() else str(len(items[:]))
+
+for number, name, call in ((0, "jm_a List::grow", grown), (32, "jm_b copy", copied)):
+    if sys.argv[1:] not in ([], [str(number)]):
+        continue
+    if refused():
+        print("memory", file=sys.stderr)
+        sys.exit(3)
+    items[:] = [1, 2, 3]
+    before, answer = len(items), call()
+    left = f", {before} left {len(items)}, {call()}" if answer == "memory" else ""
+    print(f"{number} {name}: {answer}{left}")
+"""
 SEND = {"op": "send", "s": [1, 1], "queue": "q", "now": 0, "text": "a"}
 RECEIVE = {"op": "receive", "s": [2, 1], "k": 1, "now": 0}
 SCENARIO = {"calls": [{"op": "start", "c": 1}, SEND, SEND, RECEIVE, SEND, RECEIVE]}
@@ -91,7 +125,7 @@ class Refused(unittest.TestCase):
             tool.SCENARIOS, tool.RUNS = room, [("one", None), ("one", "two")]
             printed = io.StringIO()
             with contextlib.redirect_stdout(printed):
-                status = tool.main([sys.executable, f"{room}/program.py"])
+                status = tool.main([sys.executable, "-IS", f"{room}/program.py"])
         return printed.getvalue(), status
 
     def test_all_is_left_as_it_was(self) -> None:
@@ -125,6 +159,52 @@ class Refused(unittest.TestCase):
         printed, status = self.told("db and call['op'] == 'receive' and waiting.append([9, 9, 9])")
         self.assertIn("another run finds", printed)
         self.assertEqual(status, 1)
+
+    def told_of_calls(self, fault: str, listed: str = "jm_a List::grow\njm_b copy") -> tuple[str, int]:
+        """Returns what the tool prints of a program that makes calls, with that fault, and its status."""
+        tool = load()
+        tool.one_by_one = lambda: listed.split("\n")
+        with tempfile.TemporaryDirectory() as room:
+            with open(f"{room}/program.py", "w", encoding="utf-8") as it:
+                it.write(CALLS.replace("FAULT", fault))
+            printed = io.StringIO()
+            with contextlib.redirect_stdout(printed):
+                status = tool.main(["--calls", sys.executable, "-IS", f"{room}/program.py"])
+        return printed.getvalue(), status
+
+    def test_calls_that_leave_all_as_it_was(self) -> None:
+        printed, status = self.told_of_calls("pass")
+        # two requests each; each alone, and each with all behind it
+        self.assertEqual(printed, "jm_a List::grow: 2 requests\njm_b copy: 2 requests\n8 passed, 0 failed\n")
+        self.assertEqual(status, 0)
+
+    def test_a_call_that_changes_something(self) -> None:
+        printed, status = self.told_of_calls("items.append(4)")
+        self.assertIn("3 left 4, 5: it changed something", printed)
+        self.assertEqual(status, 1)
+
+    def test_a_call_that_is_answered_otherwise(self) -> None:
+        self.assertIn("with ample memory 4", self.told_of_calls("return '3'")[0])
+        # (and where it is made again)
+        printed, _ = self.told_of_calls("globals().update(refused=lambda: items.append(0)); return 'memory'")
+        self.assertIn("memory, 3 left 3, 5; with ample memory 4", printed)
+
+    def test_a_call_that_dies_or_says_nothing(self) -> None:
+        self.assertIn("status -6", self.told_of_calls("os.abort()")[0])
+        self.assertEqual(self.told_of_calls("sys.exit(0)")[1], 1)
+
+    def test_a_call_that_makes_no_request(self) -> None:
+        printed, status = self.told_of_calls("items.append(4); return str(len(items))")
+        self.assertIn("jm_a List::grow: request of its own: none was refused", printed)
+        self.assertEqual(status, 1)
+
+    def test_the_calls_are_those_of_the_list(self) -> None:
+        printed, status = self.told_of_calls("pass", "jm_a List::grow\njm_c take")
+        self.assertIn("jm_c take: request of a call that is not made\njm_b copy: request of a call that is not listed\n", printed)
+        self.assertEqual(status, 1)
+
+    def test_the_calls_of_this_repository(self) -> None:
+        self.assertIn("jm_base Str::copy", load().one_by_one())
 
     def test_the_library_refuses_what_the_program_asks_for(self) -> None:
         tool = load()

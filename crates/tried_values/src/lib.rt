@@ -1,0 +1,13 @@
+//! The calls of texts, names, properties, drafts and messages that take memory, each with what it is made on.
+//!
+//! # Contract
+//!
+//! None: each module makes the call of a number, and says so where there is none.
+#![tactic(auto)]
+
+pub mod destinations;
+pub mod drafts;
+pub mod lists;
+pub mod messages;
+pub mod names;
+pub mod properties;
