@@ -2,3 +2,4 @@ pub mod Pushed
 pub mod Waits
 pub mod Verdicts
 pub mod Refused
+pub mod Ends

@@ -1,10 +1,13 @@
 -- What contracts see of a trace, and what one event more is.
-use Rattle.std.specs.Prelude.{ℕ, List, Result, MatchBool}
+use Rattle.std.specs.Prelude.{◌≡◌, ◌≤◌, ℕ, Bool, List, Result, IsTrue, MatchBool}
 use Rattle.jm_base.specs.declared.refusal.Refusal.{Refusal}
 use Rattle.jm_machine.specs.declared.answer.Answer.{Answer}
 use Rattle.jm_machine.specs.declared.call.Step.{Step}
 use Rattle.jm_machine.specs.declared.entry.Event.{Event}
+use Rattle.jm_keep.specs.Persisted.{IsPersisted}
+use Rattle.jm_keep.specs.Stored.{Stored}
 use Rattle.jm_machine.specs.Entries.{is_not_made}
+use Rattle.jm_machine.specs.Isolation.{IsLegal, after_events}
 use Rattle.jm_machine.specs.Machine.{State, reply, step}
 
 -- a trace that was handed out: the core before its first event, the position of that, and the events
@@ -22,6 +25,15 @@ pub record Seen (C K : Type 0) : Type 0 where
   pub core : C
   pub keeper : K
   pub left : ℕ
+
+-- what may stand under the lock: the events are legal from the opening on and end in the core's state, what a clean keeper has
+-- stored is what is stored of that state, and a part of the ledger is left
+abbrev pub IsHeld : {C K : Type 0} → (C → State) → (K → Bool) → (K → Stored) → Seen C K → Type 0
+IsHeld state is_clean stored s =
+    IsLegal (state s.opening) s.events
+    × (state s.core ≡ after_events (state s.opening) s.events)
+    × (IsTrue (is_clean s.keeper) → IsPersisted (state s.core) (stored s.keeper))
+    × (1 ≤ s.left)
 
 abbrev pub event : Step → Result Answer Refusal → Event
 event p r = record { step = p; reply = r }

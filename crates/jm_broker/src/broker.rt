@@ -1,23 +1,24 @@
 //! The lock, and what threads call.
 
-ghost use Rattle.std.specs.Prelude.{◌≡◌, ◌⊎◌, ◌≤◌, ◌+◌, [], ℕ, true, IsTrue, OnOk, IfOk, IfErr, length, sum_by, vec_len};
+ghost use Rattle.std.specs.Prelude.{◌≡◌, ◌⊎◌, ◌≤◌, ◌<◌, ◌+◌, ◌^◌, [], ℕ, true, IsTrue, OnOk, IfOk, IfErr, length, sum_by, vec_len};
 ghost use Rattle.jm_audit.specs.Audit.{segment, Agree, EachOnce, IsFault, Rise};
 ghost use Rattle.jm_audit.specs.Passes.{Calls};
 ghost use Rattle.jm_broker.specs.Calls.{Noted, Received, is_nothing as is_nothing_reply};
+ghost use Rattle.jm_broker.specs.Traces.{Seen, IsHeld};
 ghost use Rattle.jm_broker.specs.Wakes.{may_wake as may_wake_waiting, wakes as wakes_waiting};
 ghost use Rattle.jm_keep.specs.Persisted.{IsPersisted};
 ghost use Rattle.jm_machine.specs.Isolation.{after_events};
 
 use crate::planned::PlannedCore;
 use crate::trace::Trace;
-use crate::traced::Traced;
-use jm_audit::{FinishFault, Pass, gather_last};
+use crate::traced::{Finished, NotMade, Traced};
+use jm_audit::Pass;
 use jm_base::Refusal;
 use jm_dest::{ConsumerId, Moment, SessionId};
 use jm_keep::Keep;
 use jm_machine::{Answer, Call, Reply, Request, Step};
 use std::alloc::Global;
-use std::sync::ledger::{Blank, Ledger, Share};
+use std::sync::ledger::{Blank, Ledger};
 use std::sync::{Condvar, Mutex, Wait};
 
 /// Tells the moment (ours).
@@ -33,24 +34,6 @@ pub trait Clock {
 pub struct Broker<C: PlannedCore, K: Keep + Drop, L: Ledger> {
     traced: Mutex<Traced<C, K, L>>,
     changed: Condvar,
-}
-
-/// What `new` hands back where memory was wanted.
-#[derive(Drop)]
-pub struct NotMade<C: Drop, K: Drop> {
-    pub core: C,
-    pub keeper: K,
-}
-
-/// What `finish` hands back.
-#[derive(Drop)]
-pub struct Finished<C: PlannedCore, K: Drop> {
-    pub core: C,
-    pub keeper: K,
-    /// The last segment of the trace, which ends in the core.
-    pub trace: Trace<C>,
-    /// Whether the passes account for it.
-    pub verdict: Result<(), FinishFault>,
 }
 
 impl<C: PlannedCore, K: Keep + Drop, L: Ledger> Broker<C, K, L> {
@@ -69,31 +52,21 @@ impl<C: PlannedCore, K: Keep + Drop, L: Ledger> Broker<C, K, L> {
         requires kept { IsTrue (K.is_clean keeper) → IsPersisted (C.state core) (K.stored keeper) }
         ensures { IfErr result (λ back. (back.core ≡ core) × (back.keeper ≡ keeper)) }
     {
-        let Ok(opening) = core.copy() else {
-            return Err(NotMade { core, keeper });
-        };
-        let (book, rest) = blank.open::<L>();
-        let traced = Traced {
-            alloc,
-            opening,
-            first: 0,
-            core,
-            keeper,
-            events: Vec::new(alloc),
-            book,
-            rest,
-            left: parts,
-        };
-        Ok(Broker {
-            traced: Mutex::new(traced),
-            changed: Condvar::new(),
-        })
+        match Traced::new(alloc, blank, parts, core, keeper) {
+            Ok(traced) => Ok(Broker {
+                traced: Mutex::new(traced),
+                changed: Condvar::new(),
+            }),
+            Err(back) => Err(back),
+        }
     }
 
-    /// A pass with which no call was made. `Exhausted` where one part of the ledger is left.
+    /// A pass with which no call was made. `Exhausted` where one part of the ledger is left, as of some trace that may stand
+    /// under the lock.
     pub fn pass<R: Wait>(&self, rt: &R) -> Result<Pass<L>, Refusal>
         ensures pass { IfOk result (λ pass. (pass.entries ≡ []) × (pass.made ≡ 0)) }
-        ensures refused { IfErr result (λ refusal. refusal ≡ Refusal.Exhausted) }
+        ensures refused { IfErr result (λ refusal. (refusal ≡ Refusal.Exhausted)
+            × ((seen : Seen C K) × IsHeld C.state K.is_clean K.stored seen × (seen.left ≡ 1))) }
     {
         let split = self.traced.lock(rt).split();
         match split {
@@ -158,7 +131,8 @@ impl<C: PlannedCore, K: Keep + Drop, L: Ledger> Broker<C, K, L> {
     /// - `Exhausted`: the position behind its last event is above 2^62.
     /// - `Memory`: a request for memory was refused.
     pub fn cut<R: Wait>(&self, rt: &R) -> Result<Trace<C>, Refusal>
-        ensures { IfErr result (λ refusal. (refusal ≡ Refusal.Memory) ⊎ (refusal ≡ Refusal.Exhausted)) }
+        ensures { IfErr result (λ refusal. (refusal ≡ Refusal.Memory) ⊎ ((refusal ≡ Refusal.Exhausted)
+            × ((seen : Seen C K) × IsHeld C.state K.is_clean K.stored seen × (2 ^ 62 < seen.first + length seen.events)))) }
     {
         self.traced.lock(rt).cut()
     }
@@ -177,30 +151,7 @@ impl<C: PlannedCore, K: Keep + Drop, L: Ledger> Broker<C, K, L> {
         ensures whole { vec_len passes + 1 ≡ L.parts → sum_by (λ (c : Calls). c.made) passes.items ≡ result.trace.first + length result.trace.events }
     {
         let Broker { traced, changed: _ } = self;
-        let Traced {
-            alloc,
-            opening,
-            first,
-            core,
-            keeper,
-            events,
-            mut book,
-            mut rest,
-            left: _,
-        } = traced.into_inner();
-        let verdict = gather_last(alloc, first, events.as_slice(), passes.as_slice());
-        merge_all(&mut rest, passes);
-        book.audit(&mut rest);
-        Finished {
-            core,
-            keeper,
-            trace: Trace {
-                opening,
-                first,
-                events,
-            },
-            verdict,
-        }
+        traced.into_inner().finish(passes)
     }
 }
 
@@ -248,18 +199,5 @@ fn wakes(call: &Call, reply: &Reply) -> bool
             Call::Publish(_) | Call::Commit(_) => true,
             Call::Ask(request) => may_wake(request),
         },
-    }
-}
-
-/// Puts the parts of all passes together.
-fn merge_all<L: Ledger>(rest: &mut Share<L>, passes: Vec<Pass<L>>)
-    ensures parts { rest.new.parts ≡ rest.old.parts + vec_len passes }
-    ensures amount { rest.new.amount ≡ rest.old.amount + sum_by (λ (c : Calls). c.made) passes.items }
-    ensures all { rest.new.parts ≤ L.parts }
-{
-    let none = rest.empty();
-    rest.merge(none);
-    for pass in passes {
-        rest.merge(pass.into_share());
     }
 }

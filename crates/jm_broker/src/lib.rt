@@ -17,11 +17,13 @@
 //!
 //! `cut` hands out the trace so far (`Trace`, legal by its type) and goes on from the core's state, at the next
 //! position; it is refused as `Exhausted` where that is above 2^62, or wants memory, and changes nothing then.
-//! `split` gives a pass, unless one part is left. `Broker` is one lock round that:
+//! `split` gives a pass, unless one part is left. `finish` gives all back with the verdict of `gather_last`, and the
+//! number of calls of all passes is at most the first position and the number of events, and just that where all parts
+//! are handed in. `Broker` is one lock round that:
 //!
 //! `pass`, `call` and `receive` say what they give or do to the pass handed in (`Noted`, `Received`), and `pass` and
-//! `cut` which refusals come; `finish` gives all back with the verdict of `gather_last`, and the number of calls of
-//! all passes is at most the first position and the number of events, and just that where all parts are handed in.
+//! `cut` which refusals come: `Exhausted` only as some trace that may stand under the lock (`IsHeld`) has one part left,
+//! or ends above 2^62. `finish` is `Traced`'s.
 //!
 //! The provider's `Core` is such a core: its plan, its copied answer, its listed changes and its install are the
 //! lock's. `wakes` says which accepted calls wake all that wait: a start, a publication, a commit, a rollback, a
@@ -36,8 +38,8 @@ mod provider;
 mod trace;
 mod traced;
 
-pub use broker::{Broker, Clock, Finished, NotMade};
+pub use broker::{Broker, Clock};
 pub use jm_audit::{FinishFault, Pass, PassEntry};
 pub use planned::PlannedCore;
 pub use trace::Trace;
-pub use traced::{MOST, Traced};
+pub use traced::{Finished, MOST, NotMade, Traced};

@@ -1,7 +1,7 @@
 use Rattle.std.proofs.Common.{◌≡◌, ◌≤◌, ◌+◌, length}
 use Rattle.std.specs.List.{sum_by}
 use Rattle.jm_audit.specs.Passes.{Calls}
-use Rattle.jm_broker.proofs.broker.merge_all.Given as goal
+use Rattle.jm_broker.proofs.traced.merge_all.Given as goal
 
 abbrev pub invariant-loop-pass : goal.invariant-loop-pass
 invariant-loop-pass g l = record {
