@@ -32,8 +32,8 @@ def memory():
 
 if refused():
     memory()
-calls = json.load(open(sys.argv[2]))["calls"]
-db = sys.argv[4] if len(sys.argv) > 4 else None
+calls = json.load(open(sys.argv[3 if sys.argv[1] == "select" else 2]))["calls"]
+db = sys.argv[-1] if "--db" in sys.argv else None
 waiting = json.load(open(db)) if db and os.path.exists(db) else []
 numbers, lines, status = {}, [], 0
 for call in calls:
@@ -56,6 +56,10 @@ for call in calls:
     lines.append(line)
 if refused():
     memory()
+if "--threads" in sys.argv and refused():
+    status = 3
+if sys.argv[1] == "lone":
+    lines = [line for line in lines if line.startswith("message") or line == "none"]
 for number, line in enumerate(lines, 1):
     print(number, line)
 if db:
@@ -113,8 +117,9 @@ def load() -> Any:
 
 
 class Refused(unittest.TestCase):
-    def told(self, fault: str) -> tuple[str, int]:
-        """Returns what the tool prints of a program with that fault, and its status."""
+    def told(self, fault: str, *ways: tuple[Any, ...]) -> tuple[str, int]:
+        """Returns what the tool prints of a program with that fault, and its status: of one run and of one over a store, or
+        of those named."""
         tool = load()
         with tempfile.TemporaryDirectory() as room:
             for name, scenario in (("one", SCENARIO), ("two", AFTER)):
@@ -122,7 +127,7 @@ class Refused(unittest.TestCase):
                     tool.json.dump(scenario, it)
             with open(f"{room}/program.py", "w", encoding="utf-8") as it:
                 it.write(PROGRAM.replace("FAULT", fault))
-            tool.SCENARIOS, tool.RUNS = room, [("one", None), ("one", "two")]
+            tool.SCENARIOS, tool.RUNS = room, [tool.Way(*it) for it in ways or (("one",), ("one", "two"))]
             printed = io.StringIO()
             with contextlib.redirect_stdout(printed):
                 status = tool.main([sys.executable, "-IS", f"{room}/program.py"])
@@ -133,6 +138,22 @@ class Refused(unittest.TestCase):
         # eight requests a run; each alone, and each with all behind it, of two runs
         self.assertEqual(printed, "one: 8 requests\none: 8 requests\n32 passed, 0 failed\n")
         self.assertEqual(status, 0)
+
+    def test_runs_on_threads(self) -> None:
+        printed, status = self.told("pass", ("one", "two", ("run",), ("--threads",)))
+        # one request more, for the audit
+        self.assertEqual((printed, status), ("one --threads: 9 requests\n18 passed, 0 failed\n", 0))
+
+    def test_what_is_told_of_one_subscription(self) -> None:
+        way = ("one", None, ("lone",), ("key",))
+        self.assertEqual(self.told("pass", way), ("'lone' one key: 8 requests\n16 passed, 0 failed\n", 0))
+        # (two calls that are left out, where one was refused)
+        self.assertEqual(self.told("waiting = waiting[2:]", way)[1], 1)
+
+    def test_what_tells_of_no_call(self) -> None:
+        printed, status = self.told("pass", ("one", None, ("select", "x")))
+        self.assertIn("'select' 'x' one: request 2:", printed)
+        self.assertEqual(status, 1)
 
     def test_a_number_may_be_free_again(self) -> None:
         printed, status = self.told("numbers.update({tuple(call['s']): numbers[tuple(call['s'])] - 1} if call['op'] == 'send' else {})")

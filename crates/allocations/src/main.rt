@@ -7,24 +7,50 @@ use std::alloc::Global;
 use std::process::ExitCode;
 use std::{env, io};
 use tried::Made;
-use tried_values::{destinations, drafts, lists, messages, names, properties};
 
 /// How many numbers each module has.
 const NUMBERS: usize = 32;
 /// Past the last number.
-const END: usize = 6 * NUMBERS;
+const END: usize = 18 * NUMBERS;
+
+/// Makes the call of that number of a module of values or texts.
+fn made_of_values(alloc: Global, module: usize, number: usize) -> Made {
+    match module {
+        0 => tried_values::lists::made(alloc, number),
+        1 => tried_values::names::made(alloc, number),
+        2 => tried_values::destinations::made(alloc, number),
+        3 => tried_values::properties::made(alloc, number),
+        4 => tried_values::drafts::made(alloc, number),
+        5 => tried_values::messages::made(alloc, number),
+        6 => tried_texts::parts::made(alloc, number),
+        7 => tried_texts::syntax::made(alloc, number),
+        8 => tried_texts::patterns::made(alloc, number),
+        9 => tried_texts::memberships::made(alloc, number),
+        10 => tried_texts::selectors::made(alloc, number),
+        11 => tried_texts::records::made(alloc, number),
+        _ => Made::NoCall,
+    }
+}
+
+/// Makes the call of that number of a module of what the provider is told and holds.
+fn made_of_state(alloc: Global, module: usize, number: usize) -> Made {
+    match module {
+        12 => tried_machine::answers::made(alloc, number),
+        13 => tried_machine::calls::made(alloc, number),
+        14 => tried_machine::definitions::made(alloc, number),
+        15 => tried_machine::stations::made(alloc, number),
+        16 => tried_machine::attached::made(alloc, number),
+        17 => tried_machine::changes::made(alloc, number),
+        _ => Made::NoCall,
+    }
+}
 
 /// Makes the call of that number.
 fn made(alloc: Global, at: usize) -> Made {
-    let number = at % NUMBERS;
-    match at / NUMBERS {
-        0 => lists::made(alloc, number),
-        1 => names::made(alloc, number),
-        2 => destinations::made(alloc, number),
-        3 => properties::made(alloc, number),
-        4 => drafts::made(alloc, number),
-        5 => messages::made(alloc, number),
-        _ => Made::NoCall,
+    let (module, number) = (at / NUMBERS, at % NUMBERS);
+    match module {
+        0..=11 => made_of_values(alloc, module, number),
+        _ => made_of_state(alloc, module, number),
     }
 }
 
