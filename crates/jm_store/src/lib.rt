@@ -13,7 +13,8 @@
 //! `HoldsMessages` of `jm_holds`), so does each core that steps lead to which publish messages (`law_steps_hold`, there), and
 //! where the tables hold what is stored of such a core, `close` hands back a valid file (`valid`), which the next opening does
 //! not tell as damaged (`valid_is_undamaged`, a lemma). So is what a stop leaves: after an opening the database is a valid file
-//! (`valid`), and nothing else may be left (`durable`); a write of changes leaves what could be left before or a store's
+//! (`valid`), and nothing else may be left (`durable`); within one it leaves what it could leave before, or the opened database
+//! (`stop`), and a valid file where it was one (`stop_valid`); a write of changes leaves what could be left before or a store's
 //! database that has them all (`stop` of `Store`, in `jm_writes`), which is valid again where they lead to a core that holds
 //! messages (`law_changed_valid` of `jm_valid`).
 //!

@@ -1,15 +1,15 @@
 //! A store is opened and loaded.
 
-ghost use Rattle.std.specs.Prelude.{◌≡◌, ◌≤◌, ◌&&◌, true, IsTrue, IfOk, IfErr};
+ghost use Rattle.std.specs.Prelude.{◌≡◌, ◌≤◌, ◌&&◌, ℕ, true, IsTrue, IfOk, IfErr};
 ghost use Rattle.sqlite.specs.Held.{state};
 ghost use Rattle.sqlite_trees.specs.Tree.{Trees};
 ghost use Rattle.jm_core.specs.Provider.{may_open, state_of};
 ghost use Rattle.jm_holds.specs.Holds.{HoldsMessages};
 ghost use Rattle.jm_keep.specs.Persisted.{IsPersisted};
-ghost use Rattle.jm_opening.specs.Opening.{IsInNoTransaction, IsOpenedAgain};
+ghost use Rattle.jm_opening.specs.Opening.{IsInNoTransaction, IsOpenedAgain, LeavesOf};
 ghost use Rattle.jm_tables.specs.Rows.{stored_in};
 ghost use Rattle.jm_tables.specs.Valid.{IsOpening, IsValid};
-ghost use Rattle.jm_store.specs.Opened.{IsLeft};
+ghost use Rattle.jm_store.specs.Opened.{IsLeft, LeavesValidOf};
 
 use jm_core::Core;
 use jm_load::load;
@@ -39,7 +39,8 @@ fn is_opening(opening: u32)
 /// durable may hold so many rows, from 1 to 1,000,000. The first of these faults is told, and what is left is handed back with it:
 /// one of `jm_opening::open`, which leaves the store as it was; or one of `jm_load::load`, which leaves it opened, so that the next
 /// opening has the next number. Where the disk is clean, a stop of the process after an opening leaves what is stored, and nothing
-/// else, and that is a valid file (ours).
+/// else, and that is a valid file; one within it leaves the database as it was or as it is opened, and a valid file where it was
+/// one (ours).
 pub fn open<S: Alter + Drop>(
     alloc: Global,
     conn: Connection<S>,
@@ -56,6 +57,10 @@ pub fn open<S: Alter + Drop>(
     ensures faults { IfOk result (λ r. r.store.1 ≡ 0) }
     ensures left { IfErr result (λ u. IsInNoTransaction u.left) }
     ensures refused { IfErr result (λ u. IsLeft S.Store (state S.Store conn).committed.trees u.fault u.left) }
+    // A crash leaves what it could leave before the call, or the opened database.
+    ensures stop { IfErr result (λ u. LeavesOf S.Store (state S.Store conn) u.left) }
+    // So it leaves a valid file, where what was committed was one.
+    ensures stop_valid { IfErr result (λ u. IsTrue (state S.Store conn).is_open → (last : ℕ) → IsValid last (state S.Store conn).committed.trees → LeavesValidOf S.Store u.left) }
 {
     let Opened { mut conn, opening } = match jm_opening::open(alloc, conn) {
         Ok(opened) => opened,

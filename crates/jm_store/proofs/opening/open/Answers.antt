@@ -1,6 +1,8 @@
 use Rattle.std.proofs.Common.{inr}
 use Rattle.sqlite.specs.Held.{state}
 use Rattle.jm_core.specs.Provider.{state_of}
+use Rattle.jm_opening.specs.declared.outcome.Left.TheVariants.{Settled}
+use Rattle.jm_store.proofs.Leaving.{leaves_valid, opened_leaves}
 use Rattle.jm_store.proofs.Reopening.{ours, still_holds, still_left, still_opened, still_stored, still_valid, stands_opened}
 use Rattle.jm_store.proofs.opening.open.Goals as goal
 
@@ -39,3 +41,16 @@ pub returns-in-Err-load-clause-refused : goal.returns-in-Err-load-clause-refused
 returns-in-Err-load-clause-refused g c =
     let o = c.in-Ok in
     inr (stands_opened _ (state g.S.Store o.opened.conn) (state g.S.Store c.load.new.conn) o.opened.opening c.in-Err-load.fault c.load.ensures.survives c.load.ensures.same o.ensures.opened o.ensures.serves c.in-Err-load.ensures.fault)
+
+pub returns-in-Err-load-clause-stop : goal.returns-in-Err-load-clause-stop
+returns-in-Err-load-clause-stop g c =
+    let o = c.in-Ok in
+    opened_leaves (state g.S.Store c.args.conn) (state g.S.Store o.opened.conn) (state g.S.Store c.load.new.conn) o.opened.opening c.is_opening.ensures o.ensures.opened o.ensures.durable c.load.ensures.survives
+
+pub returns-in-Err-load-clause-stop_valid : goal.returns-in-Err-load-clause-stop_valid
+returns-in-Err-load-clause-stop_valid g c live last valid =
+    leaves_valid g.S.Store (state g.S.Store c.args.conn) (λ db. g.met.S.Store.settled c.args.conn.store db live) last valid (Settled c.load.new.conn) (returns-in-Err-load-clause-stop g c)
+
+pub returns-in-Err-clause-stop_valid : goal.returns-in-Err-clause-stop_valid
+returns-in-Err-clause-stop_valid g c live last valid =
+    leaves_valid g.S.Store (state g.S.Store c.args.conn) (λ db. g.met.S.Store.settled c.args.conn.store db live) last valid c.in-Err.unopened.left c.in-Err.ensures.stop
