@@ -4,8 +4,10 @@
 //!
 //! `load`: where the disk is clean, all was committed and the database serves a store (`Serves`), a core of that
 //! opening, with the limit that was given, of which just that is stored what the tables hold (`IsPersisted` of
-//! `stored_in`). Whatever it tells, nothing of the database is changed, and a crash leaves what it could leave
-//! before.
+//! `stored_in`), and each row of which holds a message that its key may hold (`holds`, with `HoldsMessages` of
+//! `jm_holds`). Of the tables it says then that each row by itself is one of a store's (`read`, with `AreReadRows`); with
+//! the row of meta that an opening leaves, that is a keeper's `HasOwnRows`. Whatever it tells, nothing of the database is
+//! changed, and a crash leaves what it could leave before.
 //!
 //! A refusal is the first fault of the database (`IsFaultOf`): as Damaged, the row that is named is the first, in the
 //! order station, message, held, delayed, and in each by its key, that a store may not have (`IsStation`,
