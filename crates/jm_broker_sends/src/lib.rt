@@ -4,7 +4,8 @@
 //! # Contract
 //!
 //! `Kept_sync`: threads may share the lock round a `Core`, where its keeper may cross threads; `Broker_sync` is that
-//! of a core that keeps nothing; and what an event, a pass and a trace hold may cross threads.
+//! of a core that keeps nothing; what an event, a pass and a trace hold may cross threads, and so may the plan of a core
+//! (`Plan_send`, of `proofs/Planned.antt`).
 #![tactic(auto)]
 
 ghost use Rattle.std.specs.Prelude.{◌≡◌};

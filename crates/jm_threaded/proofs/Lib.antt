@@ -1,4 +1,3 @@
 pub mod Made
 pub mod Played
 pub mod Seated
-pub mod Sends

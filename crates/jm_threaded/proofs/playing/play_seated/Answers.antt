@@ -1,9 +1,9 @@
 use denote.Param.Send.{sendable}
 use Rattle.std.proofs.Common.{subst}
 use Rattle.jm_sends.proofs.Sent.{Core_send}
+use Rattle.jm_broker_sends.proofs.Planned.{Plan_send}
 use Rattle.jm_threaded.specs.Runs.{StopsAt}
 use Rattle.jm_threaded.proofs.Seated.{never_unseated}
-use Rattle.jm_threaded.proofs.Sends.{Plan_send}
 use Rattle.jm_threaded.proofs.playing.play_seated.Goals as goal
 
 pub run_parts-requires-send-C : goal.run_parts-requires-send-C

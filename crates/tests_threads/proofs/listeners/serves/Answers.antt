@@ -1,7 +1,7 @@
 use denote.Param.Send.{sendable}
 use Rattle.std.proofs.Crossing.{crosses}
 use Rattle.jm_sends.proofs.Sent.{Core_send}
-use Rattle.tests_threads.proofs.Sends.{Plan_send}
+use Rattle.jm_broker_sends.proofs.Planned.{Plan_send}
 use Rattle.tests_threads.proofs.listeners.serves.Goals as goal
 
 pub serve-served-requires-send-C : goal.serve-served-requires-send-C

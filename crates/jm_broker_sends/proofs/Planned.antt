@@ -1,5 +1,5 @@
 -- A plan of a core may cross threads. One lemma a type, since a search for all of them at once runs out of steps; those of the
--- types that a core or an event holds too stand where these are shown to cross.
+-- types that a core or an event holds too stand where these are shown to cross. Whoever has threads call cites it.
 use denote.Param.Send.{IsSend, sendable}
 use Rattle.std.proofs.Crossing.{crosses}
 use Rattle.std.proofs.MapsCrossing as maps
