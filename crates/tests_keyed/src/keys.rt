@@ -1,0 +1,210 @@
+//! Where keys stand, as they come and go.
+
+use crate::told::is_number;
+use jm_keyed::{Choice, KeySet};
+use jm_shared::SharedStr;
+use std::alloc::{AllocError, Global};
+
+/// What is asked of a set of numbers.
+enum Ask {
+    /// Puts it behind the others, where it is new; answers how many there are.
+    Insert(u32),
+    /// Where it stands.
+    Find(u32),
+    /// Which one stands there.
+    At(usize),
+    /// Takes out the one that stands there, where one does, and answers it.
+    Remove(usize),
+    /// Leaves those that are not below it; answers how many there are.
+    Keep(u32),
+    /// Where it stands in a copy.
+    FindInCopy(u32),
+    /// How many there are.
+    Len,
+    /// 1 where there is none, else 0.
+    IsEmpty,
+}
+
+/// The answer where nothing stands there.
+const NONE: usize = 1000;
+
+/// The answer where memory was wanted.
+const MEMORY: usize = 2000;
+
+/// What is asked in turn of one set, and what is answered.
+static ROWS: [(Ask, usize); 37] = [
+    (Ask::IsEmpty, 1),
+    (Ask::Find(30), NONE),
+    (Ask::Insert(30), 1),
+    (Ask::Insert(10), 2),
+    (Ask::Insert(20), 3),
+    (Ask::Insert(10), 3),
+    (Ask::Insert(40), 4),
+    (Ask::Insert(0), 5),
+    (Ask::IsEmpty, 0),
+    (Ask::Find(30), 0),
+    (Ask::Find(10), 1),
+    (Ask::Find(20), 2),
+    (Ask::Find(40), 3),
+    (Ask::Find(0), 4),
+    (Ask::Find(25), NONE),
+    (Ask::Find(41), NONE),
+    (Ask::At(2), 20),
+    (Ask::At(5), NONE),
+    (Ask::FindInCopy(20), 2),
+    (Ask::FindInCopy(21), NONE),
+    (Ask::Remove(1), 10),
+    (Ask::Len, 4),
+    (Ask::Find(10), NONE),
+    (Ask::Find(30), 0),
+    (Ask::Find(20), 1),
+    (Ask::Find(0), 3),
+    (Ask::Insert(10), 5),
+    (Ask::Find(10), 4),
+    (Ask::Keep(20), 3),
+    (Ask::Find(30), 0),
+    (Ask::Find(20), 1),
+    (Ask::Find(40), 2),
+    (Ask::Find(0), NONE),
+    (Ask::Insert(5), 4),
+    (Ask::Find(5), 3),
+    (Ask::Keep(100), 0),
+    (Ask::IsEmpty, 1),
+];
+
+/// Keeps what is not below a number.
+struct NotBelow {
+    least: u32,
+}
+
+impl Choice<u32> for NotBelow {
+    ghost use Rattle.std.specs.Prelude.{nat_le};
+
+    ghost kept = { λ choice key. nat_le choice.least key };
+
+    fn keeps(&self, key: &u32) -> bool {
+        self.least <= *key
+    }
+}
+
+fn inserted(set: &mut KeySet<u32>, key: u32) -> usize {
+    if set.reserve(1).is_err() {
+        return MEMORY;
+    }
+    if set.index_of(&key).is_none() {
+        set.insert(key);
+    }
+    set.len()
+}
+
+fn at(set: &KeySet<u32>, index: usize) -> usize {
+    if index < set.len() {
+        *set.key_at(index) as usize
+    } else {
+        NONE
+    }
+}
+
+fn removed(set: &mut KeySet<u32>, index: usize) -> usize {
+    if index < set.len() {
+        set.remove(index) as usize
+    } else {
+        NONE
+    }
+}
+
+fn kept(set: &mut KeySet<u32>, least: u32) -> usize {
+    set.retain(&NotBelow { least });
+    set.len()
+}
+
+fn copied(alloc: Global, set: &KeySet<u32>) -> Result<KeySet<u32>, AllocError> {
+    let keys = Vec::from_slice(alloc, set.as_slice())?;
+    set.copy_with(keys)
+}
+
+fn found_in_copy(alloc: Global, set: &KeySet<u32>, key: u32) -> usize {
+    match copied(alloc, set) {
+        Ok(copy) => copy.index_of(&key).unwrap_or(NONE),
+        Err(_) => MEMORY,
+    }
+}
+
+fn answer(alloc: Global, set: &mut KeySet<u32>, ask: &Ask) -> usize {
+    match ask {
+        Ask::Insert(key) => inserted(set, *key),
+        Ask::Find(key) => set.index_of(key).unwrap_or(NONE),
+        Ask::At(index) => at(set, *index),
+        Ask::Remove(index) => removed(set, *index),
+        Ask::Keep(least) => kept(set, *least),
+        Ask::FindInCopy(key) => found_in_copy(alloc, set, *key),
+        Ask::Len => set.len(),
+        Ask::IsEmpty => usize::from(set.is_empty()),
+    }
+}
+
+#[test]
+fn numbers_come_and_go(rt: HostRuntime) {
+    let mut set = KeySet::new(rt.alloc());
+    for (row, (ask, wanted)) in ROWS.iter().enumerate() {
+        let told = answer(rt.alloc(), &mut set, ask);
+        is_number(&rt, row, *wanted, told);
+    }
+}
+
+/// Puts so many numbers into a set, the largest first, which is the worst order, and answers how many then stand where they should.
+fn found_of_many(alloc: Global, many: u32) -> usize {
+    let mut set = KeySet::new(alloc);
+    for passed in 0..many {
+        let _ = inserted(&mut set, many - passed);
+    }
+    let mut found: usize = 0;
+    for passed in 0..many {
+        let stands = set.index_of(&(many - passed)) == Some(passed as usize);
+        found = found.saturating_add(usize::from(stands));
+    }
+    found
+}
+
+#[test]
+fn many_numbers_in_the_worst_order(rt: HostRuntime) {
+    is_number(&rt, 0, 20000, found_of_many(rt.alloc(), 20000));
+}
+
+/// Names in order of coming, and where each stands in the end: one comes twice.
+static NAMES: [(&str, usize); 6] = [
+    ("orders", 0),
+    ("", 1),
+    ("order", 2),
+    ("orders", 0),
+    ("\u{e4}", 3),
+    ("Orders", 4),
+];
+
+fn add_name(alloc: Global, set: &mut KeySet<SharedStr>, name: &str) -> Result<(), AllocError> {
+    set.reserve(1)?;
+    let name = SharedStr::from_str(alloc, name)?;
+    if set.index_of(&name).is_none() {
+        set.insert(name);
+    }
+    Ok(())
+}
+
+fn index_of_name(alloc: Global, set: &KeySet<SharedStr>, name: &str) -> usize {
+    match SharedStr::from_str(alloc, name) {
+        Ok(name) => set.index_of(&name).unwrap_or(NONE),
+        Err(_) => MEMORY,
+    }
+}
+
+#[test]
+fn names_stand_in_order_of_coming(rt: HostRuntime) {
+    let mut set = KeySet::new(rt.alloc());
+    for (name, _) in &NAMES {
+        let _ = add_name(rt.alloc(), &mut set, name);
+    }
+    is_number(&rt, 100, 5, set.len());
+    for (row, (name, wanted)) in NAMES.iter().enumerate() {
+        is_number(&rt, row, *wanted, index_of_name(rt.alloc(), &set, name));
+    }
+}

@@ -1,0 +1,9 @@
+//! Tests of `jm_keyed` and `jm_shared`, over tables: that calls find memory, and that what the clauses say was meant.
+#![tactic(auto)]
+
+#[cfg(test)]
+mod keys;
+#[cfg(test)]
+mod shared;
+#[cfg(test)]
+mod told;
