@@ -11,15 +11,19 @@
 //! keeps (`filter`), in their order; neither takes memory, and room grows by what goes. `copy_with` makes the set of equal
 //! keys that are handed in.
 //!
+//! Values for the keys stand in a list of the caller's own, at the same indexes. `proofs/Columns.antt` has what is found under each key
+//! of two such lists (`found`, `not_found`), and what it becomes where a key comes, goes, or has another value (`inserted`, `removed`,
+//! `replaced`), as a map says it.
+//!
 //! # Costs
 //!
-//! A key is found by halves: of `n` keys at most 1 + log2(n) are compared, whatever the keys are, so there is no seed, no
+//! A key is found by halves: it is compared with at most 2 + log2(n) of `n` keys, whatever the keys are, so there is no seed, no
 //! source of chance, and no choice of keys that makes it slower. What goes into the order or out of it shifts the places
-//! behind: `insert` moves at most `n` numbers of eight bytes at once; `remove` moves as many, looks at each once, and moves
-//! the keys behind. `retain` walks keys and places once each, however many go. So 20,000 keys that come in the worst order move
-//! 200,000,000 numbers in all, which is 1.6 GB in blocks of at most 160 kB: some tenth of a second. A balanced tree would
-//! move fewer, but takes memory at each key, or a slab of links, and is left until somebody holds far more.
-//! Two numbers are kept beside each key: its place in the order, and one that `retain` writes.
+//! behind: `insert` moves at most `n` numbers of eight bytes in one block; `remove` moves as many, looks at each once, and moves
+//! the keys behind. `retain` looks at each key and at each place twice, however many go. So 20,000 keys that come in the worst
+//! order move 200,000,000 numbers in all, which is 1.6 GB in blocks of at most 160 kB: some tenth of a second. A balanced tree
+//! would move fewer, but takes memory at each key, or a slab of links, and is left until somebody holds far more. Beside each
+//! key stand its place in the order, and room for a mark that `retain` writes: sixteen bytes.
 #![tactic(auto)]
 
 mod choice;

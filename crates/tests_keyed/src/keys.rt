@@ -73,6 +73,7 @@ static ROWS: [(Ask, usize); 37] = [
 ];
 
 /// Keeps what is not below a number.
+#[derive(Clone, Copy)]
 struct NotBelow {
     least: u32,
 }

@@ -62,7 +62,17 @@ fn bytes(alloc: Global, one: &str, other: &str) -> Result<usize, AllocError> {
 #[test]
 fn texts_stand_by_their_bytes(rt: HostRuntime) {
     for (row, (one, other, wanted)) in PAIRS.iter().enumerate() {
-        is_number(&rt, row, *wanted, texts(rt.alloc(), one, other).unwrap_or(WRONG));
-        is_number(&rt, row, *wanted, bytes(rt.alloc(), one, other).unwrap_or(WRONG));
+        is_number(
+            &rt,
+            row,
+            *wanted,
+            texts(rt.alloc(), one, other).unwrap_or(WRONG),
+        );
+        is_number(
+            &rt,
+            row,
+            *wanted,
+            bytes(rt.alloc(), one, other).unwrap_or(WRONG),
+        );
     }
 }
