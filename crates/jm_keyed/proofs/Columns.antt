@@ -1,6 +1,6 @@
 -- Values that stand beside keys, at the same indexes: what is found under a key, for callers that keep them so.
-use Rattle.std.proofs.Common.{◌≡◌, ◌+◌, ◌<◌, ℕ, Bool, true, false, cond, List, [], ◌∷◌, ◌++◌, length, get_or, set, Option, Some, None, arith, refl, sym, ◌∙◌, ap, suc, zero}
-use Rattle.std.specs.List.{All, IsDistinct, position, remove, zip}
+use Rattle.std.proofs.Common.{◌≡◌, ◌<◌, ℕ, Bool, true, false, cond, List, [], ◌∷◌, ◌++◌, length, get_or, set, Option, Some, None, arith, refl, sym, ◌∙◌, ap, suc, zero}
+use Rattle.std.specs.List.{All, IsDistinct, remove, zip}
 use Rattle.std.specs.Map.{lookup}
 use Rattle.std.specs.Cmp.{IsEquivalence}
 use Rattle.std.proofs.lemmas.List.Elements.{All-head, All-tail}
