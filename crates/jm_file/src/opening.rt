@@ -1,7 +1,7 @@
 //! A provider over what a connection or a file holds.
 
 ghost use Rattle.std.specs.Prelude.{◌≡◌, ◌⊎◌, IfErr};
-ghost use Rattle.jm_opening.specs.Opening.{IsInNoTransaction};
+ghost use Rattle.jm_opening.specs.Opening.{IsInNoTransaction, LeavesOf};
 ghost use Rattle.jm_opening.specs.declared.judged.OpenFault.TheVariants as cause;
 ghost use Rattle.jm_store.specs.Opened.{IsLeft};
 ghost use Rattle.sqlite.specs.Held.{state};
@@ -34,7 +34,8 @@ pub fn connect(rt: &HostRuntime, path: &str) -> Result<Connection<StoreFile>, Op
 /// A provider over the store of that connection, which it opens and loads: what was stored of durable subscriptions and queues
 /// waits there, and each call stores what it changes before it is answered. A subscription that is not durable may hold 100,000
 /// messages. The faults are those of `jm_store::open`, and with one the connection is handed back, or its store where it shut:
-/// it was not opened and stands as it was, or it was opened and cannot be loaded, for that fault (ours).
+/// it was not opened and stands as it was, or it was opened and cannot be loaded, for that fault; a stop of the process leaves it
+/// as it was or as it is opened (ours).
 pub fn open<'r, R: Wait + Clock, S: Alter + Drop>(
     rt: &'r R,
     alloc: Global,
@@ -42,6 +43,7 @@ pub fn open<'r, R: Wait + Clock, S: Alter + Drop>(
 ) -> Result<Provider<'r, R, Plain<Store<S>>>, Unopened<S>>
     ensures left { IfErr result (λ u. IsInNoTransaction u.left) }
     ensures refused { IfErr result (λ u. IsLeft S.Store (state S.Store conn).committed.trees u.fault u.left) }
+    ensures stop { IfErr result (λ u. LeavesOf S.Store (state S.Store conn) u.left) }
 {
     let Reopened { store, core } = jm_store::open(alloc, conn, HELD_LIMIT)?;
     Ok(Provider::over(rt, alloc, core, store))
