@@ -40,6 +40,16 @@ StepsAreTakenOut =
     (state : State) (steps : List Step) (replies : List (Result Answer Refusal)) (end : State) →
     StepsFit state steps replies end → StepsFit state (made steps replies) (made_replies replies) end
 
+-- a law that would take out a first step whatever its reply is
+abbrev pub AnyStepIsTakenOut : Type 0
+AnyStepIsTakenOut =
+    (state : State) (s : Step) (steps : List Step) (r : Result Answer Refusal) (replies : List (Result Answer Refusal)) (end : State) →
+    StepsFit state (s ∷ steps) (r ∷ replies) end → StepsFit state steps replies end
+
+-- There is no such law: a step that was accepted cannot be taken out.
+abbrev pub AcceptedStepsStay : Type 0
+AcceptedStepsStay = AnyStepIsTakenOut → ⊥
+
 -- Calls of clients
 
 -- the run has come as far, but that numbers of sends were passed over

@@ -1,4 +1,4 @@
-ghost use Rattle.jm_refused.specs.Refused.{CallsAreTakenOut, RequestsAreTakenOut, StepsAreTakenOut};
+ghost use Rattle.jm_refused.specs.Refused.{AcceptedStepsStay, CallsAreTakenOut, RequestsAreTakenOut, StepsAreTakenOut};
 
 /// The law of refused steps, proved; the function itself does nothing.
 ///
@@ -7,6 +7,14 @@ ghost use Rattle.jm_refused.specs.Refused.{CallsAreTakenOut, RequestsAreTakenOut
 /// to the same state. So nothing of such a step is left, whatever was asked after it.
 pub fn law_refused()
     ensures { StepsAreTakenOut }
+{}
+
+/// That no more can be taken out, proved; the function itself does nothing.
+///
+/// A law that would take out a step that was accepted, as it takes out a refused one, is none: what a new core answers to the
+/// opening of a connection leads to a state in which it is open, and without that step no replies lead there.
+pub fn law_accepted()
+    ensures { AcceptedStepsStay }
 {}
 
 /// The law of refused calls, proved; the function itself does nothing.
