@@ -1,0 +1,10 @@
+//! The calls of the lock that take memory, and of the audit of its trace, each with what it is made on.
+//!
+//! # Contract
+//!
+//! None: each module makes the call of a number, and says so where there is none.
+#![tactic(auto)]
+
+mod locked;
+pub mod locks;
+pub mod segments;
