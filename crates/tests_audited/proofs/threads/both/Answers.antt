@@ -1,0 +1,17 @@
+use mir.Syntax.{named}
+use denote.Param.{param}
+use denote.Ref.{NamedLft}
+use denote.Param.Send.{IsSync, IsSend, sendable}
+use Rattle.std.proofs.Crossing.{crosses}
+use Rattle.jm_client_audited.proofs.Sends.{Audited_sync}
+use Rattle.jm_keep.specs.contracts.keep.NoKeep as NoKeep
+use Rattle.jm_keep.specs.contracts.keep.NoKeepKeep.TheImpl.{ghosts}
+use Rattle.tests_audited.proofs.threads.both.Goals as goal
+
+pub join-requires-send-F : goal.join-requires-send-F
+join-requires-send-F g c κs within =
+    let ends : NamedLft = record { mir = named 7; lft = κs.1.1.1.1.1.1.1.0 } in
+    let runtime : IsSync (param 1 g.row.R) = record { shared = c.type_bounds.sync-R.shared } in
+    let keeper : IsSend NoKeep.the_row = search (sendable, crosses) depth 20 in
+    let provider = Audited_sync ends (param 1 g.row.R) NoKeep.the_row (param 0 g.row.L) ghosts g.L.Ledger runtime keeper in
+    search (sendable, provider) depth 20
