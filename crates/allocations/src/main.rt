@@ -11,7 +11,7 @@ use tried::Made;
 /// How many numbers each module has.
 const NUMBERS: usize = 32;
 /// Past the last number.
-const END: usize = 18 * NUMBERS;
+const END: usize = 27 * NUMBERS;
 
 /// Makes the call of that number of a module of values or texts.
 fn made_of_values(alloc: Global, module: usize, number: usize) -> Made {
@@ -41,21 +41,30 @@ fn made_of_state(alloc: Global, module: usize, number: usize) -> Made {
         15 => tried_machine::stations::made(alloc, number),
         16 => tried_machine::attached::made(alloc, number),
         17 => tried_machine::changes::made(alloc, number),
+        18 => tried_state::sends::made(alloc, number),
+        19 => tried_state::sessions::made(alloc, number),
+        20 => tried_state::subscriptions::made(alloc, number),
+        21 => tried_state::tables::made(alloc, number),
+        22 => tried_state::stations::made(alloc, number),
+        23 => tried_state::rows::made(alloc, number),
+        24 => tried_core::cores::made(alloc, number),
+        25 => tried_core::causes::made(alloc, number),
+        26 => tried_core::events::made(alloc, number),
         _ => Made::NoCall,
     }
 }
 
 /// Makes the call of that number.
-fn made(alloc: Global, at: usize) -> Made {
+fn made(rt: &HostRuntime, at: usize) -> Made {
     let (module, number) = (at / NUMBERS, at % NUMBERS);
     match module {
-        0..=11 => made_of_values(alloc, module, number),
-        _ => made_of_state(alloc, module, number),
+        0..=11 => made_of_values(rt.alloc(), module, number),
+        _ => made_of_state(rt.alloc(), module, number),
     }
 }
 
 /// Prints what the call was told; whether memory sufficed to make it.
-fn show(rt: &impl Print, at: usize, made: Made) -> io::Result<bool> {
+fn show(rt: &HostRuntime, at: usize, made: Made) -> io::Result<bool> {
     match made {
         Made::Told(told) => {
             println!(rt; "{at} {told}")?;
@@ -67,9 +76,9 @@ fn show(rt: &impl Print, at: usize, made: Made) -> io::Result<bool> {
 }
 
 /// Makes all calls; whether memory sufficed to make them.
-fn show_all(rt: &(impl Print + AllocGlobal)) -> io::Result<bool> {
+fn show_all(rt: &HostRuntime) -> io::Result<bool> {
     for at in 0..END {
-        if !show(rt, at, made(rt.alloc(), at))? {
+        if !show(rt, at, made(rt, at))? {
             return Ok(false);
         }
     }
@@ -77,10 +86,10 @@ fn show_all(rt: &(impl Print + AllocGlobal)) -> io::Result<bool> {
 }
 
 /// Makes the call of the number that is the first word, or all where there is no number.
-fn run(rt: &(impl Print + AllocGlobal + env::Env)) -> io::Result<bool> {
+fn run(rt: &HostRuntime) -> io::Result<bool> {
     let word = env::args(rt)?.nth(1);
     match word.and_then(|word| word.as_str().parse::<usize>().ok()) {
-        Some(at) => show(rt, at, made(rt.alloc(), at)),
+        Some(at) => show(rt, at, made(rt, at)),
         None => show_all(rt),
     }
 }
