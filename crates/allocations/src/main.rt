@@ -4,14 +4,16 @@
 #![tactic(auto)]
 
 use std::alloc::Global;
+use std::marker::Brand;
 use std::process::ExitCode;
+use std::sync::ledger::Blank;
 use std::{env, io};
 use tried::Made;
 
 /// How many numbers each module has.
 const NUMBERS: usize = 32;
 /// Past the last number.
-const END: usize = 27 * NUMBERS;
+const END: usize = 34 * NUMBERS;
 
 /// Makes the call of that number of a module of values or texts.
 fn made_of_values(alloc: Global, module: usize, number: usize) -> Made {
@@ -54,12 +56,28 @@ fn made_of_state(alloc: Global, module: usize, number: usize) -> Made {
     }
 }
 
+/// Makes the call of that number of a module of what threads share, of what a service embeds, or of what is stored.
+fn made_over(rt: &HostRuntime, module: usize, number: usize) -> Made {
+    let alloc = rt.alloc();
+    match module {
+        27 => tried_broker::locks::made::<Brand, _>(rt, alloc, Blank::new(3), number),
+        28 => tried_broker::segments::made::<Brand, _>(rt, alloc, Blank::new(3), number),
+        29 => tried_client::connections::made(rt, alloc, number),
+        30 => tried_client::sessions::made(rt, alloc, number),
+        31 => tried_client::receiving::made(rt, alloc, number),
+        32 => tried_runs::plays::made(alloc, number),
+        33 => tried_runs::stores::made(rt, number),
+        _ => Made::NoCall,
+    }
+}
+
 /// Makes the call of that number.
 fn made(rt: &HostRuntime, at: usize) -> Made {
     let (module, number) = (at / NUMBERS, at % NUMBERS);
     match module {
         0..=11 => made_of_values(rt.alloc(), module, number),
-        _ => made_of_state(rt.alloc(), module, number),
+        12..=26 => made_of_state(rt.alloc(), module, number),
+        _ => made_over(rt, module, number),
     }
 }
 
