@@ -1,0 +1,52 @@
+-- The number at each key after one more, and after one less.
+use Rattle.std.proofs.Common.{◌≡◌, ◌+◌, ◌-◌, ◌≤◌, ◌<◌, ℕ, zero, suc, Bool, true, false, cond, List, [], ◌∷◌, length, take, filter, get_or, Option, None, Some, Result, Ok, Err, OnOk, IsOk, refl, sym, ap, ◌∙◌, arith}
+use Rattle.std.specs.Prelude.{unwrap_or, if◌then◌else◌}
+use Rattle.std.specs.Map.{lookup}
+use Rattle.jm_dest.specs.declared.key.Key.{Key}
+use Rattle.jm_dest.specs.Keys.{key_eq}
+use Rattle.tried_attached.specs.Attached.{Counts, number_at}
+use Rattle.tried_attached.proofs.Keys.{key_same, set_eq, set_is}
+
+-- a request that was granted has what it promised
+pub granted : {T E P : Type 0} (r : Result T E) → IsOk r → OnOk r P → P
+granted (Ok x) ok h = h
+granted (Err x) ok h = cc
+
+-- what is found is found by either test
+pub found : (key : Key) (entries : List (Key × ℕ)) → lookup (set_eq key) entries ≡ lookup (key_eq key) entries
+found key entries = λ i. lookup (λ k. set_is key k i) entries
+
+-- n is noted at the key, and each other stays
+abbrev pub Notes : List (Key × ℕ) → List (Key × ℕ) → Key → Option ℕ → Type 0
+Notes old new key n = (k : Key) → lookup (set_eq k) new ≡ cond (set_eq key k) n (lookup (set_eq k) old)
+
+noted : (old new : List (Key × ℕ)) (key : Key) (n : Option ℕ) → Notes old new key n → (k : Key) → lookup (key_eq k) new ≡ cond (key_eq key k) n (lookup (key_eq k) old)
+noted old new key n h k = sym (found k new) ∙ h k ∙ (λ i. cond (set_is key k i) n (found k old i))
+
+-- the number at a key among the entries
+abbrev pub held : List (Key × ℕ) → Key → ℕ
+held entries key = unwrap_or (lookup (key_eq key) entries) 0
+
+pub one_more : (old new : List (Key × ℕ)) (key : Key) (n : ℕ) → n ≡ held old key + 1 → Notes old new key (Some n) → (k : Key) → held new k ≡ held old k + (if key_eq key k then 1 else 0)
+one_more old new key n next h k = ap (λ o. unwrap_or o 0) (noted old new key (Some n) h k) ∙ go (key_eq key k) refl
+  where
+    go : (b : Bool) → key_eq key k ≡ b → unwrap_or (cond b (Some n) (lookup (key_eq k) old)) 0 ≡ held old k + (if b then 1 else 0)
+    go true e = next ∙ ap (λ x. held old x + 1) (key_same key k e)
+    go false e = omega arith
+
+-- the number at the key is one less, where it was noted
+pub one_less : (old new : List (Key × ℕ)) (key : Key) (n : ℕ) → n ≡ held old key - 1 → Notes old new key (Some n) → (k : Key) → held new k ≡ held old k - (if key_eq key k then 1 else 0)
+one_less old new key n next h k = ap (λ o. unwrap_or o 0) (noted old new key (Some n) h k) ∙ go (key_eq key k) refl
+  where
+    go : (b : Bool) → key_eq key k ≡ b → unwrap_or (cond b (Some n) (lookup (key_eq k) old)) 0 ≡ held old k - (if b then 1 else 0)
+    go true e = next ∙ ap (λ x. held old x - 1) (key_same key k e)
+    go false e = omega arith
+
+-- the last one at the key goes
+pub none_left : (old new : List (Key × ℕ)) (key : Key) → held old key ≤ 1 → Notes old new key None → (k : Key) → held new k ≡ held old k - (if key_eq key k then 1 else 0)
+none_left old new key few h k = ap (λ o. unwrap_or o 0) (noted old new key None h k) ∙ go (key_eq key k) refl
+  where
+    go : (b : Bool) → key_eq key k ≡ b → unwrap_or (cond b None (lookup (key_eq k) old)) 0 ≡ held old k - (if b then 1 else 0)
+    go true e = let most : held old k ≤ 1 = rw (← ap (held old) (key_same key k e)) few in omega (arith, most)
+    go false e = omega arith
+

@@ -1,0 +1,5 @@
+//! A trial.
+#![tactic(auto)]
+
+mod attached;
+pub use attached::Attached;
