@@ -4,16 +4,14 @@
 #![tactic(auto)]
 
 use std::alloc::Global;
-use std::marker::Brand;
 use std::process::ExitCode;
-use std::sync::ledger::Blank;
 use std::{env, io};
 use tried::Made;
 
 /// How many numbers each module has.
 const NUMBERS: usize = 32;
 /// Past the last number.
-const END: usize = 34 * NUMBERS;
+const END: usize = 18 * NUMBERS;
 
 /// Makes the call of that number of a module of values or texts.
 fn made_of_values(alloc: Global, module: usize, number: usize) -> Made {
@@ -43,46 +41,21 @@ fn made_of_state(alloc: Global, module: usize, number: usize) -> Made {
         15 => tried_machine::stations::made(alloc, number),
         16 => tried_machine::attached::made(alloc, number),
         17 => tried_machine::changes::made(alloc, number),
-        18 => tried_state::sends::made(alloc, number),
-        19 => tried_state::sessions::made(alloc, number),
-        20 => tried_state::subscriptions::made(alloc, number),
-        21 => tried_state::tables::made(alloc, number),
-        22 => tried_state::stations::made(alloc, number),
-        23 => tried_state::rows::made(alloc, number),
-        24 => tried_core::cores::made(alloc, number),
-        25 => tried_core::causes::made(alloc, number),
-        26 => tried_core::events::made(alloc, number),
-        _ => Made::NoCall,
-    }
-}
-
-/// Makes the call of that number of a module of what threads share, of what a service embeds, or of what is stored.
-fn made_over(rt: &HostRuntime, module: usize, number: usize) -> Made {
-    let alloc = rt.alloc();
-    match module {
-        27 => tried_broker::locks::made::<Brand, _>(rt, alloc, Blank::new(3), number),
-        28 => tried_broker::segments::made::<Brand, _>(rt, alloc, Blank::new(3), number),
-        29 => tried_client::connections::made(rt, alloc, number),
-        30 => tried_client::sessions::made(rt, alloc, number),
-        31 => tried_client::receiving::made(rt, alloc, number),
-        32 => tried_runs::plays::made(alloc, number),
-        33 => tried_runs::stores::made(rt, number),
         _ => Made::NoCall,
     }
 }
 
 /// Makes the call of that number.
-fn made(rt: &HostRuntime, at: usize) -> Made {
+fn made(alloc: Global, at: usize) -> Made {
     let (module, number) = (at / NUMBERS, at % NUMBERS);
     match module {
-        0..=11 => made_of_values(rt.alloc(), module, number),
-        12..=26 => made_of_state(rt.alloc(), module, number),
-        _ => made_over(rt, module, number),
+        0..=11 => made_of_values(alloc, module, number),
+        _ => made_of_state(alloc, module, number),
     }
 }
 
 /// Prints what the call was told; whether memory sufficed to make it.
-fn show(rt: &HostRuntime, at: usize, made: Made) -> io::Result<bool> {
+fn show(rt: &impl Print, at: usize, made: Made) -> io::Result<bool> {
     match made {
         Made::Told(told) => {
             println!(rt; "{at} {told}")?;
@@ -94,9 +67,9 @@ fn show(rt: &HostRuntime, at: usize, made: Made) -> io::Result<bool> {
 }
 
 /// Makes all calls; whether memory sufficed to make them.
-fn show_all(rt: &HostRuntime) -> io::Result<bool> {
+fn show_all(rt: &(impl Print + AllocGlobal)) -> io::Result<bool> {
     for at in 0..END {
-        if !show(rt, at, made(rt, at))? {
+        if !show(rt, at, made(rt.alloc(), at))? {
             return Ok(false);
         }
     }
@@ -104,10 +77,10 @@ fn show_all(rt: &HostRuntime) -> io::Result<bool> {
 }
 
 /// Makes the call of the number that is the first word, or all where there is no number.
-fn run(rt: &HostRuntime) -> io::Result<bool> {
+fn run(rt: &(impl Print + AllocGlobal + env::Env)) -> io::Result<bool> {
     let word = env::args(rt)?.nth(1);
     match word.and_then(|word| word.as_str().parse::<usize>().ok()) {
-        Some(at) => show(rt, at, made(rt, at)),
+        Some(at) => show(rt, at, made(rt.alloc(), at)),
         None => show_all(rt),
     }
 }

@@ -2,20 +2,21 @@
 
 use crate::work::{Client, Outcome, timed_work};
 use jm_base::{Mode, Refusal};
-use jm_client::{Backend, Consumer, Destination, Error, Provider, Session};
+use jm_client::{Consumer, Destination, Error, Provider, Session};
+use jm_keep::{Keep, NoKeep};
 use std::alloc::Global;
 use std::sync::Wait;
 use std::time::Clock;
 
 /// A session and its consumer.
-struct Objects<'p, R: Wait + Clock, B: Backend> {
-    session: Session<'p, R, B>,
-    consumer: Consumer<'p, R, B>,
+struct Objects<'p, R: Wait + Clock, K: Keep + Drop> {
+    session: Session<'p, R, K>,
+    consumer: Consumer<'p, R, K>,
     topic: Destination,
     sum: u64,
 }
 
-impl<'p, R: Wait + Clock, B: Backend> Drop for Objects<'p, R, B> {
+impl<'p, R: Wait + Clock, K: Keep + Drop> Drop for Objects<'p, R, K> {
     fn drop(self) {
         let Objects {
             session: _session,
@@ -34,7 +35,7 @@ fn refused<T>(reply: Result<T, Error>) -> Result<T, Refusal> {
     }
 }
 
-impl<'p, R: Wait + Clock, B: Backend> Client for Objects<'p, R, B> {
+impl<'p, R: Wait + Clock, K: Keep + Drop> Client for Objects<'p, R, K> {
     fn send(&mut self) -> Result<(), Refusal> {
         match self.session.create_text_message("work") {
             Ok(draft) => match self.session.send(&self.topic, draft) {
@@ -66,9 +67,9 @@ impl<'p, R: Wait + Clock, B: Backend> Client for Objects<'p, R, B> {
 }
 
 /// The session's objects, with a consumer of a topic.
-fn objects_of<'p, R: Wait + Clock, B: Backend>(
-    session: Session<'p, R, B>,
-) -> Result<Objects<'p, R, B>, Error> {
+fn objects_of<'p, R: Wait + Clock, K: Keep + Drop>(
+    session: Session<'p, R, K>,
+) -> Result<Objects<'p, R, K>, Error> {
     let topic = session.create_topic("t")?;
     let consumer = session.create_consumer(&topic, None, false)?;
     Ok(Objects {
@@ -80,9 +81,9 @@ fn objects_of<'p, R: Wait + Clock, B: Backend>(
 }
 
 /// Makes the rounds in a session of that mode.
-fn work_with<R: Wait + Clock, B: Backend>(
+fn work_with<R: Wait + Clock, K: Keep + Drop>(
     rt: &R,
-    session: Session<'_, R, B>,
+    session: Session<'_, R, K>,
     mode: Mode,
     rounds: u32,
 ) -> Result<Outcome, Refusal> {
@@ -95,7 +96,7 @@ fn work_with<R: Wait + Clock, B: Backend>(
 /// Makes the rounds in a session of that provider.
 fn work_in<R: Wait + Clock>(
     rt: &R,
-    provider: &Provider<'_, R>,
+    provider: &Provider<'_, R, NoKeep>,
     mode: Mode,
     rounds: u32,
 ) -> Result<Outcome, Refusal> {

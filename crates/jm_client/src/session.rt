@@ -15,9 +15,7 @@ ghost use Rattle.jm_machine.specs.declared.call.Request.TheVariants.{Acknowledge
 ghost use Rattle.jm_machine.specs.declared.call.Who.TheVariants.{Session as BySession};
 ghost use Rattle.jm_tx.specs.Buffers.{new_buffer};
 
-use crate::backend::Backend;
 use crate::consumer::Consumer;
-use crate::plain::Plain;
 use crate::provider::{NotCommitted, Provider};
 use crate::texts::{copied_text, subscription_named};
 use jm_base::Mode;
@@ -25,7 +23,7 @@ use jm_core::{Request, Who};
 use jm_dest::{Destination, SessionId};
 use jm_error::{Error, passed_on};
 use jm_header::{Draft, Sender};
-use jm_keep::NoKeep;
+use jm_keep::Keep;
 use jm_tx::{Sent, SessionHalf};
 use std::marker::Model;
 use std::sync::Wait;
@@ -33,13 +31,13 @@ use std::time::Clock;
 
 /// A session, which one thread calls, and which closes as it is dropped, with its consumers. It keeps what is sent in a
 /// transaction until the commit. Contracts see what it has sent, and what waits: a `Buffer`.
-pub struct Session<'p, R: Wait + Clock, B: Backend = Plain<NoKeep>> {
-    pub(crate) provider: &'p Provider<'p, R, B>,
+pub struct Session<'p, R: Wait + Clock, K: Keep + Drop> {
+    pub(crate) provider: &'p Provider<'p, R, K>,
     pub(crate) id: SessionId,
     half: SessionHalf,
 }
 
-impl<'p, R: Wait + Clock, B: Backend> Model for Session<'p, R, B> {
+impl<'p, R: Wait + Clock, K: Keep + Drop> Model for Session<'p, R, K> {
     ghost use Rattle.std.specs.Prelude.{◌≡◌};
     ghost use Rattle.jm_tx.specs.declared.buffer.Buffer.{Buffer};
 
@@ -51,8 +49,8 @@ impl<'p, R: Wait + Clock, B: Backend> Model for Session<'p, R, B> {
 }
 
 /// Closes the session.
-fn end<R: Wait + Clock, B: Backend>(
-    provider: &Provider<'_, R, B>,
+fn end<R: Wait + Clock, K: Keep + Drop>(
+    provider: &Provider<'_, R, K>,
     id: SessionId,
 ) -> Result<(), Error>
     ensures { Answers (BySession id) CloseSession result }
@@ -60,7 +58,7 @@ fn end<R: Wait + Clock, B: Backend>(
     provider.ask_plain(Who::Session(id), Request::CloseSession)
 }
 
-impl<'p, R: Wait + Clock, B: Backend> Drop for Session<'p, R, B> {
+impl<'p, R: Wait + Clock, K: Keep + Drop> Drop for Session<'p, R, K> {
     fn drop(self) {
         let Session {
             provider,
@@ -71,13 +69,13 @@ impl<'p, R: Wait + Clock, B: Backend> Drop for Session<'p, R, B> {
     }
 }
 
-impl<'p, R: Wait + Clock, B: Backend> Session<'p, R, B> {
+impl<'p, R: Wait + Clock, K: Keep + Drop> Session<'p, R, K> {
     /// The session of that number, which is open in that mode, and has sent nothing.
     pub(crate) fn new(
-        provider: &'p Provider<'p, R, B>,
+        provider: &'p Provider<'p, R, K>,
         id: &SessionId,
         mode: Mode,
-    ) -> Session<'p, R, B>
+    ) -> Session<'p, R, K>
         ensures opening { result.sender.opening ≡ provider.now.opening }
         ensures session { result.sender.session ≡ id.now }
         ensures buffer { result ≡ new_buffer result.sender mode 0 }
@@ -154,7 +152,7 @@ impl<'p, R: Wait + Clock, B: Backend> Session<'p, R, B> {
         destination: &Destination,
         selector: Option<&str>,
         no_local: bool,
-    ) -> Result<Consumer<'p, R, B>, Error>
+    ) -> Result<Consumer<'p, R, K>, Error>
         ensures ok { IfOk result (λ c. (c.0 ≡ self.now.sender.session)
             × Told (BySession c.0) (Ask (CreateConsumer c.1 destination.now (option_copied selector.entry) no_local)) (Ok Done)) }
         ensures refused { IfErr result (RefusesNew (λ n. BySession self.now.sender.session)
@@ -191,7 +189,7 @@ impl<'p, R: Wait + Clock, B: Backend> Session<'p, R, B> {
         name: &str,
         selector: Option<&str>,
         no_local: bool,
-    ) -> Result<Consumer<'p, R, B>, Error>
+    ) -> Result<Consumer<'p, R, K>, Error>
         ensures ok { IfOk result (λ c. (c.0 ≡ self.now.sender.session)
             × Told (BySession c.0) (Ask (CreateDurable c.1 destination.now name.now (option_copied selector.entry) no_local)) (Ok Done)) }
         ensures refused { IfErr result (λ r. ((r ≡ bare BadName) × (is_name name.now ≡ false))
@@ -224,7 +222,7 @@ impl<'p, R: Wait + Clock, B: Backend> Session<'p, R, B> {
         destination: &Destination,
         name: &str,
         selector: Option<&str>,
-    ) -> Result<Consumer<'p, R, B>, Error>
+    ) -> Result<Consumer<'p, R, K>, Error>
         ensures ok { IfOk result (λ c. (c.0 ≡ self.now.sender.session)
             × Told (BySession c.0) (Ask (CreateShared c.1 destination.now name.now (option_copied selector.entry))) (Ok Done)) }
         ensures refused { IfErr result (λ r. ((r ≡ bare BadName) × (is_name name.now ≡ false))
@@ -258,7 +256,7 @@ impl<'p, R: Wait + Clock, B: Backend> Session<'p, R, B> {
         destination: &Destination,
         name: &str,
         selector: Option<&str>,
-    ) -> Result<Consumer<'p, R, B>, Error>
+    ) -> Result<Consumer<'p, R, K>, Error>
         ensures ok { IfOk result (λ c. (c.0 ≡ self.now.sender.session)
             × Told (BySession c.0) (Ask (CreateSharedDurable c.1 destination.now name.now (option_copied selector.entry))) (Ok Done)) }
         ensures refused { IfErr result (λ r. ((r ≡ bare BadName) × (is_name name.now ≡ false))

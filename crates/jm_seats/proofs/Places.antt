@@ -2,8 +2,8 @@
 use Rattle.std.proofs.Common.{◌≡◌, ◌≤◌, ℕ, zero, suc, ◌+◌, ◌<◌, Bool, true, false, List, [], ◌∷◌, ◌++◌, length, map, get_or, drop, set, take, Some, refl, ap, subst, sym, ◌∙◌, add-one, arith, if◌then◌else◌}
 use Rattle.std.proofs.Math.Seq.{drop-cons, take-suc}
 use Rattle.std.proofs.lemmas.List.{get_or-map, length-map, map-append, map-set}
-use Rattle.std.proofs.lemmas.List.Elements.{All-contains, All-push}
-use Rattle.std.proofs.lemmas.Option.{get_or_from_slice_get, slice_get_read, slice_get_within}
+use Rattle.std.proofs.lemmas.List.Elements.{All-push}
+use Rattle.std.proofs.lemmas.Option.{slice_get_read}
 use Rattle.std.specs.Prelude.{Result, Ok, Err, Option, None, IfNone, OnOk, All}
 use Rattle.jm_base.specs.declared.refusal.Refusal.{Refusal}
 use Rattle.jm_dest.specs.declared.session.SessionId.{SessionId}
@@ -17,7 +17,7 @@ use Rattle.jm_seats.specs.declared.desk.Desk.{Desk}
 use Rattle.jm_seats.specs.Desks.{seats_at}
 use Rattle.jm_audit.specs.Passes.{Calls}
 use Rattle.jm_seats.specs.Seat.{Seated, SeatFits}
-use Rattle.jm_seats.specs.Seats.{Seating, owner_of, owners_of, place_of, IsUnseated, IsUnused, PlaceFits, SeatsFit}
+use Rattle.jm_seats.specs.Seats.{Seating, owner_of, place_of, IsUnused, PlaceFits, SeatsFit}
 
 -- the desk at that place is the first of those that are left
 left : {L : Type 0} (desks : List (Desk L)) (i : ℕ) (d : Desk L) → i < length desks → d ≡ get_or desks i d → drop i desks ≡ d ∷ drop (i + 1) desks
@@ -49,26 +49,6 @@ owner_within seats (Ask (Connection c) request) = omega arith
 owner_within seats (Ask (Session s) request) = place_within seats s
 owner_within seats (Send s draft destination now) = place_within seats s
 owner_within seats (CommitSession s) = place_within seats s
-
--- where each of the calls is made at a seat, none is made at no seat
-pub all_seated : (seats : List Seated) (calls : List ClientCall) → All (λ call. owner_of seats call < length seats) calls → IsUnseated seats calls → ⊥
-all_seated seats calls all nowhere =
-    let is = get_or_from_slice_get calls nowhere.i nowhere.call nowhere.call nowhere.stands in
-    let less : owner_of seats nowhere.call < length seats =
-    All-contains (λ call. owner_of seats call < length seats) calls nowhere.call all (nowhere.i, slice_get_within calls nowhere.i nowhere.call nowhere.stands, is) in
-    omega (arith, less, nowhere.nowhere)
-
--- so it is where each of their places is one of a seat
-pub owners_seated : (seats : List Seated) (calls : List ClientCall) (owners : List ℕ) (n : ℕ) → n ≡ length seats → owners ≡ owners_of seats calls
-    → All (λ owner. owner < n) owners → IsUnseated seats calls → ⊥
-owners_seated seats calls owners n many is all nowhere =
-    let owner : ClientCall → ℕ = λ call. owner_of seats call in
-    let within = slice_get_within calls nowhere.i nowhere.call nowhere.stands in
-    let placed : get_or (map owner calls) nowhere.i (owner nowhere.call) ≡ owner nowhere.call =
-    get_or-map owner calls nowhere.i nowhere.call (owner nowhere.call) within ∙ ap owner (get_or_from_slice_get calls nowhere.i nowhere.call nowhere.call nowhere.stands) in
-    let less : get_or (map owner calls) nowhere.i (owner nowhere.call) < n =
-    subst (λ xs. All (λ place. place < n) xs) is all nowhere.i (owner nowhere.call) (omega (arith, within, length-map calls owner)) in
-    omega (arith, less, placed, many, nowhere.nowhere)
 
 -- a call that is made at a seat is no connection's
 pub placed : (old new : Seating) (call : ClientCall) (r : Result Answer Refusal) → owner_of old.seats call < length old.seats

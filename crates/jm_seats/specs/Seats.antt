@@ -95,10 +95,6 @@ pub record StretchFits (old : Seating) (calls : List ClientCall) (replies : List
   pub ran : AllRan (owners_of old.seats calls) old.seats calls replies new.seats
   pub connections : new.connections ≡ old.connections
 
--- a session that has no seat makes the call
-abbrev pub HasNoSeat : List Seated → ClientCall → Type 0
-HasNoSeat seats call = (is_by_connection call ≡ false) × (owner_of seats call ≡ length seats)
-
 -- one of the calls is made at no seat: it is a connection's, or its session has none
 pub record IsUnseated (seats : List Seated) (calls : List ClientCall) : Type 0 where
   pub i : ℕ

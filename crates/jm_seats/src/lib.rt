@@ -16,12 +16,6 @@
 //! of its session to an accepted `CloseSession` or a `CloseConnection` that it hears (`hear`), which drop what waits,
 //! as an accepted rollback does; `hear` takes no memory.
 //!
-//! `Seats` is seen as the seats in their order, and the pass of the connections' calls. Its `call` makes a session's call at
-//! its seat, and a connection's by one step, of which each seat hears (`SeatsFit`); it makes none exactly where a session
-//! that has no seat calls. `stretch` makes the calls of sessions, each session's on a thread of its own where the system
-//! gives so many (`StretchFits`); where it makes none, the fault is `NoSeat` exactly where one of them has no seat, and else
-//! `Memory` (`OnNoSeat`). `has_seat` and `fault_without_memory` tell of calls beforehand whether they have seats.
-//!
 //! Which state a step met is not said.
 #![tactic(auto)]
 

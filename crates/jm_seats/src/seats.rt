@@ -1,14 +1,14 @@
 //! The seats of all sessions.
 
-ghost use Rattle.std.specs.Prelude.{◌≡◌, ◌⊎◌, ◌∷◌, ◌<◌, All, false, IfErr, IfNone, IfOk, IfSome, MatchBool, OnErr, length, map};
+ghost use Rattle.std.specs.Prelude.{◌≡◌, ◌⊎◌, ◌∷◌, ◌<◌, All, false, IfErr, IfNone, IfOk, IfSome, OnErr, length, map};
 ghost use Rattle.jm_seats.specs.Faults.{OnNoSeat};
 ghost use Rattle.jm_seats.specs.Seats as seating;
-ghost use Rattle.jm_seats.specs.Seats.{ConnectionFits, HasNoSeat, IsUnseated, IsUnused, SeatsFit, StretchFits};
+ghost use Rattle.jm_seats.specs.Seats.{ConnectionFits, IsUnseated, IsUnused, SeatsFit, StretchFits};
 ghost use Rattle.jm_seats.specs.Seats.{is_by_connection, senders_of, unopened_at};
 
 use crate::desk::{Desk, hear_step, owner_of};
 use crate::seat::Seat;
-use crate::stretch::{StretchFault, fault_without_memory, make_calls, owners_of};
+use crate::stretch::{StretchFault, make_calls, owners_of};
 use jm_audit::Pass;
 use jm_base::Refusal;
 use jm_broker::{Broker, PlannedCore};
@@ -39,16 +39,6 @@ impl<L: Ledger> Model for Seats<L> {
     ghost Value = { Seating };
 
     ghost view = { λ s. record { seats = seats_at s.desks.items; connections = s.connections } };
-}
-
-/// Whether a connection makes the call.
-fn is_of_connection(call: &ClientCall) -> bool
-    ensures { result ≡ is_by_connection call.now }
-{
-    match call {
-        ClientCall::Ask { who, request: _ } => matches!(who, Who::Connection(_)),
-        ClientCall::Send { .. } | ClientCall::CommitSession(_) => false,
-    }
 }
 
 impl<L: Ledger> Seats<L> {
@@ -164,28 +154,13 @@ impl<L: Ledger> Seats<L> {
         }
     }
 
-    /// Whether `call` makes the call: a connection makes it, or a session that has a seat. Takes no memory.
-    pub fn has_seat(&self, call: &ClientCall) -> bool
-        ensures { MatchBool result (HasNoSeat self.now.seats call.now → ⊥) (HasNoSeat self.now.seats call.now) }
-    {
-        is_of_connection(call) || owner_of(self.desks.as_slice(), call) < self.desks.len()
-    }
-
-    /// What `stretch` tells of the calls where memory is refused for them: `NoSeat` where one of them is a connection's, or of a
-    /// session that has no seat, else `Memory`. Takes no memory.
-    pub fn fault_without_memory(&self, calls: &[ClientCall]) -> StretchFault
-        ensures { OnNoSeat result (IsUnseated self.now.seats calls.now) }
-    {
-        fault_without_memory(self.desks.as_slice(), calls)
-    }
-
     /// Makes the calls of sessions, each session's at its seat on a thread of its own where the system gives so many, where it
     /// gives fewer, some after others; those of one session in their order. Gives the replies in the order of the calls. Each
     /// call is told as `Seat::call` says, with its refusals. All room for the replies is taken before the first call.
     ///
     /// No call is made after a fault, and the seats are as before:
     /// - `NoSeat`: a call is a connection's, or of a session that has no seat.
-    /// - `Memory`: a request for memory was refused, and each call is of a session that has a seat.
+    /// - `Memory`: a request for memory was refused.
     pub fn stretch<C: PlannedCore + Send, K: Keep + Drop + Send, R: Threads + Wait + Sync>(
         &mut self,
         rt: &R,

@@ -23,26 +23,11 @@ use std::{mem, thread};
 pub enum StretchFault {
     /// A call is a connection's, or of a session that has no seat.
     NoSeat,
-    /// A request for memory was refused, and each call is of a session that has a seat.
+    /// A request for memory was refused.
     Memory,
 }
 
-/// The fault of a stretch of calls for which memory was refused: `NoSeat` where one of them has no seat, else `Memory`.
-pub(crate) fn fault_without_memory<L: Ledger>(
-    desks: &[Desk<L>],
-    calls: &[ClientCall],
-) -> StretchFault
-    ensures { OnNoSeat result (IsUnseated (seats_at desks.now) calls.now) }
-{
-    for call in calls {
-        if owner_of(desks, call) >= desks.len() {
-            return StretchFault::NoSeat;
-        }
-    }
-    StretchFault::Memory
-}
-
-/// For each call the place of its seat. `NoSeat` where one has none; else `Memory` where a request for memory was refused.
+/// For each call the place of its seat. `NoSeat` where one has none; `Memory` where a request for memory was refused.
 pub(crate) fn owners_of<L: Ledger>(
     alloc: Global,
     desks: &[Desk<L>],
@@ -53,7 +38,7 @@ pub(crate) fn owners_of<L: Ledger>(
     ensures fault { IfErr result (λ fault. OnNoSeat fault (IsUnseated (seats_at desks.now) calls.now)) }
 {
     let Ok(mut owners) = Vec::with_capacity(alloc, calls.len()) else {
-        return Err(fault_without_memory(desks, calls));
+        return Err(StretchFault::Memory);
     };
     for call in calls {
         let owner = owner_of(desks, call);

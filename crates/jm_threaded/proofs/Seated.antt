@@ -23,11 +23,8 @@ use Rattle.jm_forks.proofs.Laws.{sessions_of-callers}
 use Rattle.jm_tx.specs.declared.buffer.Buffer.{Buffer}
 use Rattle.jm_seats.specs.Seat.{Seated}
 use Rattle.jm_seats.specs.Seats.{Seating, is_by_connection, owner_of, place_of, senders_of, unopened_at}
-use Rattle.jm_seats.specs.declared.stretch.StretchFault.{StretchFault}
-use Rattle.jm_seats.specs.declared.stretch.StretchFault.TheVariants.{Memory, NoSeat}
+use Rattle.jm_seats.specs.declared.stretch.StretchFault.TheVariants.{NoSeat}
 use Rattle.jm_threaded.specs.Runs.{AreNew, IsNowhere, StopsAt}
-use Rattle.jm_threaded.specs.Threaded.{part_fault}
-use Rattle.jm_threaded.specs.declared.threaded.ThreadedFault.TheVariants as threaded
 
 -- the seat at that place is the session's, and so it has a place
 place_below : (seats : List Seated) (s : SessionId) (k : ℕ) (d : Seated) → k < length seats → (get_or seats k d).half.sender.session ≡ s
@@ -130,11 +127,6 @@ module _ (opening : ℕ) (parts : List Part) (before : Seating) (seats : List Se
       ) in
       call_placed (Together calls) nowhere.call stands within
       (All-contains (λ c. is_by_session c ≡ true) calls nowhere.call (All-contains IsBySessions parts (Together calls) all stands) within) nowhere.nowhere
-
--- no other fault of a part is told so
-pub told_no_seat : (fault : StretchFault) → part_fault fault ≡ threaded.NoSeat → fault ≡ NoSeat
-told_no_seat NoSeat is = refl
-told_no_seat Memory is = cc
 
 -- so a run of parts of which those together are by sessions stops at none for want of a seat
 pub never_unseated : (opening : ℕ) (parts : List Part) (before after : Seating) (replies : List (Result Answer Refusal)) → AreNew opening (sessions_of parts) before

@@ -1,5 +1,5 @@
 -- The parts of a scenario, made at the seats of its sessions (ours).
-use Rattle.std.specs.Prelude.{◌≡◌, ℕ, List, [], ◌∷◌, ◌++◌, map, All, Result}
+use Rattle.std.specs.Prelude.{◌≡◌, ℕ, false, List, [], ◌∷◌, ◌++◌, length, map, All, Result}
 use Rattle.jm_base.specs.declared.refusal.Refusal.{Refusal}
 use Rattle.jm_dest.specs.declared.session.SessionId.{SessionId}
 use Rattle.jm_machine.specs.declared.answer.Answer.{Answer}
@@ -8,7 +8,7 @@ use Rattle.jm_forks.specs.declared.part.Part.{Part}
 use Rattle.jm_forks.specs.declared.part.Part.TheVariants.{Alone, Together}
 use Rattle.jm_seats.specs.Faults.{OnNoSeat}
 use Rattle.jm_seats.specs.Seat.{Seated}
-use Rattle.jm_seats.specs.Seats.{Seating, SeatsFit, StretchFits, HasNoSeat, IsUnseated, IsUnused, unopened_at}
+use Rattle.jm_seats.specs.Seats.{Seating, SeatsFit, StretchFits, IsUnseated, IsUnused, is_by_connection, owner_of, unopened_at}
 use Rattle.jm_seats.specs.declared.stretch.StretchFault.{StretchFault}
 
 -- what a part is told, and what the seats are then: a call alone is made at its seat, and calls together are made in a stretch
@@ -25,11 +25,11 @@ PartsFit old (part ∷ parts) replies new =
 
 -- a call of the part is made at no seat
 abbrev pub IsNowhere : List Seated → Part → Type 0
-IsNowhere seats (Alone call) = HasNoSeat seats call
+IsNowhere seats (Alone call) = (is_by_connection call ≡ false) × (owner_of seats call ≡ length seats)
 IsNowhere seats (Together calls) = IsUnseated seats calls
 
 -- a run stops at one of the parts: those before it were made, and told so; of it and of those behind it no call was made, since
--- one of its calls is made at no seat, or else memory was wanted
+-- one of its calls is made at no seat, or memory was wanted
 pub record StopsAt (old : Seating) (parts : List Part) (replies : List (Result Answer Refusal)) (fault : StretchFault) (new : Seating) : Type 0 where
   pub before : List Part
   pub part : Part

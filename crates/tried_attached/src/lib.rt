@@ -1,5 +1,0 @@
-//! A trial.
-#![tactic(auto)]
-
-mod attached;
-pub use attached::Attached;

@@ -1,9 +1,0 @@
-//! Calls that take memory and do much: a file is opened, and a store, and a scenario is played over a keeper.
-//!
-//! # Contract
-//!
-//! None: each module makes the call of a number, and says so where there is none.
-#![tactic(auto)]
-
-pub mod plays;
-pub mod stores;
