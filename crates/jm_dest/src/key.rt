@@ -8,7 +8,7 @@ use std::alloc::AllocError;
 
 /// What a row is held for: a queue, or a subscription of one of three families (Jakarta Messaging
 /// 3.1, section 8.3; the keys are ours).
-#[derive(Debug, PartialEq, Eq, Hash, Drop)]
+#[derive(Debug, PartialEq, Eq, PartialOrd, Ord, Hash, Drop)]
 pub enum Key {
     /// The queue of that name.
     Queue(Name),

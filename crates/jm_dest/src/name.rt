@@ -3,14 +3,15 @@ ghost use Rattle.jm_base.specs.declared.refusal.Refusal.TheVariants.{Memory, Bad
 ghost use Rattle.std.specs.List.{list_all};
 ghost use Rattle.jm_dest.specs.Names as spec;
 
-use jm_base::{Refusal, Str};
+use jm_base::Refusal;
+use jm_shared::SharedStr;
 use std::alloc::{AllocError, Global};
 use std::marker::Model;
 
 /// A name of 1 to 255 bytes of UTF-8, none below 0x20 and none 0x7F (ours).
-#[derive(Debug, PartialEq, Eq, Hash)]
+#[derive(Debug, PartialEq, Eq, PartialOrd, Ord, Hash)]
 pub struct Name {
-    text: Str,
+    text: SharedStr,
 }
 
 impl Drop for Name {
@@ -57,9 +58,8 @@ impl Name {
         if !is_name(text) {
             return Err(Refusal::BadName);
         }
-        let text = String::from_str(alloc, text)?;
         Ok(Name {
-            text: Str::new(text),
+            text: SharedStr::from_str(alloc, text)?,
         })
     }
 
@@ -82,7 +82,7 @@ impl Name {
 }
 
 /// The client identifier of a connection (Jakarta Messaging 3.1, section 6.1.2): a name.
-#[derive(Debug, PartialEq, Eq, Hash)]
+#[derive(Debug, PartialEq, Eq, PartialOrd, Ord, Hash)]
 pub struct ClientId {
     identifier: Name,
 }
@@ -137,7 +137,7 @@ impl ClientId {
 }
 
 /// The name of a durable or shared subscription (Jakarta Messaging 3.1, section 4.2): a name.
-#[derive(Debug, PartialEq, Eq, Hash)]
+#[derive(Debug, PartialEq, Eq, PartialOrd, Ord, Hash)]
 pub struct SubscriptionName {
     name: Name,
 }

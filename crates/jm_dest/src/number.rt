@@ -5,7 +5,7 @@ use jm_base::Refusal;
 use std::marker::Model;
 
 /// A number of an opening, connection, session or consumer: 1 to 4,294,967,295 (ours).
-#[derive(Clone, Copy, Debug, PartialEq, Eq, Hash)]
+#[derive(Clone, Copy, Debug, PartialEq, Eq, PartialOrd, Ord, Hash)]
 pub struct Number {
     value: u32,
 }
@@ -46,7 +46,7 @@ impl Number {
 }
 
 /// The number of a connection, chosen by the caller (ours).
-#[derive(Clone, Copy, Debug, PartialEq, Eq, Hash)]
+#[derive(Clone, Copy, Debug, PartialEq, Eq, PartialOrd, Ord, Hash)]
 pub struct ConnectionId {
     number: Number,
 }
@@ -83,7 +83,7 @@ impl ConnectionId {
 }
 
 /// The number of a consumer in its session, chosen by the caller (ours).
-#[derive(Clone, Copy, Debug, PartialEq, Eq, Hash)]
+#[derive(Clone, Copy, Debug, PartialEq, Eq, PartialOrd, Ord, Hash)]
 pub struct ConsumerId {
     inner: Number,
 }

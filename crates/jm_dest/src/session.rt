@@ -5,7 +5,7 @@ use crate::number::{ConnectionId, Number};
 use jm_base::Refusal;
 
 /// A session: its connection, and its number in that connection, chosen by the caller (ours).
-#[derive(Clone, Copy, Debug, PartialEq, Eq, Hash)]
+#[derive(Clone, Copy, Debug, PartialEq, Eq, PartialOrd, Ord, Hash)]
 pub struct SessionId {
     pub connection: ConnectionId,
     pub number: Number,

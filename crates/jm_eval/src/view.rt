@@ -4,9 +4,9 @@ ghost use Rattle.jm_eval.specs.Seen.{seen};
 ghost use Rattle.jm_eval.specs.Views as spec;
 
 use crate::value::Value;
-use jm_base::Str;
 use jm_header::{DeliveryMode, Message};
 use jm_property::Property;
+use jm_shared::SharedStr;
 use jm_tree::{Field, Identifier};
 
 fn mode_text<'a>(mode: DeliveryMode) -> &'a str
@@ -18,7 +18,7 @@ fn mode_text<'a>(mode: DeliveryMode) -> &'a str
     }
 }
 
-fn text_or_null(text: Option<&Str>) -> Value<'_>
+fn text_or_null(text: Option<&SharedStr>) -> Value<'_>
     ensures { seen result ≡ spec.text_or_null (option_copied text.entry) }
 {
     match text {

@@ -2,10 +2,10 @@ ghost use Rattle.std.specs.Prelude.{◌≡◌, ◌+◌, min, length, option_copi
 ghost use Rattle.std.specs.List.{concat, flat_map};
 ghost use Rattle.jm_format.specs.Format as format;
 
-use jm_base::Str;
 use jm_dest::Destination;
 use jm_header::{Body, Message};
 use jm_property::{Properties, Property};
+use jm_shared::SharedStr;
 
 /// The bytes of the fields before the name of the destination, without a delivery time.
 const HEAD_LENGTH: usize = 40;
@@ -18,7 +18,7 @@ fn block_length(length: usize) -> usize
 }
 
 /// The bytes of a mark and a text.
-fn optional_length(text: Option<&Str>) -> usize
+fn optional_length(text: Option<&SharedStr>) -> usize
     ensures { result ≡ min (length (concat (format.optional (option_copied text.entry)))) usize.MAX }
 {
     match text {
@@ -34,7 +34,7 @@ fn body_length(body: &Body) -> usize
     match body {
         Body::None => 1,
         Body::Text(text) => block_length(text.as_str().len()).saturating_add(1),
-        Body::Bytes(bytes) => block_length(bytes.as_slice().len()).saturating_add(1),
+        Body::Bytes(bytes) => block_length(bytes.as_bytes().len()).saturating_add(1),
     }
 }
 

@@ -7,10 +7,10 @@ ghost use Rattle.jm_format.specs.Format as format;
 ghost use Rattle.jm_format.specs.Messages.{IsBlock, IsText, IsName, IsSender, IsBody, IsValue, IsProperty, AreProperties, IsMessage};
 
 use crate::length::record_length;
-use jm_base::Str;
 use jm_dest::{Destination, Moment, SessionId};
 use jm_header::{Body, DeliveryMode, Message, Sender};
 use jm_property::{Properties, Property};
+use jm_shared::SharedStr;
 use std::alloc::{AllocError, Global};
 
 /// The version of the record of a message without a delivery delay.
@@ -37,7 +37,7 @@ fn put_text(out: &mut Vec<u8>, text: &str) -> Result<(), AllocError>
 }
 
 /// Adds a mark and, where there is one, the text.
-fn put_optional(out: &mut Vec<u8>, text: Option<&Str>) -> Result<(), AllocError>
+fn put_optional(out: &mut Vec<u8>, text: Option<&SharedStr>) -> Result<(), AllocError>
     ensures written { OnOk result (out.new.items ≡ out.old.items ++ concat (format.optional (option_copied text.entry))) }
     ensures valid { OnOk result (IfSome (option_copied text.entry) IsText) }
 {
@@ -134,7 +134,7 @@ fn put_body(out: &mut Vec<u8>, body: &Body) -> Result<(), AllocError>
         }
         Body::Bytes(bytes) => {
             out.push(2)?;
-            put_block(out, bytes.as_slice())
+            put_block(out, bytes.as_bytes())
         }
     }
 }

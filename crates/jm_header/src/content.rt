@@ -1,10 +1,10 @@
 ghost use Rattle.std.specs.Prelude.{◌≡◌, IfOk};
 
 use crate::body::Body;
-use jm_base::Str;
 use jm_dest::{Destination, Moment, Number, SessionId};
 use jm_property::Properties;
-use std::alloc::{AllocError, Global};
+use jm_shared::SharedStr;
+use std::alloc::AllocError;
 
 /// How a message is delivered (Jakarta Messaging 3.1, section 3.4.2, JMSDeliveryMode).
 #[derive(Clone, Copy, Debug, PartialEq, Eq)]
@@ -42,9 +42,9 @@ pub struct Content {
     /// JMSDeliveryTime, which is the timestamp where the message has no delay.
     pub delivery_time: Moment,
     /// JMSCorrelationID.
-    pub correlation: Option<Str>,
+    pub correlation: Option<SharedStr>,
     /// JMSType.
-    pub message_type: Option<Str>,
+    pub message_type: Option<SharedStr>,
     /// The body.
     pub body: Body,
     /// The properties.
@@ -67,9 +67,9 @@ pub struct Settings {
     /// The delivery delay in milliseconds.
     pub delivery_delay: u64,
     /// JMSCorrelationID.
-    pub correlation: Option<Str>,
+    pub correlation: Option<SharedStr>,
     /// JMSType.
-    pub message_type: Option<Str>,
+    pub message_type: Option<SharedStr>,
     /// The body.
     pub body: Body,
     /// The properties.
@@ -77,7 +77,7 @@ pub struct Settings {
 }
 
 /// An equal text, or none. `AllocError` where a request for memory was refused.
-fn copy_text(text: &Option<Str>) -> Result<Option<Str>, AllocError>
+fn copy_text(text: &Option<SharedStr>) -> Result<Option<SharedStr>, AllocError>
     ensures { IfOk result (λ copy. copy ≡ text.now) }
 {
     match text {
@@ -88,7 +88,7 @@ fn copy_text(text: &Option<Str>) -> Result<Option<Str>, AllocError>
 
 impl Content {
     /// Equal fields. `AllocError` where a request for memory was refused.
-    pub(crate) fn copy(&self, alloc: Global) -> Result<Content, AllocError>
+    pub(crate) fn copy(&self) -> Result<Content, AllocError>
         ensures { IfOk result (λ copy. copy ≡ self.now) }
     {
         Ok(Content {
@@ -102,7 +102,7 @@ impl Content {
             delivery_time: self.delivery_time,
             correlation: copy_text(&self.correlation)?,
             message_type: copy_text(&self.message_type)?,
-            body: self.body.copy(alloc)?,
+            body: self.body.copy()?,
             properties: self.properties.copy()?,
             is_body_read_only: self.is_body_read_only,
             are_properties_read_only: self.are_properties_read_only,
@@ -112,7 +112,7 @@ impl Content {
 
 impl Settings {
     /// Equal fields. `AllocError` where a request for memory was refused.
-    pub(crate) fn copy(&self, alloc: Global) -> Result<Settings, AllocError>
+    pub(crate) fn copy(&self) -> Result<Settings, AllocError>
         ensures { IfOk result (λ copy. copy ≡ self.now) }
     {
         Ok(Settings {
@@ -122,7 +122,7 @@ impl Settings {
             delivery_delay: self.delivery_delay,
             correlation: copy_text(&self.correlation)?,
             message_type: copy_text(&self.message_type)?,
-            body: self.body.copy(alloc)?,
+            body: self.body.copy()?,
             properties: self.properties.copy()?,
         })
     }

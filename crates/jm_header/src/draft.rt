@@ -9,8 +9,9 @@ ghost use Rattle.jm_property.specs.Properties.{with_property, is_allowed, set_fa
 
 use crate::body::Body;
 use crate::content::{DeliveryMode, Settings};
-use jm_base::{List, MessageFault, Refusal, Str};
+use jm_base::{MessageFault, Refusal};
 use jm_property::{Properties, Property};
+use jm_shared::{SharedBytes, SharedStr};
 use std::alloc::{AllocError, Global};
 use std::marker::Model;
 
@@ -129,8 +130,8 @@ impl Draft {
             (λ _. self.new ≡ record self.old { correlation = Some correlation.now })
             (λ refusal. (self.new ≡ self.old) × (refusal ≡ Memory)) }
     {
-        let text = String::from_str(self.alloc, correlation)?;
-        self.settings.correlation = Some(Str::new(text));
+        let text = SharedStr::from_str(self.alloc, correlation)?;
+        self.settings.correlation = Some(text);
         Ok(())
     }
 
@@ -141,8 +142,8 @@ impl Draft {
             (λ _. self.new ≡ record self.old { message_type = Some message_type.now })
             (λ refusal. (self.new ≡ self.old) × (refusal ≡ Memory)) }
     {
-        let text = String::from_str(self.alloc, message_type)?;
-        self.settings.message_type = Some(Str::new(text));
+        let text = SharedStr::from_str(self.alloc, message_type)?;
+        self.settings.message_type = Some(text);
         Ok(())
     }
 
@@ -153,8 +154,7 @@ impl Draft {
             (λ _. self.new ≡ record self.old { body = Body.Text text.now })
             (λ refusal. (self.new ≡ self.old) × (refusal ≡ Memory)) }
     {
-        let text = String::from_str(self.alloc, text)?;
-        self.settings.body = Body::Text(Str::new(text));
+        self.settings.body = Body::Text(SharedStr::from_str(self.alloc, text)?);
         Ok(())
     }
 
@@ -165,8 +165,7 @@ impl Draft {
             (λ _. self.new ≡ record self.old { body = Body.Bytes bytes.now })
             (λ refusal. (self.new ≡ self.old) × (refusal ≡ Memory)) }
     {
-        let bytes = Vec::from_slice(self.alloc, bytes)?;
-        self.settings.body = Body::Bytes(List::new(bytes));
+        self.settings.body = Body::Bytes(SharedBytes::from_slice(self.alloc, bytes)?);
         Ok(())
     }
 
@@ -196,7 +195,7 @@ impl Draft {
     {
         Ok(Draft {
             alloc: self.alloc,
-            settings: self.settings.copy(self.alloc)?,
+            settings: self.settings.copy()?,
         })
     }
 

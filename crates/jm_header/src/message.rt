@@ -6,9 +6,10 @@ ghost use Rattle.jm_property.specs.Properties.{with_property, is_allowed};
 use crate::body::Body;
 use crate::content::{Content, DeliveryMode, Sender, Settings};
 use crate::draft::Draft;
-use jm_base::{List, MessageFault, Str};
+use jm_base::MessageFault;
 use jm_dest::{Destination, Moment};
 use jm_property::{Properties, Property};
+use jm_shared::{SharedBytes, SharedStr};
 use std::alloc::{AllocError, Global};
 use std::marker::Model;
 
@@ -109,14 +110,14 @@ impl Message {
     }
 
     /// JMSCorrelationID, where it is set.
-    pub fn correlation(&self) -> Option<&Str>
+    pub fn correlation(&self) -> Option<&SharedStr>
         ensures { option_copied result ≡ self.now.correlation }
     {
         self.content.correlation.as_ref()
     }
 
     /// JMSType, where it is set.
-    pub fn message_type(&self) -> Option<&Str>
+    pub fn message_type(&self) -> Option<&SharedStr>
         ensures { option_copied result ≡ self.now.message_type }
     {
         self.content.message_type.as_ref()
@@ -193,8 +194,7 @@ impl Message {
         if self.content.is_body_read_only {
             return Err(MessageFault::NotWriteable);
         }
-        let text = String::from_str(self.alloc, text)?;
-        self.content.body = Body::Text(Str::new(text));
+        self.content.body = Body::Text(SharedStr::from_str(self.alloc, text)?);
         Ok(())
     }
 
@@ -208,8 +208,7 @@ impl Message {
         if self.content.is_body_read_only {
             return Err(MessageFault::NotWriteable);
         }
-        let bytes = Vec::from_slice(self.alloc, bytes)?;
-        self.content.body = Body::Bytes(List::new(bytes));
+        self.content.body = Body::Bytes(SharedBytes::from_slice(self.alloc, bytes)?);
         Ok(())
     }
 
@@ -267,7 +266,7 @@ impl Message {
     {
         Ok(Message {
             alloc: self.alloc,
-            content: self.content.copy(self.alloc)?,
+            content: self.content.copy()?,
         })
     }
 

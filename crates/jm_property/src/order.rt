@@ -6,11 +6,11 @@ ghost use Rattle.jm_property.specs.Properties.{value_of};
 ghost use Rattle.jm_property.specs.Same.{names_of};
 
 use crate::property::Property;
-use jm_base::Str;
+use jm_shared::SharedStr;
 use std::alloc::{AllocError, Global};
 
 /// A name with its value.
-pub(crate) type Entry = (Str, Property);
+pub(crate) type Entry = (SharedStr, Property);
 
 /// So many properties are looked through in turn, and more are found by the order of their names.
 const IN_TURN: usize = 16;

@@ -9,7 +9,8 @@ ghost use Rattle.jm_property.specs.Same.{names_of};
 use crate::identifier::is_identifier;
 use crate::order::{Entry, add_place, find};
 use crate::property::Property;
-use jm_base::{MessageFault, Str};
+use jm_base::MessageFault;
+use jm_shared::SharedStr;
 use std::alloc::{AllocError, Global};
 use std::fmt;
 use std::marker::Model;
@@ -190,7 +191,7 @@ impl Properties {
         ensures ok { OnOk result (self.new ≡ spec.with_property self.old name.now value) }
         ensures err { OnErr result (self.new ≡ self.old) }
     {
-        let own_name = Str::new(String::from_str(*self.entries.allocator(), name)?);
+        let own_name = SharedStr::from_str(*self.entries.allocator(), name)?;
         self.entries.reserve(1)?;
         add_place(&self.entries, &mut self.order, name)?;
         match self.entries.push((own_name, value)) {
@@ -257,7 +258,7 @@ impl Properties {
 
     /// The property read as a text: `true` or `false`, a number in plain decimal, or the text itself.
     /// `Unset` where it is not set, else `Memory` where a request for memory was refused.
-    pub fn get_text(&self, name: &str) -> Result<Str, MessageFault>
+    pub fn get_text(&self, name: &str) -> Result<SharedStr, MessageFault>
         ensures { MatchResult result
             (λ text. Ok text ≡ spec.read_as (λ value. Some (as_text value)) (spec.value_of self.now name.now))
             (λ fault. fault ≡ (if is_some (spec.value_of self.now name.now) then Memory else Unset)) }

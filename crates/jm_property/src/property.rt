@@ -1,7 +1,7 @@
 ghost use Rattle.std.specs.Prelude.{◌≡◌, IfOk};
 ghost use Rattle.jm_property.specs.Conversions as spec;
 
-use jm_base::Str;
+use jm_shared::SharedStr;
 use std::alloc::{AllocError, Global};
 
 /// The value of a property, of one of the types that this provider keeps (Jakarta Messaging 3.1,
@@ -19,7 +19,7 @@ pub enum Property {
     /// long
     Long(i64),
     /// String
-    Text(Str),
+    Text(SharedStr),
 }
 
 impl Property {
@@ -86,7 +86,7 @@ impl Property {
 
     /// The value read as a text, to which every type converts. `AllocError` where a request for
     /// memory was refused.
-    pub(crate) fn to_text(&self, alloc: Global) -> Result<Str, AllocError>
+    pub(crate) fn to_text(&self, alloc: Global) -> Result<SharedStr, AllocError>
         ensures { IfOk result (λ text. text ≡ spec.as_text self.now) }
     {
         let text = match self {
@@ -97,7 +97,7 @@ impl Property {
             Property::Long(value) => value.to_string(alloc)?,
             Property::Text(text) => return text.copy(),
         };
-        Ok(Str::new(text))
+        SharedStr::from_string(text)
     }
 
     /// An equal value. `AllocError` where a request for memory was refused.

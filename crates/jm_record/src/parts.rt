@@ -6,11 +6,11 @@ ghost use Rattle.jm_record.specs.Heads.{seen_head};
 use crate::fault::Fault;
 use crate::head::Head;
 use crate::reader::Reader;
-use jm_base::{List, Str};
 use jm_dest::{ConnectionId, Destination, Moment, Number, SessionId};
 use jm_format::{VERSION, VERSION_DELAYED};
 use jm_header::{Body, Content, DeliveryMode, Sender};
 use jm_property::{Properties, Property};
+use jm_shared::{SharedBytes, SharedStr};
 use std::alloc::Global;
 
 /// The last number of a send.
@@ -52,16 +52,16 @@ impl<'a> Reader<'a> {
     }
 
     /// A text in memory of its own.
-    fn owned_text(&mut self, alloc: Global) -> Result<Str, Fault>
+    fn owned_text(&mut self, alloc: Global) -> Result<SharedStr, Fault>
         ensures { Reads (λ text. text) (spec.text self.old) result self.new }
     {
         let text = self.text()?;
-        Ok(Str::new(String::from_str(alloc, text)?))
+        Ok(SharedStr::from_str(alloc, text)?)
     }
 
     /// A mark and, where it is 1, a text.
     #[tactic(auto, unfolding(jm_format::specs::Reading::optional_text, jm_format::specs::Reading::marked_text))]
-    fn optional_text(&mut self, alloc: Global) -> Result<Option<Str>, Fault>
+    fn optional_text(&mut self, alloc: Global) -> Result<Option<SharedStr>, Fault>
         ensures { Reads (λ text. text) (spec.optional_text self.old) result self.new }
     {
         let mark = self.byte(0, 1)?;
@@ -82,7 +82,7 @@ impl<'a> Reader<'a> {
             1 => Ok(Body::Text(self.owned_text(alloc)?)),
             _ => {
                 let bytes = self.block()?;
-                Ok(Body::Bytes(List::new(Vec::from_slice(alloc, bytes)?)))
+                Ok(Body::Bytes(SharedBytes::from_slice(alloc, bytes)?))
             }
         }
     }

@@ -8,9 +8,10 @@ use crate::field::Field;
 use crate::misfit::Misfit;
 use crate::value::{misfit, optional, optional_text, text};
 use hex::FromHexError;
-use jm_base::{MessageFault, Str};
+use jm_base::MessageFault;
 use jm_header::{DeliveryMode, Draft};
 use jm_property::Property;
+use jm_shared::SharedStr;
 use serde_json::Value;
 use std::alloc::Global;
 
@@ -191,8 +192,8 @@ fn property(alloc: Global, type_name: &str, value: &Value) -> Result<Property, M
             None => Err(misfit(value, Field::Properties)),
         },
         "String" => {
-            let text = String::from_str(alloc, text(value, Field::Properties)?)?;
-            Ok(Property::Text(Str::new(text)))
+            let text = text(value, Field::Properties)?;
+            Ok(Property::Text(SharedStr::from_str(alloc, text)?))
         }
         "float" | "double" => Err(Misfit::Floating),
         _ => Err(Misfit::Shape(Field::Properties)),

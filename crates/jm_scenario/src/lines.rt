@@ -17,7 +17,7 @@ fn body_text(alloc: Global, body: &Body) -> Result<String, AllocError>
             format!(in alloc; "text {quoted}")
         }
         Body::Bytes(bytes) => {
-            let pairs = hex::encode(alloc, bytes.as_slice())?;
+            let pairs = hex::encode(alloc, bytes.as_bytes())?;
             format!(in alloc; "bytes {pairs}")
         }
     }

@@ -101,7 +101,7 @@ fn items(alloc: Global, records: &[Value]) -> Result<Vec<Item>, ScenarioFault>
     ensures { MatchResult result (λ items. spec.AreSpelled (spec.items_of (items_view records.now)) items.items)
         (λ fault. fault ≢ ScenarioFault.Memory → spec.AreNoneSpelled (spec.items_of (items_view records.now))) }
 {
-    let mut items = Vec::with_capacity(alloc, records.len())?;
+    let mut items = Vec::new(alloc);
     let mut is_forked = false;
     for (index, record) in records.iter().enumerate() {
         match item_in_place(alloc, record, is_forked) {

@@ -92,9 +92,6 @@ Definition_send = search (sendable, crosses, maps.crosses, Name_send, Selector_s
 pub ConsumerNumber_send : IsSend ConsumerNumber.the_row
 ConsumerNumber_send = search (sendable, crosses, maps.crosses) depth 60 fits 20000
 
-pub Clients_send : IsSend Clients.the_row
-Clients_send = search (sendable, crosses, maps.crosses) depth 60 fits 20000
-
 pub Roster_send : IsSend Roster.the_row
 Roster_send = search (sendable, crosses, maps.crosses, Consumer_send, Attached_send, ConsumerNumber_send) depth 60 fits 20000
 
@@ -131,8 +128,12 @@ Stations_send = search (sendable, crosses, maps.crosses, Key_send, Backlogs_send
 pub Queues_send : IsSend Queues.the_row
 Queues_send = search (sendable, crosses, maps.crosses, Stations_send) depth 60 fits 20000
 
+-- as a field, since to see that it is the row takes a search too many steps
+pub Clients_field : IsSend (Clients.the_field).row
+Clients_field = search (sendable, crosses, maps.crosses) depth 60 fits 20000
+
 pub Sessions_send : IsSend Sessions.the_row
-Sessions_send = search (sendable, crosses, index_map.the_send, ConnectionState_send, SessionState_send, Clients_send, Roster_send) depth 60 fits 20000
+Sessions_send = search (sendable, crosses, index_map.the_send, ConnectionState_send, SessionState_send, Clients_field, Roster_send) depth 60 fits 20000
 
 pub Topics_field : IsSend (Topics.the_field).row
 Topics_field = search (sendable, crosses, index_map.the_send, linked.the_send, Name_send, Key_send) depth 60 fits 20000

@@ -1,9 +1,10 @@
 //! A record with every field that there may be, and its message.
 
-use jm_base::{Refusal, Str};
+use jm_base::Refusal;
 use jm_dest::{ConnectionId, Destination, Moment, Number, SessionId};
 use jm_header::{DeliveryMode, Draft, Message, Sender, stamp};
 use jm_property::Property;
+use jm_shared::SharedStr;
 use std::alloc::Global;
 
 /// The bytes: of the fields before the destination's name, of the texts and the body, and of each property.
@@ -62,8 +63,8 @@ fn set_numbers(draft: &mut Draft) {
 }
 
 fn set_text(draft: &mut Draft, alloc: Global, name: &str, text: &str) {
-    if let Ok(text) = String::from_str(alloc, text) {
-        let _ = draft.set_property(name, Property::Text(Str::new(text)));
+    if let Ok(text) = SharedStr::from_str(alloc, text) {
+        let _ = draft.set_property(name, Property::Text(text));
     }
 }
 

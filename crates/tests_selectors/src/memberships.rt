@@ -7,6 +7,7 @@ use jm_dest::{ConnectionId, Destination, Moment, Number, SessionId};
 use jm_eval::{Truth, condition};
 use jm_header::{Draft, Message, Sender, stamp};
 use jm_property::Property;
+use jm_shared::SharedStr;
 use jm_syntax::{Identifier, Texts, Tree};
 use std::alloc::{AllocError, Global};
 
@@ -23,8 +24,8 @@ fn draft(alloc: Global, given: Given) -> Option<Draft> {
     let mut draft = Draft::new(alloc);
     let set = match given {
         Given::Nothing => Ok(()),
-        Given::Text(text) => match String::from_str(alloc, text) {
-            Ok(text) => draft.set_property("x", Property::Text(Str::new(text))),
+        Given::Text(text) => match SharedStr::from_str(alloc, text) {
+            Ok(text) => draft.set_property("x", Property::Text(text)),
             Err(_) => return None,
         },
         Given::Long(number) => draft.set_property("x", Property::Long(number)),

@@ -1,10 +1,11 @@
 //! Drafts and messages: stamps, header fields, expiry, delivery delay, and what is read-only.
 
 use crate::told::{holds, is_truth};
-use jm_base::{MessageFault, Refusal, Str};
+use jm_base::{MessageFault, Refusal};
 use jm_dest::{ConnectionId, Destination, Moment, Number, SessionId};
 use jm_header::{Body, DeliveryMode, Draft, Message, Sender, stamp};
 use jm_property::Property;
+use jm_shared::SharedStr;
 use std::alloc::{AllocError, Global};
 
 /// A send: of a draft, as the session's message of that number, at that moment.
@@ -321,7 +322,7 @@ fn order(alloc: Global) -> Result<HeldMessage, Refusal> {
     stamped(draft, with, 1)
 }
 
-fn is_text(text: Option<&Str>, wanted: &str) -> bool {
+fn is_text(text: Option<&SharedStr>, wanted: &str) -> bool {
     match text {
         Some(text) => text.as_str() == wanted,
         None => false,
@@ -330,7 +331,7 @@ fn is_text(text: Option<&Str>, wanted: &str) -> bool {
 
 fn is_bytes(body: &Body, wanted: &[u8]) -> bool {
     match body {
-        Body::Bytes(bytes) => bytes.as_slice() == wanted,
+        Body::Bytes(bytes) => bytes.as_bytes() == wanted,
         _ => false,
     }
 }

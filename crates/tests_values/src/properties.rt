@@ -1,8 +1,9 @@
 //! Properties: how each type is read, names, and order.
 
 use crate::told::{holds, is_text};
-use jm_base::{MessageFault, Str};
+use jm_base::MessageFault;
 use jm_property::{Properties, Property, is_identifier, is_settable};
+use jm_shared::SharedStr;
 use std::alloc::{AllocError, Global};
 
 /// The value of a property.
@@ -23,7 +24,7 @@ fn property(alloc: Global, value: &Value) -> Result<Property, AllocError> {
         Value::Short(value) => Ok(Property::Short(*value)),
         Value::Int(value) => Ok(Property::Int(*value)),
         Value::Long(value) => Ok(Property::Long(*value)),
-        Value::Text(text) => Ok(Property::Text(Str::new(String::from_str(alloc, text)?))),
+        Value::Text(text) => Ok(Property::Text(SharedStr::from_str(alloc, text)?)),
     }
 }
 
@@ -141,17 +142,12 @@ fn each_type_is_read(rt: HostRuntime) {
     }
 }
 
-/// The text of `x`.
-fn text(properties: &Properties) -> Result<String, AllocError> {
-    match properties.get_text("x") {
-        Ok(text) => Ok(text.into_inner()),
-        Err(_) => Err(AllocError),
-    }
-}
-
 /// The text of `x` where it is the only property.
 fn text_of(alloc: Global, value: &Value) -> Result<String, AllocError> {
-    text(&only(alloc, value))
+    match only(alloc, value).get_text("x") {
+        Ok(text) => String::from_str(alloc, text.as_str()),
+        Err(_) => Err(AllocError),
+    }
 }
 
 #[test]

@@ -33,4 +33,4 @@ returns c =
 pub returns-in_err-push-in-Ok : goal.returns-in_err-push-in-Ok
 returns-in_err-push-in-Ok c =
     let spelled = items_of (items_view c.args.records.now) in
-    wanting c.from_residual-in_err-push-in-Ok.result (λ items. AreSpelled spelled items.items) (λ fault. AreNoneSpelled spelled) c.from_residual-in_err-push-in-Ok.ensures
+    wanting c.from_residual.result (λ items. AreSpelled spelled items.items) (λ fault. AreNoneSpelled spelled) c.from_residual.ensures

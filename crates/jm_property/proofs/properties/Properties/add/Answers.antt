@@ -21,7 +21,7 @@ invariant_of-self-2 c =
     let unset = ap (λ (t : Table). value_of t c.args.name.now) c.self.view_is ∙ c.requires.unset in
     let items : c.push.new.self.items ≡ table ++ (c.args.name.now, c.args.value) ∷ [] =
     c.push.ensures.items ∙ succeeded c.push.result _ _ (c.push.ensures.succeeds (omega (arith, c.in_ok-reserve.ensures.ok)))
-    ∙ (λ i. c.reserve.ensures.items i ++ ((c.new-own_name.ensures ∙ c.in_ok-from_str.ensures.ok) i, c.args.value) ∷ []) in (
+    ∙ (λ i. c.reserve.ensures.items i ++ (c.in_ok-own_name.ensures i, c.args.value) ∷ []) in (
       subst IsTable (sym (items ∙ sym (with_property-new table c.args.name.now c.args.value unset))) (IsTable-with_property table c.args.name.now c.args.value c.self.invariant.0 c.requires.allowed),
       λ many.
           let count : length c.push.new.self.items ≡ length table + 1 = ap length items ∙ length_push table (c.args.name.now, c.args.value) in
@@ -38,5 +38,5 @@ returns-clause-ok c =
     let unset = ap (λ (t : Table). value_of t c.args.name.now) c.self.view_is ∙ c.requires.unset in
     let items : c.push.new.self.items ≡ table ++ (c.args.name.now, c.args.value) ∷ [] =
     c.push.ensures.items ∙ succeeded c.push.result _ _ (c.push.ensures.succeeds (omega (arith, c.in_ok-reserve.ensures.ok)))
-    ∙ (λ i. c.reserve.ensures.items i ++ ((c.new-own_name.ensures ∙ c.in_ok-from_str.ensures.ok) i, c.args.value) ∷ []) in
+    ∙ (λ i. c.reserve.ensures.items i ++ (c.in_ok-own_name.ensures i, c.args.value) ∷ []) in
     on_ok c.match-push.result (items ∙ sym (with_property-new table c.args.name.now c.args.value unset) ∙ ap (λ (t : Table). with_property t c.args.name.now c.args.value) c.self.view_is)
