@@ -2,21 +2,20 @@
 
 use crate::work::{Client, Outcome, timed_work};
 use jm_base::{Mode, Refusal};
-use jm_client::{Consumer, Destination, Error, Provider, Session};
-use jm_keep::{Keep, NoKeep};
+use jm_client::{Backend, Consumer, Destination, Error, Provider, Session};
 use std::alloc::Global;
 use std::sync::Wait;
 use std::time::Clock;
 
 /// A session and its consumer.
-struct Objects<'p, R: Wait + Clock, K: Keep + Drop> {
-    session: Session<'p, R, K>,
-    consumer: Consumer<'p, R, K>,
+struct Objects<'p, R: Wait + Clock, B: Backend> {
+    session: Session<'p, R, B>,
+    consumer: Consumer<'p, R, B>,
     topic: Destination,
     sum: u64,
 }
 
-impl<'p, R: Wait + Clock, K: Keep + Drop> Drop for Objects<'p, R, K> {
+impl<'p, R: Wait + Clock, B: Backend> Drop for Objects<'p, R, B> {
     fn drop(self) {
         let Objects {
             session: _session,
@@ -35,7 +34,7 @@ fn refused<T>(reply: Result<T, Error>) -> Result<T, Refusal> {
     }
 }
 
-impl<'p, R: Wait + Clock, K: Keep + Drop> Client for Objects<'p, R, K> {
+impl<'p, R: Wait + Clock, B: Backend> Client for Objects<'p, R, B> {
     fn send(&mut self) -> Result<(), Refusal> {
         match self.session.create_text_message("work") {
             Ok(draft) => match self.session.send(&self.topic, draft) {
@@ -67,9 +66,9 @@ impl<'p, R: Wait + Clock, K: Keep + Drop> Client for Objects<'p, R, K> {
 }
 
 /// The session's objects, with a consumer of a topic.
-fn objects_of<'p, R: Wait + Clock, K: Keep + Drop>(
-    session: Session<'p, R, K>,
-) -> Result<Objects<'p, R, K>, Error> {
+fn objects_of<'p, R: Wait + Clock, B: Backend>(
+    session: Session<'p, R, B>,
+) -> Result<Objects<'p, R, B>, Error> {
     let topic = session.create_topic("t")?;
     let consumer = session.create_consumer(&topic, None, false)?;
     Ok(Objects {
@@ -81,9 +80,9 @@ fn objects_of<'p, R: Wait + Clock, K: Keep + Drop>(
 }
 
 /// Makes the rounds in a session of that mode.
-fn work_with<R: Wait + Clock, K: Keep + Drop>(
+fn work_with<R: Wait + Clock, B: Backend>(
     rt: &R,
-    session: Session<'_, R, K>,
+    session: Session<'_, R, B>,
     mode: Mode,
     rounds: u32,
 ) -> Result<Outcome, Refusal> {
@@ -96,7 +95,7 @@ fn work_with<R: Wait + Clock, K: Keep + Drop>(
 /// Makes the rounds in a session of that provider.
 fn work_in<R: Wait + Clock>(
     rt: &R,
-    provider: &Provider<'_, R, NoKeep>,
+    provider: &Provider<'_, R>,
     mode: Mode,
     rounds: u32,
 ) -> Result<Outcome, Refusal> {

@@ -122,13 +122,14 @@ abbrev pub is_named : Option (List ℕ) → Bool
 is_named None = true
 is_named (Some text) = is_name text
 
--- so many connections and sessions are open, there are so many subscriptions, and subscriptions and queues hold so
--- many messages, in a core whose state the provider reaches
+-- so many connections and sessions are open, so many consumers are active, there are so many subscriptions, and subscriptions and
+-- queues hold so many messages, in a core whose state the provider reaches
 pub record IsOverview (o : Overview) : Type 0 where
   pub core : Provider
   pub reached : Reached (state_of core)
   pub connections : o.connections ≡ count_by (λ x. x.is_open) (state_of core).life.connections
   pub sessions : o.sessions ≡ count_by (λ x. x.is_open) (state_of core).life.sessions
+  pub consumers : o.consumers ≡ count_by (λ x. x.is_active) (state_of core).consumers
   pub subscriptions : o.subscriptions ≡ length (state_of core).stations
   pub held : IsNumberOfMessages o.held (state_of core).stations
   pub queued : backlogs.IsNumberOfMessages o.queued core.queues.list

@@ -8,24 +8,26 @@ ghost use Rattle.jm_machine.specs.declared.call.Request.TheVariants.{CloseConnec
 ghost use Rattle.jm_machine.specs.declared.call.Who.TheVariants.{Connection as ByConnection, Session as BySession};
 ghost use Rattle.jm_tx.specs.Buffers.{new_buffer};
 
+use crate::backend::Backend;
+use crate::plain::Plain;
 use crate::provider::Provider;
 use crate::session::Session;
 use jm_base::Mode;
 use jm_core::{Request, Who};
 use jm_dest::{ConnectionId, SessionId};
 use jm_error::Error;
-use jm_keep::Keep;
+use jm_keep::NoKeep;
 use std::marker::Model;
 use std::sync::Wait;
 use std::time::Clock;
 
 /// A connection, which closes as it is dropped, with its sessions. Any thread may call it. Contracts see its number.
-pub struct Connection<'p, R: Wait + Clock, K: Keep + Drop> {
-    provider: &'p Provider<'p, R, K>,
+pub struct Connection<'p, R: Wait + Clock, B: Backend = Plain<NoKeep>> {
+    provider: &'p Provider<'p, R, B>,
     id: ConnectionId,
 }
 
-impl<'p, R: Wait + Clock, K: Keep + Drop> Model for Connection<'p, R, K> {
+impl<'p, R: Wait + Clock, B: Backend> Model for Connection<'p, R, B> {
     ghost use Rattle.std.specs.Prelude.{ℕ};
 
     ghost Value = { ℕ };
@@ -34,8 +36,8 @@ impl<'p, R: Wait + Clock, K: Keep + Drop> Model for Connection<'p, R, K> {
 }
 
 /// Closes the connection of that number.
-fn end<R: Wait + Clock, K: Keep + Drop>(
-    provider: &Provider<'_, R, K>,
+fn end<R: Wait + Clock, B: Backend>(
+    provider: &Provider<'_, R, B>,
     id: ConnectionId,
 ) -> Result<(), Error>
     ensures { Answers (ByConnection id) CloseConnection result }
@@ -43,16 +45,16 @@ fn end<R: Wait + Clock, K: Keep + Drop>(
     provider.ask_plain(Who::Connection(id), Request::CloseConnection)
 }
 
-impl<'p, R: Wait + Clock, K: Keep + Drop> Drop for Connection<'p, R, K> {
+impl<'p, R: Wait + Clock, B: Backend> Drop for Connection<'p, R, B> {
     fn drop(self) {
         let Connection { provider, id } = self;
         let _ = end(provider, id);
     }
 }
 
-impl<'p, R: Wait + Clock, K: Keep + Drop> Connection<'p, R, K> {
+impl<'p, R: Wait + Clock, B: Backend> Connection<'p, R, B> {
     /// The connection of that number, which is open.
-    pub(crate) fn new(provider: &'p Provider<'p, R, K>, id: ConnectionId) -> Connection<'p, R, K>
+    pub(crate) fn new(provider: &'p Provider<'p, R, B>, id: ConnectionId) -> Connection<'p, R, B>
         ensures { result ≡ id }
     {
         Connection { provider, id }
@@ -80,7 +82,7 @@ impl<'p, R: Wait + Clock, K: Keep + Drop> Connection<'p, R, K> {
     /// - `IllegalState`: the connection is closed.
     /// - `Exhausted`: 4,294,967,295 sessions were asked for already, of all connections of the provider.
     /// - `Memory`: a request for memory was refused.
-    pub fn create_session(&self, mode: Mode) -> Result<Session<'p, R, K>, Error>
+    pub fn create_session(&self, mode: Mode) -> Result<Session<'p, R, B>, Error>
         ensures mode { IfOk result (λ s. s ≡ new_buffer s.sender mode 0) }
         ensures sender { IfOk result (λ s. s.sender.session.connection ≡ self.now) }
         ensures ok { IfOk result (λ s. Told (BySession s.sender.session) (Ask (CreateSession mode)) (Ok Done)) }

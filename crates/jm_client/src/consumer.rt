@@ -9,24 +9,26 @@ ghost use Rattle.jm_machine.specs.declared.call.Call.TheVariants.{Ask};
 ghost use Rattle.jm_machine.specs.declared.call.Request.TheVariants.{CloseConsumer, Missed};
 ghost use Rattle.jm_machine.specs.declared.call.Who.TheVariants.{Session as BySession};
 
+use crate::backend::Backend;
+use crate::plain::Plain;
 use crate::provider::Provider;
 use crate::shared::Way;
 use jm_core::{Answer, Delivery, Request, Who};
 use jm_dest::{ConsumerId, SessionId};
 use jm_error::Error;
-use jm_keep::Keep;
+use jm_keep::NoKeep;
 use std::marker::Model;
 use std::sync::Wait;
 use std::time::{Clock, Duration};
 
 /// A consumer, which closes as it is dropped. Contracts see its session and its number.
-pub struct Consumer<'p, R: Wait + Clock, K: Keep + Drop> {
-    provider: &'p Provider<'p, R, K>,
+pub struct Consumer<'p, R: Wait + Clock, B: Backend = Plain<NoKeep>> {
+    provider: &'p Provider<'p, R, B>,
     session: SessionId,
     pub(crate) id: ConsumerId,
 }
 
-impl<'p, R: Wait + Clock, K: Keep + Drop> Model for Consumer<'p, R, K> {
+impl<'p, R: Wait + Clock, B: Backend> Model for Consumer<'p, R, B> {
     ghost use Rattle.std.specs.Prelude.{ℕ};
     ghost use Rattle.jm_dest.specs.declared.session.SessionId.{SessionId};
 
@@ -36,8 +38,8 @@ impl<'p, R: Wait + Clock, K: Keep + Drop> Model for Consumer<'p, R, K> {
 }
 
 /// Closes the session's consumer of that number.
-fn end<R: Wait + Clock, K: Keep + Drop>(
-    provider: &Provider<'_, R, K>,
+fn end<R: Wait + Clock, B: Backend>(
+    provider: &Provider<'_, R, B>,
     session: SessionId,
     id: ConsumerId,
 ) -> Result<(), Error>
@@ -49,7 +51,7 @@ fn end<R: Wait + Clock, K: Keep + Drop>(
     )
 }
 
-impl<'p, R: Wait + Clock, K: Keep + Drop> Drop for Consumer<'p, R, K> {
+impl<'p, R: Wait + Clock, B: Backend> Drop for Consumer<'p, R, B> {
     fn drop(self) {
         let Consumer {
             provider,
@@ -71,13 +73,13 @@ fn number_of(answer: &Answer) -> u64
     }
 }
 
-impl<'p, R: Wait + Clock, K: Keep + Drop> Consumer<'p, R, K> {
+impl<'p, R: Wait + Clock, B: Backend> Consumer<'p, R, B> {
     /// The session's consumer of that number, which is open.
     pub(crate) fn new(
-        provider: &'p Provider<'p, R, K>,
+        provider: &'p Provider<'p, R, B>,
         session: SessionId,
         id: ConsumerId,
-    ) -> Consumer<'p, R, K>
+    ) -> Consumer<'p, R, B>
         ensures { result ≡ (session, id) }
     {
         Consumer {

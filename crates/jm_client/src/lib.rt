@@ -3,9 +3,11 @@
 //!
 //! # Contract
 //!
-//! What is under its lock (`Shared`) carries by its type that where the keeper is clean what it has stored is what is
-//! stored of the core's state, and its `apply` has the clauses of `jm_kept::step`. Through the lock a call is told
-//! the machine's reply to its request in some state that the provider reaches, or counts as not made (`Told`).
+//! What makes the calls under its lock is a `Backend`, whose step is told the machine's reply and leaves the machine's
+//! state, or counts as not made and leaves the state. `Plain`, a core with its keeper, carries by its type that where
+//! the keeper is clean what it has stored is what is stored of the core's state, and its `step` has the clauses of
+//! `jm_kept::step`. Through the lock a call is told the machine's reply to its request in some state that the provider
+//! reaches, or counts as not made (`Told`).
 //!
 //! `send` stamps the draft and publishes it, and tells its number; in a transacted session it waits behind all that waited
 //! (`Sends`). A commit or a rollback that is refused leaves all that waits; one that is accepted leaves nothing.
@@ -15,8 +17,12 @@
 //! names is accepted, a commit of all that waits; and it is taken away. A refusal is that of the first call that is refused;
 //! that the listener is taken away after one is only tested.
 //!
-//! `overview` tells how many connections and sessions are open, how many subscriptions there are, and how many messages these
-//! and the queues hold, in one state that the provider reaches (`IsOverview`). Of waiting nothing is said.
+//! A listener is a `Listener`, or a `SessionListener`, which is lent its session and may say by a ghost member what it does
+//! (`handles_in`); a `Listener` is one that leaves the session as it is.
+//!
+//! `overview` tells how many connections and sessions are open, how many consumers are active, how many subscriptions
+//! there are, and how many messages these and the queues hold, in one state that the provider reaches (`IsOverview`). Of
+//! waiting nothing is said.
 //!
 //! A refusal is told as an `Error`, which contracts see as the refusal and its cause. Of an `IllegalState` or a
 //! `SubscriptionInUse` that the machine replies, `Error::cause` is exactly `why` (`jm_why`) of the state in which the call
@@ -24,10 +30,13 @@
 //! that it may be absent for a `SubscriptionInUse`, where memory was wanted to find it. No other refusal has a cause.
 #![tactic(auto)]
 
+mod backend;
 mod connection;
 mod consumer;
+mod lent;
 mod listening;
 mod overview;
+mod plain;
 mod provider;
 mod session;
 mod shared;
@@ -36,15 +45,18 @@ mod time;
 mod waiting;
 mod wakes;
 
+pub use backend::Backend;
 pub use connection::Connection;
 pub use consumer::Consumer;
 pub use jm_base::{MessageFault, Mode, Refusal};
 pub use jm_dest::Destination;
 pub use jm_error::Error;
 pub use jm_header::{Body, DeliveryMode, Draft, Message};
-pub use jm_listener::{After, Listener, ListenerFault, SessionListener};
+pub use jm_listener::{After, Listener, ListenerFault};
 pub use jm_machine::Delivery;
 pub use jm_why::Why;
+pub use lent::SessionListener;
 pub use overview::Overview;
+pub use plain::Plain;
 pub use provider::Provider;
 pub use session::Session;

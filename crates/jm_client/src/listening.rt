@@ -7,21 +7,22 @@ ghost use Rattle.jm_client.specs.Told.{Answers, Takes};
 ghost use Rattle.jm_machine.specs.declared.call.Request.TheVariants.{Done, SetListener};
 ghost use Rattle.jm_machine.specs.declared.call.Who.TheVariants.{Session as BySession};
 
+use crate::backend::Backend;
 use crate::consumer::Consumer;
+use crate::lent::SessionListener;
 use crate::provider::Provider;
 use crate::session::Session;
 use crate::shared::Way;
 use jm_core::{Request, Who};
 use jm_dest::{ConsumerId, SessionId};
 use jm_error::Error;
-use jm_keep::Keep;
-use jm_listener::{After, ListenerFault, SessionListener};
+use jm_listener::{After, ListenerFault};
 use std::sync::Wait;
 use std::time::{Clock, Duration};
 
 /// Lets the session's consumer listen, or no more.
-fn set_listener<R: Wait + Clock, K: Keep + Drop>(
-    provider: &Provider<'_, R, K>,
+fn set_listener<R: Wait + Clock, B: Backend>(
+    provider: &Provider<'_, R, B>,
     session: &SessionId,
     consumer: ConsumerId,
     on: bool,
@@ -36,8 +37,8 @@ fn set_listener<R: Wait + Clock, K: Keep + Drop>(
 
 /// Ends the delivery to the consumer's listener, well or not. Where that is refused it is ended as one that failed, where that
 /// can be, since a consumer whose listener is not done with its message cannot be used.
-fn end_delivery<R: Wait + Clock, K: Keep + Drop>(
-    provider: &Provider<'_, R, K>,
+fn end_delivery<R: Wait + Clock, B: Backend>(
+    provider: &Provider<'_, R, B>,
     session: &SessionId,
     consumer: ConsumerId,
     ok: bool,
@@ -70,7 +71,7 @@ fn outcome(turns: Result<u64, Error>, taken_away: Result<(), Error>) -> Result<u
     }
 }
 
-impl<'p, R: Wait + Clock, K: Keep + Drop> Session<'p, R, K> {
+impl<'p, R: Wait + Clock, B: Backend> Session<'p, R, B> {
     /// Makes the call that the listener's answer names, where it names one.
     fn follow(&mut self, answer: Result<After, ListenerFault>) -> Result<(), Error>
         ensures { Follows answer self.old result self.new }
@@ -87,7 +88,7 @@ impl<'p, R: Wait + Clock, K: Keep + Drop> Session<'p, R, K> {
     /// Ends the delivery, well just where the listener answered `Ok`, and makes the call that the answer names.
     fn finish(
         &mut self,
-        provider: &Provider<'_, R, K>,
+        provider: &Provider<'_, R, B>,
         session: &SessionId,
         consumer: ConsumerId,
         answer: Result<After, ListenerFault>,
@@ -102,7 +103,7 @@ impl<'p, R: Wait + Clock, K: Keep + Drop> Session<'p, R, K> {
 
     /// One turn: waits for the consumer's next message, has the listener handle it, and ends the turn. Whether a message came.
     #[tactic(auto, using(crate::proofs::Turns::not_taken))]
-    fn turn<N: SessionListener<Session<'p, R, K>>>(
+    fn turn<N: SessionListener<R, B>>(
         &mut self,
         consumer: ConsumerId,
         listener: &mut N,
@@ -129,7 +130,7 @@ impl<'p, R: Wait + Clock, K: Keep + Drop> Session<'p, R, K> {
     }
 
     /// Has the listener handle so many messages at most, until none comes within the timeout. How many it handled.
-    fn handle_all<N: SessionListener<Session<'p, R, K>>>(
+    fn handle_all<N: SessionListener<R, B>>(
         &mut self,
         consumer: ConsumerId,
         listener: &mut N,
@@ -169,9 +170,9 @@ impl<'p, R: Wait + Clock, K: Keep + Drop> Session<'p, R, K> {
     /// Where no message could be taken, none was. Where the end of a delivery is refused, it is ended as one that failed; where
     /// that is refused too, the message stays out, and the consumer is of no use until its session closes. Where the call that
     /// the answer names is refused, the delivery was ended before, and what waits for the commit waits still.
-    pub fn listen<N: SessionListener<Session<'p, R, K>>>(
+    pub fn listen<N: SessionListener<R, B>>(
         &mut self,
-        consumer: &Consumer<'p, R, K>,
+        consumer: &Consumer<'_, R, B>,
         listener: &mut N,
         timeout: Duration,
         messages: u64,

@@ -7,13 +7,16 @@ ghost use Rattle.jm_client.specs.Told.{Answers, IsOverview, RefusesNew, Told, is
 ghost use Rattle.jm_core.specs.Provider.{state_of};
 ghost use Rattle.jm_error.specs.Refused.{bare};
 ghost use Rattle.jm_keep.specs.Persisted.{IsPersisted};
+ghost use Rattle.jm_machine.specs.Isolation.{Reached};
 ghost use Rattle.jm_machine.specs.declared.answer.Answer.TheVariants.{Done};
 ghost use Rattle.jm_machine.specs.declared.call.Call.TheVariants.{Ask, Commit};
 ghost use Rattle.jm_machine.specs.declared.call.Request.TheVariants.{Open};
 ghost use Rattle.jm_machine.specs.declared.call.Who.TheVariants.{Connection as ByConnection, Session as BySession};
 
+use crate::backend::Backend;
 use crate::connection::Connection;
 use crate::overview::Overview;
+use crate::plain::Plain;
 use crate::shared::Shared;
 use crate::texts::client_named;
 use crate::time::moment;
@@ -39,11 +42,11 @@ const HELD_LIMIT: u32 = 100_000;
 /// `receive` makes one each time that it looks. Nothing is promised of how long a thread waits for the lock, or of the order
 /// in which those that wait go on.
 #[derive(Drop)]
-pub struct Provider<'r, R: Wait + Clock, K: Keep + Drop> {
+pub struct Provider<'r, R: Wait + Clock, B: Backend = Plain<NoKeep>> {
     pub(crate) rt: &'r R,
     pub(crate) alloc: Global,
     pub(crate) opening: Number,
-    pub(crate) shared: Mutex<Shared<K>>,
+    pub(crate) shared: Mutex<Shared<B>>,
     pub(crate) changed: Condvar,
 }
 
@@ -64,10 +67,10 @@ fn committed(alloc: Global, call: Call) -> Vec<Message>
     }
 }
 
-impl<'r, R: Wait + Clock> Provider<'r, R, NoKeep> {
+impl<'r, R: Wait + Clock> Provider<'r, R, Plain<NoKeep>> {
     /// A new provider that keeps nothing beyond the process. A subscription that is not durable may hold 100,000 messages.
     /// Takes no memory.
-    pub fn in_memory(rt: &'r R, alloc: Global) -> Provider<'r, R, NoKeep>
+    pub fn in_memory(rt: &'r R, alloc: Global) -> Provider<'r, R, Plain<NoKeep>>
         ensures { result.opening ≡ 1 }
     {
         let Ok(core) = Core::new(alloc, OPENING, HELD_LIMIT) else {
@@ -77,20 +80,46 @@ impl<'r, R: Wait + Clock> Provider<'r, R, NoKeep> {
     }
 }
 
-impl<'r, R: Wait + Clock, K: Keep + Drop> Provider<'r, R, K> {
+impl<'r, R: Wait + Clock, K: Keep + Drop> Provider<'r, R, Plain<K>> {
     /// A provider over that core and its keeper, which has stored what is stored of the core's state, where it is clean.
     /// Connections that the core knows stay as they are, and nobody has them. Takes no memory.
-    pub fn over(rt: &'r R, alloc: Global, core: Core, keeper: K) -> Provider<'r, R, K>
+    pub fn over(rt: &'r R, alloc: Global, core: Core, keeper: K) -> Provider<'r, R, Plain<K>>
         requires { IsTrue (K.is_clean keeper) → IsPersisted (state_of core) (K.stored keeper) }
         ensures { result.opening ≡ (state_of core).opening }
+    {
+        Provider::with_backend(rt, alloc, Plain::new(alloc, core, keeper))
+    }
+}
+
+impl<'r, R: Wait + Clock, B: Backend> Provider<'r, R, B> {
+    /// A provider whose calls that backend makes. Connections that its core knows stay as they are, and nobody has them. Takes
+    /// no memory.
+    pub fn with_backend(rt: &'r R, alloc: Global, backend: B) -> Provider<'r, R, B>
+        ensures { result.opening ≡ (state_of (B.core_of backend)).opening }
     {
         Provider {
             rt,
             alloc,
-            opening: core.opening(),
-            shared: Mutex::new(Shared::new(alloc, core, keeper)),
+            opening: backend.core().opening(),
+            shared: Mutex::new(Shared::new(alloc, backend)),
             changed: Condvar::new(),
         }
+    }
+
+    /// The backend, once nobody calls it any more. Its core's state is one that the provider reaches.
+    pub fn into_backend(self) -> B
+        ensures { Reached (state_of (B.core_of result)) }
+    {
+        let Provider {
+            rt: _,
+            alloc: _,
+            opening: _,
+            shared,
+            changed: _,
+        } = self;
+        let shared = shared.into_inner();
+        shared.law_reached();
+        shared.into_backend()
     }
 
     /// Opens a connection, stopped (Jakarta Messaging 3.1, section 6.1.4), for that client, or for none (section 6.1.2). A
@@ -103,7 +132,7 @@ impl<'r, R: Wait + Clock, K: Keep + Drop> Provider<'r, R, K> {
     pub fn create_connection<'p>(
         &'p self,
         client: Option<&str>,
-    ) -> Result<Connection<'p, R, K>, Error>
+    ) -> Result<Connection<'p, R, B>, Error>
         ensures ok { IfOk result (λ c. Told (ByConnection c) (Ask (Open (option_copied client.entry))) (Ok Done)) }
         ensures refused { IfErr result (λ r. ((r ≡ bare Refusal.BadName) × (is_named (option_copied client.entry) ≡ false))
             ⊎ RefusesNew (λ n. ByConnection n) (λ n. Open (option_copied client.entry)) r) }

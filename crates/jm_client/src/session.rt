@@ -15,7 +15,9 @@ ghost use Rattle.jm_machine.specs.declared.call.Request.TheVariants.{Acknowledge
 ghost use Rattle.jm_machine.specs.declared.call.Who.TheVariants.{Session as BySession};
 ghost use Rattle.jm_tx.specs.Buffers.{new_buffer};
 
+use crate::backend::Backend;
 use crate::consumer::Consumer;
+use crate::plain::Plain;
 use crate::provider::{NotCommitted, Provider};
 use crate::texts::{copied_text, subscription_named};
 use jm_base::Mode;
@@ -23,7 +25,7 @@ use jm_core::{Request, Who};
 use jm_dest::{Destination, SessionId};
 use jm_error::{Error, passed_on};
 use jm_header::{Draft, Sender};
-use jm_keep::Keep;
+use jm_keep::NoKeep;
 use jm_tx::{Sent, SessionHalf};
 use std::marker::Model;
 use std::sync::Wait;
@@ -31,13 +33,13 @@ use std::time::Clock;
 
 /// A session, which one thread calls, and which closes as it is dropped, with its consumers. It keeps what is sent in a
 /// transaction until the commit. Contracts see what it has sent, and what waits: a `Buffer`.
-pub struct Session<'p, R: Wait + Clock, K: Keep + Drop> {
-    pub(crate) provider: &'p Provider<'p, R, K>,
+pub struct Session<'p, R: Wait + Clock, B: Backend = Plain<NoKeep>> {
+    pub(crate) provider: &'p Provider<'p, R, B>,
     pub(crate) id: SessionId,
     half: SessionHalf,
 }
 
-impl<'p, R: Wait + Clock, K: Keep + Drop> Model for Session<'p, R, K> {
+impl<'p, R: Wait + Clock, B: Backend> Model for Session<'p, R, B> {
     ghost use Rattle.std.specs.Prelude.{◌≡◌};
     ghost use Rattle.jm_tx.specs.declared.buffer.Buffer.{Buffer};
 
@@ -49,8 +51,8 @@ impl<'p, R: Wait + Clock, K: Keep + Drop> Model for Session<'p, R, K> {
 }
 
 /// Closes the session.
-fn end<R: Wait + Clock, K: Keep + Drop>(
-    provider: &Provider<'_, R, K>,
+fn end<R: Wait + Clock, B: Backend>(
+    provider: &Provider<'_, R, B>,
     id: SessionId,
 ) -> Result<(), Error>
     ensures { Answers (BySession id) CloseSession result }
@@ -58,7 +60,7 @@ fn end<R: Wait + Clock, K: Keep + Drop>(
     provider.ask_plain(Who::Session(id), Request::CloseSession)
 }
 
-impl<'p, R: Wait + Clock, K: Keep + Drop> Drop for Session<'p, R, K> {
+impl<'p, R: Wait + Clock, B: Backend> Drop for Session<'p, R, B> {
     fn drop(self) {
         let Session {
             provider,
@@ -69,13 +71,13 @@ impl<'p, R: Wait + Clock, K: Keep + Drop> Drop for Session<'p, R, K> {
     }
 }
 
-impl<'p, R: Wait + Clock, K: Keep + Drop> Session<'p, R, K> {
+impl<'p, R: Wait + Clock, B: Backend> Session<'p, R, B> {
     /// The session of that number, which is open in that mode, and has sent nothing.
     pub(crate) fn new(
-        provider: &'p Provider<'p, R, K>,
+        provider: &'p Provider<'p, R, B>,
         id: &SessionId,
         mode: Mode,
-    ) -> Session<'p, R, K>
+    ) -> Session<'p, R, B>
         ensures opening { result.sender.opening ≡ provider.now.opening }
         ensures session { result.sender.session ≡ id.now }
         ensures buffer { result ≡ new_buffer result.sender mode 0 }
@@ -152,7 +154,7 @@ impl<'p, R: Wait + Clock, K: Keep + Drop> Session<'p, R, K> {
         destination: &Destination,
         selector: Option<&str>,
         no_local: bool,
-    ) -> Result<Consumer<'p, R, K>, Error>
+    ) -> Result<Consumer<'p, R, B>, Error>
         ensures ok { IfOk result (λ c. (c.0 ≡ self.now.sender.session)
             × Told (BySession c.0) (Ask (CreateConsumer c.1 destination.now (option_copied selector.entry) no_local)) (Ok Done)) }
         ensures refused { IfErr result (RefusesNew (λ n. BySession self.now.sender.session)
@@ -189,7 +191,7 @@ impl<'p, R: Wait + Clock, K: Keep + Drop> Session<'p, R, K> {
         name: &str,
         selector: Option<&str>,
         no_local: bool,
-    ) -> Result<Consumer<'p, R, K>, Error>
+    ) -> Result<Consumer<'p, R, B>, Error>
         ensures ok { IfOk result (λ c. (c.0 ≡ self.now.sender.session)
             × Told (BySession c.0) (Ask (CreateDurable c.1 destination.now name.now (option_copied selector.entry) no_local)) (Ok Done)) }
         ensures refused { IfErr result (λ r. ((r ≡ bare BadName) × (is_name name.now ≡ false))
@@ -222,7 +224,7 @@ impl<'p, R: Wait + Clock, K: Keep + Drop> Session<'p, R, K> {
         destination: &Destination,
         name: &str,
         selector: Option<&str>,
-    ) -> Result<Consumer<'p, R, K>, Error>
+    ) -> Result<Consumer<'p, R, B>, Error>
         ensures ok { IfOk result (λ c. (c.0 ≡ self.now.sender.session)
             × Told (BySession c.0) (Ask (CreateShared c.1 destination.now name.now (option_copied selector.entry))) (Ok Done)) }
         ensures refused { IfErr result (λ r. ((r ≡ bare BadName) × (is_name name.now ≡ false))
@@ -256,7 +258,7 @@ impl<'p, R: Wait + Clock, K: Keep + Drop> Session<'p, R, K> {
         destination: &Destination,
         name: &str,
         selector: Option<&str>,
-    ) -> Result<Consumer<'p, R, K>, Error>
+    ) -> Result<Consumer<'p, R, B>, Error>
         ensures ok { IfOk result (λ c. (c.0 ≡ self.now.sender.session)
             × Told (BySession c.0) (Ask (CreateSharedDurable c.1 destination.now name.now (option_copied selector.entry))) (Ok Done)) }
         ensures refused { IfErr result (λ r. ((r ≡ bare BadName) × (is_name name.now ≡ false))

@@ -1,58 +1,50 @@
 //! What lies under the lock.
 
-ghost use Rattle.std.specs.Prelude.{◌≡◌, ◌+◌, ◌-◌, ◌^◌, false, true, count_by, length, IsTrue, IsErrOf, Err, IfErr, MatchResult};
+ghost use Rattle.std.specs.Prelude.{◌≡◌, ◌+◌, ◌-◌, ◌^◌, true, count_by, length, Err, IfErr, MatchResult};
 ghost use Rattle.jm_client.specs.Told as spec;
 ghost use Rattle.jm_client.specs.Told.{Asks, IsOverview, IsRefusedIn, IsToldIn, Told, is_receipt, message_answer};
 ghost use Rattle.jm_core.specs.Kept.{IsNumberOfMessages};
 ghost use Rattle.jm_core.specs.Provider.{state_of};
-ghost use Rattle.jm_core.specs.Steps.{StepFits};
 ghost use Rattle.jm_error.specs.Refused.{without_cause};
-ghost use Rattle.jm_keep.specs.Persisted.{IsPersisted};
-ghost use Rattle.jm_keep.specs.Stored.{HasRisen};
 ghost use Rattle.jm_kept.specs.Kept.{KeptFits};
 ghost use Rattle.jm_machine.specs.Isolation.{Reached};
 ghost use Rattle.jm_stations.specs.Backlogs as backlogs;
 ghost use Rattle.jm_why.specs.Why.{why};
 
+use crate::backend::Backend;
 use crate::overview::Overview;
 use jm_base::Refusal;
 use jm_core::{Answer, Call, Core, Delivery, Request, Step, Who, law_core_reached};
 use jm_dest::{ConnectionId, ConsumerId, Moment, Number, SessionId};
 use jm_error::Error;
-use jm_keep::Keep;
+use jm_machine::Consumer;
 use jm_why::law_explained;
 use std::alloc::Global;
 use std::marker::Model;
 
-/// What lies under the lock: a core, its keeper, and the numbers that were given last. Contracts see all of them. The core's
-/// state is one that the provider reaches; and where the keeper is clean, what it has stored is what is stored of that state.
+/// What lies under the lock: a backend, and the numbers that were given last. Contracts see all of them, and the backend's core,
+/// whose state is one that the provider reaches.
 #[derive(Drop)]
-pub struct Shared<K: Keep + Drop> {
+pub struct Shared<B: Backend> {
     alloc: Global,
-    core: Core,
-    keeper: K,
+    backend: B,
     connections: u32,
     sessions: u32,
     consumers: u32,
 }
 
-impl<K: Keep + Drop> Model for Shared<K> {
-    ghost use Rattle.std.specs.Prelude.{IsTrue};
+impl<B: Backend> Model for Shared<B> {
     ghost use Rattle.jm_client.specs.Locked.{Locked};
-    ghost use Rattle.jm_core.specs.Provider.{state_of};
-    ghost use Rattle.jm_keep.specs.Persisted.{IsPersisted};
 
-    ghost Value = { Locked K };
+    ghost Value = { Locked B };
 
     ghost view = { λ s. record {
-      core = s.core;
-      keeper = s.keeper;
+      core = B.core_of s.backend;
+      backend = s.backend;
       connections = s.connections;
       sessions = s.sessions;
       consumers = s.consumers;
     } };
-
-    ghost invariant = { λ s. IsTrue (K.is_clean s.keeper) → IsPersisted (state_of s.core) (K.stored s.keeper) };
 }
 
 /// The number after the one that was given last. `Exhausted` exactly where that is 4,294,967,295.
@@ -72,6 +64,19 @@ fn last_connection(core: &Core) -> u32 {
         last = connection.id.get().max(last);
     }
     last
+}
+
+/// How many of the consumers are active.
+fn active(consumers: &[Consumer]) -> usize
+    ensures { result ≡ count_by (λ x. x.is_active) consumers.now }
+{
+    let mut number: usize = 0;
+    for consumer in consumers {
+        if consumer.is_active {
+            number += 1;
+        }
+    }
+    number
 }
 
 /// Whether a cause stands behind the refusal.
@@ -115,6 +120,15 @@ fn with_cause(
     }
 }
 
+/// One step of the backend, which is told with its cause where it is refused.
+fn applied<B: Backend>(alloc: Global, backend: &mut B, step: &Step) -> Result<Answer, Error>
+    ensures fits { KeptFits (state_of (B.core_of backend.old)) step.now.who step.now.call (without_cause result) (state_of (B.core_of backend.new)) }
+    ensures told { IsToldIn (state_of (B.core_of backend.old)) step.now.who step.now.call result }
+{
+    let reply = backend.apply(step);
+    with_cause(alloc, backend.core(), step, reply)
+}
+
 /// In which way a consumer's next message is asked for.
 #[derive(Clone, Copy)]
 pub(crate) enum Way {
@@ -146,56 +160,58 @@ fn handed_out(answer: Answer) -> Option<Delivery>
     }
 }
 
-impl<K: Keep + Drop> Shared<K> {
-    /// The core with its keeper, which has stored what is stored of the core's state, where it is clean. Numbers of connections
-    /// go on above the greatest that the core knows.
-    pub(crate) fn new(alloc: Global, core: Core, keeper: K) -> Shared<K>
-        requires { IsTrue (K.is_clean keeper) → IsPersisted (state_of core) (K.stored keeper) }
-        ensures core { result.core ≡ core }
-        ensures keeper { result.keeper ≡ keeper }
+impl<B: Backend> Shared<B> {
+    /// The backend, with numbers of connections that go on above the greatest that its core knows.
+    pub(crate) fn new(alloc: Global, backend: B) -> Shared<B>
+        ensures core { result.core ≡ B.core_of backend }
+        ensures backend { result.backend ≡ backend }
     {
-        let connections = last_connection(&core);
+        let connections = last_connection(backend.core());
         Shared {
             alloc,
-            core,
-            keeper,
+            backend,
             connections,
             sessions: 0,
             consumers: 0,
         }
     }
 
-    /// The law of the core's state, proved; the function itself does nothing.
-    fn law_reached(&self)
-        ensures { Reached (state_of self.now.core) }
-    {
-        law_core_reached(&self.core);
-    }
-
-    /// One step, as `jm_kept::step` makes it, with its refusals, each told with its cause in the state that the step met. The
-    /// numbers stay.
-    pub(crate) fn apply(&mut self, step: &Step) -> Result<Answer, Error>
-        ensures fits { KeptFits (state_of self.old.core) step.now.who step.now.call (without_cause result) (state_of self.new.core) }
-        ensures told { IsToldIn (state_of self.old.core) step.now.who step.now.call result }
-        ensures without { K.is_keeping self.old.keeper ≡ false →
-            StepFits (state_of self.old.core) step.now.who step.now.call (without_cause result) (state_of self.new.core) }
-        ensures alone { K.is_keeping self.old.keeper ≡ false → self.new.keeper ≡ self.old.keeper }
-        ensures store { IsErrOf (without_cause result) Refusal.Store → HasRisen (K.faults self.old.keeper) (K.faults self.new.keeper) }
-        ensures clean { IsTrue (K.is_clean self.new.keeper) → IsTrue (K.is_clean self.old.keeper) }
-        ensures kept { IsTrue (K.is_clean self.new.keeper) → IsPersisted (state_of self.old.core) (K.stored self.old.keeper) →
-            IsPersisted (state_of self.new.core) (K.stored self.new.keeper) }
-        ensures numbers { self.new ≡ record self.old { core = self.new.core; keeper = self.new.keeper } }
+    /// The backend.
+    pub(crate) fn into_backend(self) -> B
+        ensures { result ≡ self.backend }
     {
         let Shared {
-            alloc,
-            core,
-            keeper,
+            alloc: _,
+            backend,
             connections: _,
             sessions: _,
             consumers: _,
         } = self;
-        let reply = jm_kept::step(*alloc, core, keeper, step);
-        with_cause(*alloc, core, step, reply)
+        backend
+    }
+
+    /// The law of the core's state, proved; the function itself does nothing.
+    pub(crate) fn law_reached(&self)
+        ensures { Reached (state_of self.now.core) }
+    {
+        law_core_reached(self.backend.core());
+    }
+
+    /// One step, as the backend makes it, with its refusals, each told with its cause in the state that the step met. The
+    /// numbers stay.
+    pub(crate) fn apply(&mut self, step: &Step) -> Result<Answer, Error>
+        ensures fits { KeptFits (state_of self.old.core) step.now.who step.now.call (without_cause result) (state_of self.new.core) }
+        ensures told { IsToldIn (state_of self.old.core) step.now.who step.now.call result }
+        ensures numbers { self.new ≡ record self.old { core = self.new.core; backend = self.new.backend } }
+    {
+        let Shared {
+            alloc,
+            backend,
+            connections: _,
+            sessions: _,
+            consumers: _,
+        } = self;
+        applied(*alloc, backend, step)
     }
 
     /// The same, and what a client may know of it.
@@ -267,15 +283,16 @@ impl<K: Keep + Drop> Shared<K> {
     pub(crate) fn overview(&self) -> Overview
         ensures connections { result.connections ≡ count_by (λ x. x.is_open) (state_of self.now.core).life.connections }
         ensures sessions { result.sessions ≡ count_by (λ x. x.is_open) (state_of self.now.core).life.sessions }
+        ensures consumers { result.consumers ≡ count_by (λ x. x.is_active) (state_of self.now.core).consumers }
         ensures subscriptions { result.subscriptions ≡ length (state_of self.now.core).stations }
         ensures held { IsNumberOfMessages result.held (state_of self.now.core).stations }
         ensures queued { backlogs.IsNumberOfMessages result.queued self.now.core.queues.list }
     {
-        let core = &self.core;
+        let core = self.backend.core();
         Overview {
             connections: core.connections().iter().filter(|x| x.is_open).count(),
             sessions: core.sessions().iter().filter(|x| x.is_open).count(),
-            consumers: core.consumers().iter().filter(|x| x.is_active).count(),
+            consumers: active(core.consumers()),
             subscriptions: core.stations_len(),
             held: core.kept(),
             queued: core.kept_by_queues(),

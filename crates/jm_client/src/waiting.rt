@@ -5,13 +5,13 @@ ghost use Rattle.jm_base.specs.declared.refusal.Refusal.TheVariants.{OutOfRange}
 ghost use Rattle.jm_client.specs.Told.{Asks};
 ghost use Rattle.jm_error.specs.Refused.{bare};
 
+use crate::backend::Backend;
 use crate::provider::Provider;
 use crate::shared::Way;
 use crate::time::Timer;
 use jm_core::Delivery;
 use jm_dest::{ConsumerId, SessionId};
 use jm_error::Error;
-use jm_keep::Keep;
 use std::sync::{CondvarTimeouts, Wait, WaitMethods};
 use std::time::{Clock, Duration};
 
@@ -19,7 +19,7 @@ use std::time::{Clock, Duration};
 /// (ours).
 const LOOK_AGAIN: u64 = 20;
 
-impl<'r, R: Wait + Clock, K: Keep + Drop> Provider<'r, R, K> {
+impl<'r, R: Wait + Clock, B: Backend> Provider<'r, R, B> {
     /// The next message of the session's consumer, or none where none came within the timeout, which may be zero. It looks
     /// again whenever another call may have brought a message, and 50 times a second. `OutOfRange` where the clock is not
     /// read, and the refusals of the request; then no message was taken.

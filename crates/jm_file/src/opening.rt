@@ -6,7 +6,7 @@ ghost use Rattle.jm_opening.specs.declared.judged.OpenFault.TheVariants as cause
 ghost use Rattle.jm_store.specs.Opened.{IsLeft};
 ghost use Rattle.sqlite.specs.Held.{state};
 
-use jm_client::Provider;
+use jm_client::{Plain, Provider};
 use jm_store::{OpenFault, Reopened, Store, Unopened};
 use sqlite::{Alter, Connection, FileFrom, FileStore, Unknown};
 use std::alloc::Global;
@@ -40,7 +40,7 @@ pub fn open<'r, R: Wait + Clock, S: Alter + Drop>(
     rt: &'r R,
     alloc: Global,
     conn: Connection<S>,
-) -> Result<Provider<'r, R, Store<S>>, Unopened<S>>
+) -> Result<Provider<'r, R, Plain<Store<S>>>, Unopened<S>>
     ensures left { IfErr result (λ u. IsInNoTransaction u.left) }
     ensures refused { IfErr result (λ u. IsLeft S.Store (state S.Store conn).committed.trees u.fault u.left) }
     ensures stop { IfErr result (λ u. LeavesOf S.Store (state S.Store conn) u.left) }

@@ -46,36 +46,3 @@ pub trait Listener {
     fn on_message(&mut self, delivery: &Delivery) -> Result<After, ListenerFault>
         ensures { handles self.old delivery.now result self.new };
 }
-
-/// Handles the messages of a consumer, one after another, and is lent their session meanwhile: it may send in it, and what it
-/// sends in a transaction is published by the commit that it names (ours).
-pub trait SessionListener<S> {
-    ghost use Rattle.jm_listener.specs.declared.listener.After.{After};
-    ghost use Rattle.jm_listener.specs.declared.listener.ListenerFault.{ListenerFault};
-
-    /// What it, and the session, may be after a message that it answered so; by default anything.
-    ghost handles_in: { Self → S → Delivery → Result After ListenerFault → Self → S → Type 0 } = { λ _ _ _ _ _ _. Unit {0} };
-
-    /// Handles a message of the session, and names what is called then. A failure is told to the provider with the end of the
-    /// delivery, and nothing is called then; what was sent in the session is sent.
-    fn on_session_message(
-        &mut self,
-        session: &mut S,
-        delivery: &Delivery,
-    ) -> Result<After, ListenerFault>
-        ensures { handles_in self.old session.old delivery.now result self.new session.new };
-}
-
-impl<S, N: Listener> SessionListener<S> for N {
-    ghost use Rattle.std.specs.Prelude.{◌≡◌};
-
-    ghost handles_in = { λ old before delivery answer new after. N.handles old delivery answer new × (after ≡ before) };
-
-    fn on_session_message(
-        &mut self,
-        _session: &mut S,
-        delivery: &Delivery,
-    ) -> Result<After, ListenerFault> {
-        self.on_message(delivery)
-    }
-}

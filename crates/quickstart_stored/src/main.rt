@@ -3,7 +3,7 @@
 #![tactic(auto)]
 
 use anyhow::anyhow;
-use jm_client::{Error, Mode, Provider};
+use jm_client::{Backend, Error, Mode, Plain, Provider};
 use jm_file::{Store, StoreFile, connect, open};
 use jm_keep::Keep;
 use sqlite::{Alter, Connection};
@@ -34,7 +34,7 @@ fn opened<'r, R: Wait + Clock, S: Alter + Drop>(
     rt: &'r R,
     alloc: Global,
     conn: Connection<S>,
-) -> anyhow::Result<Provider<'r, R, Store<S>>> {
+) -> anyhow::Result<Provider<'r, R, Plain<Store<S>>>> {
     match open(rt, alloc, conn) {
         Ok(provider) => Ok(provider),
         Err(unopened) => Err(anyhow!("the store is not opened: {:?}", unopened.fault)),
@@ -42,9 +42,7 @@ fn opened<'r, R: Wait + Clock, S: Alter + Drop>(
 }
 
 /// Sends the orders.
-fn send_orders<R: Wait + Clock, K: Keep + Drop>(
-    provider: &Provider<'_, R, K>,
-) -> Result<(), Error> {
+fn send_orders<R: Wait + Clock, B: Backend>(provider: &Provider<'_, R, B>) -> Result<(), Error> {
     let connection = provider.create_connection(None)?;
     let mut session = connection.create_session(Mode::Auto)?;
     let orders = session.create_queue("orders")?;
@@ -56,8 +54,8 @@ fn send_orders<R: Wait + Clock, K: Keep + Drop>(
 }
 
 /// Bills so many orders as they come; how many were billed.
-fn bill_orders<R: Wait + Clock, K: Keep + Drop>(
-    provider: &Provider<'_, R, K>,
+fn bill_orders<R: Wait + Clock, B: Backend>(
+    provider: &Provider<'_, R, B>,
     wanted: u64,
 ) -> Result<u64, Error> {
     let connection = provider.create_connection(None)?;
@@ -77,7 +75,7 @@ fn bill_orders<R: Wait + Clock, K: Keep + Drop>(
 /// Sends on another thread, and bills on this one.
 fn both<R: Threads + Wait + Clock + Sync, K: Keep + Drop + Send>(
     rt: &R,
-    provider: &Provider<'_, R, K>,
+    provider: &Provider<'_, R, Plain<K>>,
 ) -> (Result<(), Error>, Result<u64, Error>) {
     join(
         rt,

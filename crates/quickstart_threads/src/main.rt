@@ -2,7 +2,6 @@
 #![tactic(auto)]
 
 use jm_client::{After, Delivery, Error, Listener, ListenerFault, Mode, Provider};
-use jm_keep::NoKeep;
 use std::alloc::Global;
 use std::sync::Wait;
 use std::thread::{Threads, join};
@@ -12,7 +11,7 @@ use std::time::{Clock, Duration};
 const ORDERS: u64 = 3;
 
 /// Sends the orders.
-fn send_orders<R: Wait + Clock>(provider: &Provider<'_, R, NoKeep>) -> Result<(), Error> {
+fn send_orders<R: Wait + Clock>(provider: &Provider<'_, R>) -> Result<(), Error> {
     let connection = provider.create_connection(None)?;
     let mut session = connection.create_session(Mode::Auto)?;
     let orders = session.create_queue("orders")?;
@@ -37,7 +36,7 @@ impl Listener for Billing {
 }
 
 /// Listens until all orders came, or none came for 30 seconds; how many were billed.
-fn bill_orders<R: Wait + Clock>(provider: &Provider<'_, R, NoKeep>) -> Result<u64, Error> {
+fn bill_orders<R: Wait + Clock>(provider: &Provider<'_, R>) -> Result<u64, Error> {
     let connection = provider.create_connection(None)?;
     connection.start()?;
     let mut session = connection.create_session(Mode::Auto)?;
@@ -51,7 +50,7 @@ fn bill_orders<R: Wait + Clock>(provider: &Provider<'_, R, NoKeep>) -> Result<u6
 /// Sends on another thread, and listens on this one.
 fn both<R: Threads + Wait + Clock + Sync>(
     rt: &R,
-    provider: &Provider<'_, R, NoKeep>,
+    provider: &Provider<'_, R>,
 ) -> (Result<(), Error>, Result<u64, Error>) {
     join(rt, || send_orders(provider), || bill_orders(provider))
 }

@@ -4,7 +4,6 @@ use crate::meanwhile::{Meanwhile, listened};
 use crate::op::{At, Kind, Op, Row, Told, done, told_by};
 use crate::watch::Watch;
 use jm_client::{Connection, Consumer, Delivery, Destination, Error, Provider, Session};
-use jm_keep::NoKeep;
 use jm_property::Property;
 use std::alloc::Global;
 use std::sync::Wait;
@@ -17,10 +16,10 @@ type Reply = Option<Result<Told, Error>>;
 struct Desk<'p, R: Wait + Drop> {
     alloc: Global,
     watch: &'p Watch<R>,
-    provider: &'p Provider<'p, Watch<R>, NoKeep>,
-    connections: Vec<Option<Connection<'p, Watch<R>, NoKeep>>>,
-    sessions: Vec<Option<Session<'p, Watch<R>, NoKeep>>>,
-    consumers: Vec<Option<Consumer<'p, Watch<R>, NoKeep>>>,
+    provider: &'p Provider<'p, Watch<R>>,
+    connections: Vec<Option<Connection<'p, Watch<R>>>>,
+    sessions: Vec<Option<Session<'p, Watch<R>>>>,
+    consumers: Vec<Option<Consumer<'p, Watch<R>>>>,
     error: Option<Error>,
 }
 
@@ -44,7 +43,7 @@ fn made<T: Drop>(parts: &mut Vec<Option<T>>, reply: Result<T, Error>) -> Result<
 
 /// The destination that is meant.
 fn destination<R: Wait + Drop>(
-    session: &Session<'_, Watch<R>, NoKeep>,
+    session: &Session<'_, Watch<R>>,
     at: At,
 ) -> Result<Destination, Error> {
     match at {
@@ -54,7 +53,7 @@ fn destination<R: Wait + Drop>(
 }
 
 /// Sends a message with the boolean property `x`.
-fn sent<R: Wait + Drop>(session: &mut Session<'_, Watch<R>, NoKeep>, at: At) -> Result<u64, Error> {
+fn sent<R: Wait + Drop>(session: &mut Session<'_, Watch<R>>, at: At) -> Result<u64, Error> {
     let to = destination(session, at)?;
     let mut draft = session.create_message();
     draft.set_property("x", Property::Bool(true))?;
@@ -63,10 +62,10 @@ fn sent<R: Wait + Drop>(session: &mut Session<'_, Watch<R>, NoKeep>, at: At) -> 
 
 /// A consumer of that kind.
 fn consumer<'p, R: Wait + Drop>(
-    session: &Session<'p, Watch<R>, NoKeep>,
+    session: &Session<'p, Watch<R>>,
     kind: Kind,
     at: At,
-) -> Result<Consumer<'p, Watch<R>, NoKeep>, Error> {
+) -> Result<Consumer<'p, Watch<R>>, Error> {
     let from = destination(session, at)?;
     match kind {
         Kind::Plain => session.create_consumer(&from, None, false),
@@ -208,7 +207,7 @@ fn right_rows<R: Wait + Drop>(desk: &mut Desk<'_, R>, rows: &[Row]) -> usize {
 fn right_over<R: Wait + Drop>(
     alloc: Global,
     watch: &Watch<R>,
-    provider: &Provider<'_, Watch<R>, NoKeep>,
+    provider: &Provider<'_, Watch<R>>,
     rows: &[Row],
 ) -> usize {
     let mut desk = Desk {

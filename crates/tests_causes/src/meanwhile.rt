@@ -2,7 +2,7 @@
 
 use crate::watch::Watch;
 use jm_client::{
-    After, Consumer, Delivery, Error, Listener, ListenerFault, Session, SessionListener,
+    After, Consumer, Delivery, Error, Listener, ListenerFault, Plain, Session, SessionListener,
 };
 use jm_keep::NoKeep;
 use std::sync::Wait;
@@ -30,25 +30,25 @@ pub(crate) enum Meanwhile {
 
 /// Makes that call with each message, and keeps what it is told.
 struct Curious<'c, 'p, R: Wait + Drop> {
-    consumer: &'c Consumer<'p, Watch<R>, NoKeep>,
+    consumer: &'c Consumer<'p, Watch<R>>,
     meanwhile: Meanwhile,
     told: Option<Error>,
 }
 
 /// The session listens to the consumer, for one message at most.
-fn once_more<'p, R: Wait + Drop>(
-    session: &mut Session<'p, Watch<R>, NoKeep>,
-    consumer: &Consumer<'p, Watch<R>, NoKeep>,
+fn once_more<R: Wait + Drop>(
+    session: &mut Session<'_, Watch<R>>,
+    consumer: &Consumer<'_, Watch<R>>,
 ) -> Option<Error> {
     session
         .listen(consumer, &mut Quiet, Duration::ZERO, 1)
         .err()
 }
 
-impl<'c, 'p, R: Wait + Drop> SessionListener<Session<'p, Watch<R>, NoKeep>> for Curious<'c, 'p, R> {
+impl<'c, 'p, R: Wait + Drop> SessionListener<Watch<R>, Plain<NoKeep>> for Curious<'c, 'p, R> {
     fn on_session_message(
         &mut self,
-        session: &mut Session<'p, Watch<R>, NoKeep>,
+        session: &mut Session<'_, Watch<R>>,
         _delivery: &Delivery,
     ) -> Result<After, ListenerFault> {
         self.told = match self.meanwhile {
@@ -63,8 +63,8 @@ impl<'c, 'p, R: Wait + Drop> SessionListener<Session<'p, Watch<R>, NoKeep>> for 
 /// The session listens to the consumer, for one message at most, and its listener makes that call. How many messages came, or
 /// the refusal of a call.
 pub(crate) fn listened<'p, R: Wait + Drop>(
-    session: &mut Session<'p, Watch<R>, NoKeep>,
-    consumer: &Consumer<'p, Watch<R>, NoKeep>,
+    session: &mut Session<'p, Watch<R>>,
+    consumer: &Consumer<'p, Watch<R>>,
     meanwhile: Meanwhile,
 ) -> Result<u64, Error> {
     let mut curious = Curious {

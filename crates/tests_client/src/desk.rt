@@ -4,9 +4,8 @@ use crate::op::{At, Kind, Op, Part, What};
 use crate::told::{Told, delivered, done, number};
 use crate::watch::Watch;
 use jm_client::{
-    Connection, Consumer, Destination, Draft, Error, Mode, Provider, Refusal, Session,
+    Backend, Connection, Consumer, Destination, Draft, Error, Mode, Provider, Refusal, Session,
 };
-use jm_keep::Keep;
 use std::alloc::Global;
 use std::sync::Wait;
 use std::time::Duration;
@@ -15,15 +14,15 @@ use std::time::Duration;
 const WAIT: u64 = 50;
 
 /// What the client of a provider has: a place is empty once what was there is closed or dropped.
-pub(crate) struct Desk<'p, R: Wait + Drop, K: Keep + Drop> {
+pub(crate) struct Desk<'p, R: Wait + Drop, B: Backend> {
     watch: &'p Watch<R>,
-    provider: &'p Provider<'p, Watch<R>, K>,
-    connections: Vec<Option<Connection<'p, Watch<R>, K>>>,
-    sessions: Vec<Option<Session<'p, Watch<R>, K>>>,
-    consumers: Vec<Option<Consumer<'p, Watch<R>, K>>>,
+    provider: &'p Provider<'p, Watch<R>, B>,
+    connections: Vec<Option<Connection<'p, Watch<R>, B>>>,
+    sessions: Vec<Option<Session<'p, Watch<R>, B>>>,
+    consumers: Vec<Option<Consumer<'p, Watch<R>, B>>>,
 }
 
-impl<'p, R: Wait + Drop, K: Keep + Drop> Drop for Desk<'p, R, K> {
+impl<'p, R: Wait + Drop, B: Backend> Drop for Desk<'p, R, B> {
     fn drop(self) {
         let Desk {
             watch: _,
@@ -70,8 +69,8 @@ fn dropped<T: Drop>(part: Option<T>) -> Told {
 }
 
 /// The destination that is meant.
-fn destination<R: Wait + Drop, K: Keep + Drop>(
-    session: &Session<'_, Watch<R>, K>,
+fn destination<R: Wait + Drop, B: Backend>(
+    session: &Session<'_, Watch<R>, B>,
     at: At,
 ) -> Result<Destination, Error> {
     match at {
@@ -81,8 +80,8 @@ fn destination<R: Wait + Drop, K: Keep + Drop>(
 }
 
 /// A text that lives so many milliseconds.
-fn living<R: Wait + Drop, K: Keep + Drop>(
-    session: &Session<'_, Watch<R>, K>,
+fn living<R: Wait + Drop, B: Backend>(
+    session: &Session<'_, Watch<R>, B>,
     text: &str,
     milliseconds: i64,
 ) -> Result<Draft, Error> {
@@ -92,8 +91,8 @@ fn living<R: Wait + Drop, K: Keep + Drop>(
 }
 
 /// A text that is held back for so many milliseconds.
-fn delayed<R: Wait + Drop, K: Keep + Drop>(
-    session: &Session<'_, Watch<R>, K>,
+fn delayed<R: Wait + Drop, B: Backend>(
+    session: &Session<'_, Watch<R>, B>,
     text: &str,
     milliseconds: i64,
 ) -> Result<Draft, Error> {
@@ -103,8 +102,8 @@ fn delayed<R: Wait + Drop, K: Keep + Drop>(
 }
 
 /// What is to be sent.
-fn draft<R: Wait + Drop, K: Keep + Drop>(
-    session: &Session<'_, Watch<R>, K>,
+fn draft<R: Wait + Drop, B: Backend>(
+    session: &Session<'_, Watch<R>, B>,
     what: What,
 ) -> Result<Draft, Error> {
     match what {
@@ -117,8 +116,8 @@ fn draft<R: Wait + Drop, K: Keep + Drop>(
 }
 
 /// Sends it.
-fn sent<R: Wait + Drop, K: Keep + Drop>(
-    session: &mut Session<'_, Watch<R>, K>,
+fn sent<R: Wait + Drop, B: Backend>(
+    session: &mut Session<'_, Watch<R>, B>,
     at: At,
     what: What,
 ) -> Result<u64, Error> {
@@ -128,12 +127,12 @@ fn sent<R: Wait + Drop, K: Keep + Drop>(
 }
 
 /// A consumer of that kind.
-fn consumer<'p, R: Wait + Drop, K: Keep + Drop>(
-    session: &Session<'p, Watch<R>, K>,
+fn consumer<'p, R: Wait + Drop, B: Backend>(
+    session: &Session<'p, Watch<R>, B>,
     kind: Kind,
     at: At,
     selector: Option<&str>,
-) -> Result<Consumer<'p, Watch<R>, K>, Error> {
+) -> Result<Consumer<'p, Watch<R>, B>, Error> {
     let from = destination(session, at)?;
     match kind {
         Kind::Plain => session.create_consumer(&from, selector, false),
@@ -145,13 +144,13 @@ fn consumer<'p, R: Wait + Drop, K: Keep + Drop>(
     }
 }
 
-impl<'p, R: Wait + Drop, K: Keep + Drop> Desk<'p, R, K> {
+impl<'p, R: Wait + Drop, B: Backend> Desk<'p, R, B> {
     /// A client who has nothing yet.
     pub(crate) fn new(
         alloc: Global,
         watch: &'p Watch<R>,
-        provider: &'p Provider<'p, Watch<R>, K>,
-    ) -> Desk<'p, R, K> {
+        provider: &'p Provider<'p, Watch<R>, B>,
+    ) -> Desk<'p, R, B> {
         Desk {
             watch,
             provider,

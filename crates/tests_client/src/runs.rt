@@ -5,9 +5,8 @@ use crate::once::OnceKeep;
 use crate::op::Op;
 use crate::told::Told;
 use crate::watch::Watch;
-use jm_client::Provider;
+use jm_client::{Backend, Provider};
 use jm_core::Core;
-use jm_keep::Keep;
 use std::alloc::Global;
 use std::sync::Wait;
 
@@ -25,8 +24,8 @@ pub(crate) struct Run {
 }
 
 /// Makes the calls in turn. How many rows are told what they should be, up to the first that is not.
-pub(crate) fn right_rows<R: Wait + Drop, K: Keep + Drop>(
-    desk: &mut Desk<'_, R, K>,
+pub(crate) fn right_rows<R: Wait + Drop, B: Backend>(
+    desk: &mut Desk<'_, R, B>,
     rows: &[Row],
 ) -> usize {
     let mut right: usize = 0;

@@ -43,7 +43,7 @@ fn first_byte(message: &Message) -> u8 {
     let first = match message.body() {
         Body::None => None,
         Body::Text(text) => text.as_str().as_bytes().first(),
-        Body::Bytes(bytes) => bytes.as_slice().first(),
+        Body::Bytes(bytes) => bytes.as_bytes().first(),
     };
     match first {
         Some(first) => *first,

@@ -5,7 +5,6 @@ use jm_client::{
     After, Connection, Consumer, Delivery, Error, Listener, ListenerFault, Mode, Provider, Refusal,
     Session,
 };
-use jm_keep::NoKeep;
 use std::alloc::Global;
 use std::sync::Wait;
 use std::time::{Clock, Duration};
@@ -244,8 +243,8 @@ fn is_told(reply: Result<u64, Error>, wanted: Result<u64, Refusal>) -> bool {
 /// Whether the session's listener is asked those turns, and that is told, where so many messages are asked for and it waits so
 /// long for each.
 fn is_heard<'p, R: Wait + Clock>(
-    session: &mut Session<'p, R, NoKeep>,
-    consumer: &Consumer<'p, R, NoKeep>,
+    session: &mut Session<'p, R>,
+    consumer: &Consumer<'p, R>,
     timeout: Duration,
     messages: u64,
     turns: &'static [Turn],
@@ -257,10 +256,7 @@ fn is_heard<'p, R: Wait + Clock>(
 }
 
 /// Whether the consumer receives that next, without a wait.
-fn is_next<R: Wait + Clock>(
-    consumer: &Consumer<'_, R, NoKeep>,
-    wanted: Option<(u64, u32)>,
-) -> bool {
+fn is_next<R: Wait + Clock>(consumer: &Consumer<'_, R>, wanted: Option<(u64, u32)>) -> bool {
     match consumer.receive_no_wait() {
         Ok(Some(delivery)) => wanted == Some((delivery.message.number(), delivery.count)),
         Ok(None) => wanted.is_none(),
@@ -269,14 +265,14 @@ fn is_next<R: Wait + Clock>(
 }
 
 /// Whether the queue holds so many messages.
-fn is_queued<R: Wait + Clock>(provider: &Provider<'_, R, NoKeep>, wanted: usize) -> bool {
+fn is_queued<R: Wait + Clock>(provider: &Provider<'_, R>, wanted: usize) -> bool {
     provider.overview().queued == wanted
 }
 
 /// Whether all goes as the case says in that session, which is of its mode.
 fn passes_in<R: Wait + Clock>(
-    provider: &Provider<'_, R, NoKeep>,
-    session: &mut Session<'_, R, NoKeep>,
+    provider: &Provider<'_, R>,
+    session: &mut Session<'_, R>,
     case: &Case,
 ) -> Result<bool, Error> {
     let consumer = consumer_of(session)?;
@@ -293,8 +289,8 @@ fn passes_in<R: Wait + Clock>(
 
 /// The same of a connection, which is started.
 fn passes_on<R: Wait + Clock>(
-    provider: &Provider<'_, R, NoKeep>,
-    connection: &Connection<'_, R, NoKeep>,
+    provider: &Provider<'_, R>,
+    connection: &Connection<'_, R>,
     case: &Case,
 ) -> Result<bool, Error> {
     connection.start()?;
@@ -331,9 +327,7 @@ enum Other {
 }
 
 /// Whether a session of the connection, which is stopped, hears nothing of a message that waits.
-fn is_silent_while_stopped<R: Wait + Clock>(
-    connection: &Connection<'_, R, NoKeep>,
-) -> Result<bool, Error> {
+fn is_silent_while_stopped<R: Wait + Clock>(connection: &Connection<'_, R>) -> Result<bool, Error> {
     send(connection, 1)?;
     let mut session = connection.create_session(Mode::Auto)?;
     let consumer = consumer_of(&session)?;
@@ -344,9 +338,7 @@ fn is_silent_while_stopped<R: Wait + Clock>(
 }
 
 /// Whether a session may not listen to a consumer of another one.
-fn is_refused_to_another<R: Wait + Clock>(
-    connection: &Connection<'_, R, NoKeep>,
-) -> Result<bool, Error> {
+fn is_refused_to_another<R: Wait + Clock>(connection: &Connection<'_, R>) -> Result<bool, Error> {
     connection.start()?;
     send(connection, 1)?;
     let mut session = connection.create_session(Mode::Auto)?;
@@ -358,9 +350,7 @@ fn is_refused_to_another<R: Wait + Clock>(
 }
 
 /// Whether a session may not listen once its connection is closed.
-fn is_refused_once_closed<R: Wait + Clock>(
-    connection: Connection<'_, R, NoKeep>,
-) -> Result<bool, Error> {
+fn is_refused_once_closed<R: Wait + Clock>(connection: Connection<'_, R>) -> Result<bool, Error> {
     let mut session = connection.create_session(Mode::Transacted)?;
     let consumer = consumer_of(&session)?;
     connection.close()?;

@@ -1,28 +1,27 @@
 //! Sessions at the queue q.
 
-use jm_client::{Connection, Consumer, Destination, Error, Mode, Session};
-use jm_keep::Keep;
+use jm_client::{Backend, Connection, Consumer, Destination, Error, Mode, Session};
 use std::process::Abort;
 use std::sync::Wait;
 use std::time::Clock;
 
 /// The queue.
-pub(crate) fn queue_of<R: Wait + Clock, K: Keep + Drop>(
-    session: &Session<'_, R, K>,
+pub(crate) fn queue_of<R: Wait + Clock, B: Backend>(
+    session: &Session<'_, R, B>,
 ) -> Result<Destination, Error> {
     session.create_queue("q")
 }
 
 /// A consumer of the queue.
-pub(crate) fn consumer_of<'p, R: Wait + Clock, K: Keep + Drop>(
-    session: &Session<'p, R, K>,
-) -> Result<Consumer<'p, R, K>, Error> {
+pub(crate) fn consumer_of<'p, R: Wait + Clock, B: Backend>(
+    session: &Session<'p, R, B>,
+) -> Result<Consumer<'p, R, B>, Error> {
     let queue = queue_of(session)?;
     session.create_consumer(&queue, None, false)
 }
 
-fn send_one<R: Wait + Clock, K: Keep + Drop>(
-    session: &mut Session<'_, R, K>,
+fn send_one<R: Wait + Clock, B: Backend>(
+    session: &mut Session<'_, R, B>,
     queue: &Destination,
 ) -> Result<(), Error> {
     let draft = session.create_text_message("work")?;
@@ -31,8 +30,8 @@ fn send_one<R: Wait + Clock, K: Keep + Drop>(
 }
 
 /// Sends so many messages to the queue.
-fn send_all<R: Wait + Clock, K: Keep + Drop>(
-    session: &mut Session<'_, R, K>,
+fn send_all<R: Wait + Clock, B: Backend>(
+    session: &mut Session<'_, R, B>,
     messages: u64,
 ) -> Result<(), Error> {
     let queue = queue_of(session)?;
@@ -43,8 +42,8 @@ fn send_all<R: Wait + Clock, K: Keep + Drop>(
 }
 
 /// The same by a new session of the connection.
-pub(crate) fn send<R: Wait + Clock, K: Keep + Drop>(
-    connection: &Connection<'_, R, K>,
+pub(crate) fn send<R: Wait + Clock, B: Backend>(
+    connection: &Connection<'_, R, B>,
     messages: u64,
 ) -> Result<(), Error> {
     let mut session = connection.create_session(Mode::Auto)?;

@@ -2,9 +2,8 @@
 
 use crate::desk::{consumer_of, holds, send};
 use jm_client::{
-    After, Connection, Delivery, Error, Listener, ListenerFault, Mode, Provider, Session,
+    After, Backend, Connection, Delivery, Error, Listener, ListenerFault, Mode, Provider, Session,
 };
-use jm_keep::{Keep, NoKeep};
 use std::alloc::Global;
 use std::sync::Wait;
 use std::thread;
@@ -36,7 +35,7 @@ impl Listener for InOrder {
 }
 
 /// Sends all messages; whether that was accepted.
-fn sends<R: Wait + Clock, K: Keep + Drop>(provider: &Provider<'_, R, K>) -> bool {
+fn sends<R: Wait + Clock, B: Backend>(provider: &Provider<'_, R, B>) -> bool {
     match provider.create_connection(None) {
         Ok(connection) => send(&connection, MESSAGES).is_ok(),
         Err(_) => false,
@@ -44,16 +43,16 @@ fn sends<R: Wait + Clock, K: Keep + Drop>(provider: &Provider<'_, R, K>) -> bool
 }
 
 /// A session of a connection that is started.
-fn open_session<'p, R: Wait + Clock, K: Keep + Drop>(
-    connection: &Connection<'p, R, K>,
-) -> Result<Session<'p, R, K>, Error> {
+fn open_session<'p, R: Wait + Clock, B: Backend>(
+    connection: &Connection<'p, R, B>,
+) -> Result<Session<'p, R, B>, Error> {
     connection.start()?;
     connection.create_session(Mode::Auto)
 }
 
 /// How many deliveries the session's listener handled, and the number of the last message that came in order.
-fn handled<R: Wait + Clock, K: Keep + Drop>(
-    session: &mut Session<'_, R, K>,
+fn handled<R: Wait + Clock, B: Backend>(
+    session: &mut Session<'_, R, B>,
 ) -> Result<(u64, u64), Error> {
     let consumer = consumer_of(session)?;
     let mut listener = InOrder { last: 0 };
@@ -63,7 +62,7 @@ fn handled<R: Wait + Clock, K: Keep + Drop>(
 }
 
 /// The same of a new connection; none where a call was refused.
-fn listens<R: Wait + Clock, K: Keep + Drop>(provider: &Provider<'_, R, K>) -> Option<(u64, u64)> {
+fn listens<R: Wait + Clock, B: Backend>(provider: &Provider<'_, R, B>) -> Option<(u64, u64)> {
     match provider.create_connection(None) {
         Ok(connection) => match open_session(&connection) {
             Ok(mut session) => handled(&mut session).ok(),
@@ -76,7 +75,7 @@ fn listens<R: Wait + Clock, K: Keep + Drop>(provider: &Provider<'_, R, K>) -> Op
 /// Sends on another thread, and listens on this one.
 fn both<R: Threads + Wait + Clock + Sync>(
     rt: &R,
-    provider: &Provider<'_, R, NoKeep>,
+    provider: &Provider<'_, R>,
 ) -> (bool, Option<(u64, u64)>) {
     thread::join(rt, || sends(provider), || listens(provider))
 }

@@ -1,16 +1,9 @@
-use mir.Syntax.{named}
+use denote.Exit.{yes}
 use denote.Param.{param}
-use denote.Ref.{NamedLft}
-use denote.Param.Send.{IsSync, IsSend, sendable}
-use Rattle.jm_client.specs.contracts.provider.Provider as Provider
-use Rattle.jm_client_sends.proofs.Shared.{Provider_sync}
+use denote.Param.Send.{arg_send, param_send}
+use Rattle.jm_client_sends.proofs.Shared.{Lent_send, Plain_sync}
 use Rattle.quickstart_stored.proofs.both.Goals as goal
 
 pub join-requires-send-F : goal.join-requires-send-F
 join-requires-send-F g c κs within =
-    let ends : NamedLft = record { mir = named 7; lft = κs.1.1.1.1.1.1.1.0 } in
-    let runtime : IsSync (param 0 g.row.R) = record { shared = c.type_bounds.sync-R.shared } in
-    let keeper : IsSend (param 1 g.row.K) = c.type_bounds.send-K in
-    let provider : IsSync (Provider.the_row ends (param 0 g.row.R) (param 1 g.row.K) g.K.Keep) =
-    Provider_sync ends (param 0 g.row.R) (param 1 g.row.K) g.K.Keep runtime keeper in
-    search (sendable, provider) depth 20
+    param_send 1 _ (arg_send _ yes _ (Lent_send _ _ _ (Plain_sync _ _ (param 1 g.row.K) g.K.Keep c.type_bounds.sync-R c.type_bounds.send-K _)))

@@ -8,6 +8,7 @@ returns g c =
       reached = c.law_reached.ensures;
       connections = o.connections;
       sessions = o.sessions;
+      consumers = o.consumers;
       subscriptions = o.subscriptions;
       held = o.held;
       queued = o.queued;

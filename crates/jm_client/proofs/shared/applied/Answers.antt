@@ -1,0 +1,11 @@
+use Rattle.jm_client.proofs.Causes.{refused_reply, told_step}
+use Rattle.jm_client.proofs.shared.applied.Goals as goal
+
+pub with_cause-requires : goal.with_cause-requires
+with_cause-requires g c = rw c.core.ensures (refused_reply _ _ _ _ _ c.apply-reply.ensures)
+
+pub returns-clause-fits : goal.returns-clause-fits
+returns-clause-fits g c = rw c.with_cause.ensures.same c.apply-reply.ensures
+
+pub returns-clause-told : goal.returns-clause-told
+returns-clause-told g c = told_step _ _ _ _ _ _ c.with_cause.ensures.same c.apply-reply.ensures (rw c.core.ensures at c.with_cause.ensures.told)

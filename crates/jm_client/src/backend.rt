@@ -1,0 +1,26 @@
+//! How calls are made under the lock.
+
+ghost use Rattle.std.specs.Prelude.{◌≡◌};
+ghost use Rattle.jm_core.specs.Provider.{state_of};
+ghost use Rattle.jm_kept.specs.Kept.{KeptFits};
+
+use jm_base::Refusal;
+use jm_core::{Answer, Core, Step};
+
+/// How the calls of an embedded provider are made, and on what: this lies under its lock (ours). A service that is generic in
+/// it runs over one that keeps nothing, over a store, and in tests over one that is audited.
+pub trait Backend: Drop {
+    ghost use Rattle.jm_core.specs.Provider.{Provider};
+
+    /// The core that answers.
+    ghost core_of: { Self → Provider };
+
+    /// The core that answers, as it stands.
+    fn core(&self) -> &Core
+        ensures { result.now ≡ core_of self.now };
+
+    /// One step. A refusal is the machine's, as `Core::step` says; or it is `Memory` or `Store`, and then the core's state is
+    /// as before.
+    fn apply(&mut self, step: &Step) -> Result<Answer, Refusal>
+        ensures { KeptFits (state_of (core_of self.old)) step.now.who step.now.call result (state_of (core_of self.new)) };
+}
