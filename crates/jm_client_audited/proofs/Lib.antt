@@ -1,0 +1,2 @@
+mod Seats
+pub mod Sends
