@@ -181,10 +181,11 @@ class Refused(unittest.TestCase):
         self.assertIn("another run finds", printed)
         self.assertEqual(status, 1)
 
-    def told_of_calls(self, fault: str, listed: str = "jm_a List::grow\njm_b copy") -> tuple[str, int]:
+    def told_of_calls(self, fault: str, listed: str = "jm_a List::grow\njm_b copy", none: str = "") -> tuple[str, int]:
         """Returns what the tool prints of a program that makes calls, with that fault, and its status."""
         tool = load()
-        tool.one_by_one = lambda: listed.split("\n")
+        lists = {"ONE_BY_ONE": listed, "WHOLE_RUNS": "", "TAKE_NONE": none}
+        tool.listed = lambda name: [it for it in lists[name].split("\n") if it]
         with tempfile.TemporaryDirectory() as room:
             with open(f"{room}/program.py", "w", encoding="utf-8") as it:
                 it.write(CALLS.replace("FAULT", fault))
@@ -219,13 +220,20 @@ class Refused(unittest.TestCase):
         self.assertIn("jm_a List::grow: request of its own: none was refused", printed)
         self.assertEqual(status, 1)
 
+    def test_a_call_that_is_to_make_no_request(self) -> None:
+        printed, status = self.told_of_calls("return str(len(items) + 1)", "jm_b copy", "jm_a List::grow")
+        self.assertNotIn("jm_a List::grow: request of its own", printed)
+        printed, status = self.told_of_calls("pass", "jm_b copy", "jm_a List::grow")
+        self.assertIn("jm_a List::grow: request of its own: one was refused", printed)
+        self.assertEqual(status, 1)
+
     def test_the_calls_are_those_of_the_list(self) -> None:
         printed, status = self.told_of_calls("pass", "jm_a List::grow\njm_c take")
         self.assertIn("jm_c take: request of a call that is not made\njm_b copy: request of a call that is not listed\n", printed)
         self.assertEqual(status, 1)
 
     def test_the_calls_of_this_repository(self) -> None:
-        self.assertIn("jm_base Str::copy", load().one_by_one())
+        self.assertIn("jm_base Str::copy", load().listed("ONE_BY_ONE"))
 
     def test_the_library_refuses_what_the_program_asks_for(self) -> None:
         tool = load()

@@ -9,53 +9,94 @@ use std::{env, io};
 use tried::Made;
 
 /// How many numbers each module has.
-const NUMBERS: usize = 32;
+const NUMBERS: usize = 16;
+/// How many modules each family has.
+const MODULES: usize = 8;
 /// Past the last number.
-const END: usize = 18 * NUMBERS;
+const END: usize = 5 * MODULES * NUMBERS;
 
-/// Makes the call of that number of a module of values or texts.
+/// Makes the call of that number of a module of values.
 fn made_of_values(alloc: Global, module: usize, number: usize) -> Made {
     match module {
         0 => tried_values::lists::made(alloc, number),
-        1 => tried_values::names::made(alloc, number),
-        2 => tried_values::destinations::made(alloc, number),
-        3 => tried_values::properties::made(alloc, number),
-        4 => tried_values::drafts::made(alloc, number),
-        5 => tried_values::messages::made(alloc, number),
-        6 => tried_texts::parts::made(alloc, number),
-        7 => tried_texts::syntax::made(alloc, number),
-        8 => tried_texts::patterns::made(alloc, number),
-        9 => tried_texts::memberships::made(alloc, number),
-        10 => tried_texts::selectors::made(alloc, number),
-        11 => tried_texts::records::made(alloc, number),
+        1 => tried_values::shared::made(alloc, number),
+        2 => tried_values::keys::made(alloc, number),
+        3 => tried_values::names::made(alloc, number),
+        4 => tried_values::destinations::made(alloc, number),
+        5 => tried_values::properties::made(alloc, number),
+        6 => tried_values::drafts::made(alloc, number),
+        _ => tried_values::messages::made(alloc, number),
+    }
+}
+
+/// Makes the call of that number of a module of texts that are read or written.
+fn made_of_texts(alloc: Global, module: usize, number: usize) -> Made {
+    match module {
+        0 => tried_texts::parts::made(alloc, number),
+        1 => tried_texts::syntax::made(alloc, number),
+        2 => tried_texts::patterns::made(alloc, number),
+        3 => tried_texts::memberships::made(alloc, number),
+        4 => tried_texts::selectors::made(alloc, number),
+        5 => tried_texts::records::made(alloc, number),
         _ => Made::NoCall,
     }
 }
 
-/// Makes the call of that number of a module of what the provider is told and holds.
+/// Makes the call of that number of a module of what the machine is asked and answers.
+fn made_of_machine(alloc: Global, module: usize, number: usize) -> Made {
+    match module {
+        0 => tried_machine::answers::made(alloc, number),
+        1 => tried_machine::calls::made(alloc, number),
+        2 => tried_machine::definitions::made(alloc, number),
+        3 => tried_machine::stations::made(alloc, number),
+        4 => tried_machine::attached::made(alloc, number),
+        5 => tried_machine::changes::made(alloc, number),
+        _ => Made::NoCall,
+    }
+}
+
+/// Makes the call of that number of a module of what the state is made of.
 fn made_of_state(alloc: Global, module: usize, number: usize) -> Made {
     match module {
-        12 => tried_machine::answers::made(alloc, number),
-        13 => tried_machine::calls::made(alloc, number),
-        14 => tried_machine::definitions::made(alloc, number),
-        15 => tried_machine::stations::made(alloc, number),
-        16 => tried_machine::attached::made(alloc, number),
-        17 => tried_machine::changes::made(alloc, number),
+        0 => tried_state::sends::made(alloc, number),
+        1 => tried_state::sessions::made(alloc, number),
+        2 => tried_state::subscriptions::made(alloc, number),
+        3 => tried_state::tables::made(alloc, number),
+        4 => tried_state::stations::made(alloc, number),
+        5 => tried_state::rows::made(alloc, number),
+        _ => Made::NoCall,
+    }
+}
+
+/// Makes the call of that number of a module of the core.
+fn made_of_core(alloc: Global, module: usize, number: usize) -> Made {
+    match module {
+        0 => tried_core::cores::made(alloc, number),
+        1 => tried_core::causes::made(alloc, number),
+        2 => tried_core::events::made(alloc, number),
         _ => Made::NoCall,
     }
 }
 
 /// Makes the call of that number.
 fn made(alloc: Global, at: usize) -> Made {
-    let (module, number) = (at / NUMBERS, at % NUMBERS);
-    match module {
-        0..=11 => made_of_values(alloc, module, number),
-        _ => made_of_state(alloc, module, number),
+    let (family, module, number) = (
+        at / (MODULES * NUMBERS),
+        at / NUMBERS % MODULES,
+        at % NUMBERS,
+    );
+    match family {
+        0 => made_of_values(alloc, module, number),
+        1 => made_of_texts(alloc, module, number),
+        2 => made_of_machine(alloc, module, number),
+        3 => made_of_state(alloc, module, number),
+        4 => made_of_core(alloc, module, number),
+        _ => Made::NoCall,
     }
 }
 
 /// Prints what the call was told; whether memory sufficed to make it.
-fn show(rt: &impl Print, at: usize, made: Made) -> io::Result<bool> {
+fn show(rt: &HostRuntime, at: usize, made: Made) -> io::Result<bool> {
     match made {
         Made::Told(told) => {
             println!(rt; "{at} {told}")?;
@@ -67,7 +108,7 @@ fn show(rt: &impl Print, at: usize, made: Made) -> io::Result<bool> {
 }
 
 /// Makes all calls; whether memory sufficed to make them.
-fn show_all(rt: &(impl Print + AllocGlobal)) -> io::Result<bool> {
+fn show_all(rt: &HostRuntime) -> io::Result<bool> {
     for at in 0..END {
         if !show(rt, at, made(rt.alloc(), at))? {
             return Ok(false);
@@ -77,7 +118,7 @@ fn show_all(rt: &(impl Print + AllocGlobal)) -> io::Result<bool> {
 }
 
 /// Makes the call of the number that is the first word, or all where there is no number.
-fn run(rt: &(impl Print + AllocGlobal + env::Env)) -> io::Result<bool> {
+fn run(rt: &HostRuntime) -> io::Result<bool> {
     let word = env::args(rt)?.nth(1);
     match word.and_then(|word| word.as_str().parse::<usize>().ok()) {
         Some(at) => show(rt, at, made(rt.alloc(), at)),

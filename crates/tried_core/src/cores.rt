@@ -26,7 +26,7 @@ static OPS: [Op; 7] = [
     Op::ConsumerAt((1, 1), 2, At::Queue("orders"), None, false),
     Op::Start(1),
     Op::SendTo(1, At::Topic("t"), "a", None),
-    Op::SendTo(1, At::Queue("orders"), "b", None),
+    Op::SendTo(1, At::Queue("orders"), "b", Some(1)),
 ];
 
 static SEND: [Op; 1] = [Op::SendTo(1, At::Queue("orders"), "c", None)];
@@ -48,7 +48,8 @@ fn run(alloc: Global, core: &mut Core, ops: &[Op]) -> Answer {
     }
 }
 
-pub(crate) fn core(alloc: Global) -> Result<Core, Refusal> {
+/// A new core, with a message in a queue and one for a durable subscription.
+pub fn core(alloc: Global) -> Result<Core, Refusal> {
     let mut core = Core::new(alloc, 1, 100_000)?;
     match run(alloc, &mut core, &OPS) {
         Ok(_) => Ok(core),
@@ -69,7 +70,7 @@ pub fn step(alloc: Global, op: Op) -> Result<Step, Refusal> {
 }
 
 /// How many messages are held, how many by queues, and how many consumers there are.
-fn numbers(core: &Core) -> u64 {
+pub fn numbers(core: &Core) -> u64 {
     let kept = two(core.kept(), core.kept_by_queues());
     kept.wrapping_mul(1000)
         .wrapping_add(core.consumers().len() as u64)

@@ -17,7 +17,7 @@ struct Answers {
 
 fn delivery(alloc: Global) -> Result<Delivery, Refusal> {
     Ok(Delivery {
-        message: sent(alloc, 1, At::Topic("t"), None)?,
+        message: sent(alloc, 1, At::Topic("t"), Some(1))?,
         count: 2,
     })
 }

@@ -17,7 +17,7 @@ struct Stations {
 }
 
 fn row(alloc: Global) -> Result<PlacedRow, Refusal> {
-    let message = sent(alloc, 1, At::Topic("orders"), None)?;
+    let message = sent(alloc, 1, At::Topic("orders"), Some(1))?;
     let row = Row {
         message,
         count: 1,

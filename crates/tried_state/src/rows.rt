@@ -26,7 +26,7 @@ fn key(alloc: Global) -> Result<Key, Refusal> {
 }
 
 fn message(alloc: Global) -> Result<Message, Refusal> {
-    sent(alloc, 1, At::Topic("orders"), None)
+    sent(alloc, 1, At::Topic("orders"), Some(1))
 }
 
 fn row(alloc: Global) -> Result<PlacedRow, Refusal> {

@@ -8,27 +8,38 @@ use std::alloc::Global;
 use tests_calls::{session, session_of};
 use tried::{Answer, Called, Made, Trial, tell, two};
 
-/// An open connection with a session.
+/// What the call is made on, and a key.
 #[derive(Drop)]
 struct Opened {
     alloc: Global,
     number: usize,
+    key: Option<Key>,
     sessions: Sessions,
 }
 
-fn one(alloc: Global) -> Result<Sessions, Refusal> {
+/// An open connection with a session; without where the session is made by the call, and none where the connection is.
+fn sessions_for(alloc: Global, number: usize) -> Result<Sessions, Refusal> {
     let mut sessions = Sessions::new(alloc);
-    match fill(alloc, &mut sessions) {
+    match fill(alloc, &mut sessions, number) {
         Ok(()) => Ok(sessions),
         Err(refusal) => Err(refusal),
     }
 }
 
-fn fill(alloc: Global, sessions: &mut Sessions) -> Result<(), Refusal> {
-    let (id, session) = (ConnectionId::new(1)?, session(1)?);
+fn fill(alloc: Global, sessions: &mut Sessions, number: usize) -> Result<(), Refusal> {
+    if number != 4 {
+        open(alloc, sessions)?;
+    }
+    if number != 4 && number != 5 {
+        sessions.session(&session(1)?, Mode::Auto)?;
+    }
+    Ok(())
+}
+
+fn open(alloc: Global, sessions: &mut Sessions) -> Result<(), Refusal> {
+    let id = ConnectionId::new(1)?;
     let client = ClientId::new(alloc, "billing")?;
-    sessions.open(id, Some(client))?;
-    sessions.session(&session, Mode::Auto)
+    sessions.open(id, Some(client))
 }
 
 /// How many connections there are and how many sessions and consumers.
@@ -48,8 +59,11 @@ fn durable_key(alloc: Global) -> Result<Key, Refusal> {
     Ok(Key::Durable(None, SubscriptionName::new(alloc, "invoices")?))
 }
 
-fn named(alloc: Global) -> Answer {
-    match Source::named(alloc, durable_key(alloc)?) {
+fn named(alloc: Global, key: Option<Key>) -> Answer {
+    let Some(key) = key else {
+        return Ok(0);
+    };
+    match Source::named(alloc, key) {
         Ok(_) => Ok(1),
         Err(_) => Err(Refusal::Memory),
     }
@@ -91,7 +105,8 @@ impl Opened {
         Ok(Opened {
             alloc,
             number,
-            sessions: one(alloc)?,
+            key: Some(durable_key(alloc)?),
+            sessions: sessions_for(alloc, number)?,
         })
     }
 
@@ -110,9 +125,7 @@ impl Opened {
     }
 
     fn open(&mut self) -> Answer {
-        let id = ConnectionId::new(2)?;
-        let client = ClientId::new(self.alloc, "another")?;
-        let opened = self.sessions.open(id, Some(client));
+        let opened = open(self.alloc, &mut self.sessions);
         self.after(opened)
     }
 
@@ -138,7 +151,7 @@ impl Trial for Opened {
         match self.number {
             0 => Called {
                 name: "jm_session Source::named",
-                answer: named(self.alloc),
+                answer: named(self.alloc, self.key.take()),
             },
             1 => Called {
                 name: "jm_session Sessions::of_one",

@@ -9,7 +9,7 @@ use std::alloc::{AllocError, Global};
 use tests_calls::{At, sent};
 use tried::{Answer, Called, Made, Trial, tell, two};
 
-/// A queue that holds a message, and what it is asked.
+/// A queue that holds a message, or none yet, and what it is asked.
 #[derive(Drop)]
 struct Queues {
     number: usize,
@@ -33,7 +33,7 @@ fn selector(alloc: Global) -> Result<Selector, Refusal> {
 
 fn row(alloc: Global) -> Result<Row, Refusal> {
     Ok(Row {
-        message: sent(alloc, 1, At::Queue("orders"), None)?,
+        message: sent(alloc, 1, At::Queue("orders"), Some(1))?,
         count: 0,
         state: RowState::Waiting,
     })
@@ -69,6 +69,14 @@ fn one(alloc: Global) -> Result<Stations, Refusal> {
         Ok(()) => Ok(stations),
         Err(refusal) => Err(refusal),
     }
+}
+
+/// What the call is made on: it makes room for a first key where that is the call.
+fn stations_for(alloc: Global, number: usize) -> Result<Stations, Refusal> {
+    if number == 3 {
+        return Ok(Stations::new(alloc));
+    }
+    one(alloc)
 }
 
 /// How many keys there are, and how many messages.
@@ -149,7 +157,7 @@ impl Queues {
             now,
             selector: selector(alloc)?,
             key: key(alloc)?,
-            stations: one(alloc)?,
+            stations: stations_for(alloc, number)?,
         })
     }
 }

@@ -1,4 +1,4 @@
-//! The calls of texts, names, properties, drafts and messages that take memory, each with what it is made on.
+//! The calls of texts, keys, names, properties, drafts and messages that take memory, or that copy what several own, each with what it is made on.
 //!
 //! # Contract
 //!
@@ -7,7 +7,9 @@
 
 pub mod destinations;
 pub mod drafts;
+pub mod keys;
 pub mod lists;
 pub mod messages;
 pub mod names;
 pub mod properties;
+pub mod shared;

@@ -22,10 +22,19 @@ fn sender() -> Result<Sender, Refusal> {
     })
 }
 
+/// A draft with a property, so that a copy of its message takes memory.
+fn draft(alloc: Global) -> Result<Draft, Refusal> {
+    let mut draft = Draft::new(alloc);
+    match draft.set_property("x", Property::Long(1)) {
+        Ok(()) => Ok(draft),
+        Err(fault) => Err(of_fault(fault)),
+    }
+}
+
 fn message(alloc: Global) -> Result<Message, Refusal> {
     let (sender, now) = (sender()?, Moment::new(1000)?);
     let topic = Destination::topic(alloc, "news")?;
-    stamp(Draft::new(alloc), topic, sender, 1, now)
+    stamp(draft(alloc)?, topic, sender, 1, now)
 }
 
 fn copied(message: &Message) -> Answer {

@@ -1,11 +1,12 @@
 //! Properties of messages.
 
-use jm_base::{Refusal, Str};
+use jm_base::Refusal;
 use jm_property::{Properties, Property};
+use jm_shared::SharedStr;
 use std::alloc::{AllocError, Global};
 use tried::{Answer, Called, Made, Trial, of_fault, same, tell, two};
 
-/// Properties of which the first is a text, and a property.
+/// Properties of which the first is a number, and a property that is a text.
 #[derive(Drop)]
 struct Kept {
     number: usize,
@@ -14,13 +15,12 @@ struct Kept {
 }
 
 fn text(alloc: Global) -> Result<Property, AllocError> {
-    Ok(Property::Text(Str::new(String::from_str(alloc, "text")?)))
+    Ok(Property::Text(SharedStr::from_str(alloc, "text")?))
 }
 
 fn first(alloc: Global) -> Result<Properties, Refusal> {
-    let property = text(alloc)?;
     let mut properties = Properties::new(alloc);
-    match properties.set("x", property) {
+    match properties.set("x", Property::Long(12345)) {
         Ok(()) => Ok(properties),
         Err(fault) => Err(of_fault(fault)),
     }
@@ -33,6 +33,7 @@ fn set(properties: &mut Properties) -> Answer {
     }
 }
 
+/// The length of the number's text.
 fn text_of(properties: &Properties) -> Answer {
     match properties.get_text("x") {
         Ok(text) => Ok(text.as_str().len() as u64),

@@ -1,0 +1,85 @@
+//! Keys in order of coming.
+
+use jm_base::Refusal;
+use jm_keyed::KeySet;
+use std::alloc::{AllocError, Global};
+use tried::{Answer, Called, Made, Trial, tell, two};
+
+/// A set of two keys.
+#[derive(Drop)]
+struct Keys {
+    alloc: Global,
+    number: usize,
+    set: KeySet<u64>,
+}
+
+/// Adds the key, where it is not there.
+fn add(set: &mut KeySet<u64>, key: u64) -> Result<(), AllocError> {
+    set.reserve(1)?;
+    if set.index_of(&key).is_none() {
+        set.insert(key);
+    }
+    Ok(())
+}
+
+fn fill(set: &mut KeySet<u64>) -> Result<(), AllocError> {
+    add(set, 30)?;
+    add(set, 20)
+}
+
+fn filled(alloc: Global) -> Result<KeySet<u64>, AllocError> {
+    let mut set = KeySet::new(alloc);
+    match fill(&mut set) {
+        Ok(()) => Ok(set),
+        Err(AllocError) => Err(AllocError),
+    }
+}
+
+fn reserved(set: &mut KeySet<u64>) -> Answer {
+    match set.reserve(100) {
+        Ok(()) => Ok(set.len() as u64),
+        Err(AllocError) => Err(Refusal::Memory),
+    }
+}
+
+/// The index of the second key in the copy.
+fn copied(alloc: Global, set: &KeySet<u64>) -> Answer {
+    let keys = Vec::from_slice(alloc, set.as_slice())?;
+    Ok(set.copy_with(keys)?.index_of(&20).unwrap_or(9) as u64)
+}
+
+impl Keys {
+    fn new(alloc: Global, number: usize) -> Result<Keys, Refusal> {
+        Ok(Keys {
+            alloc,
+            number,
+            set: filled(alloc)?,
+        })
+    }
+}
+
+impl Trial for Keys {
+    /// How many keys there are, and the index of the second.
+    fn state(&self) -> u64 {
+        two(self.set.len(), self.set.index_of(&20).unwrap_or(9))
+    }
+
+    fn call(&mut self) -> Called {
+        match self.number {
+            0 => Called {
+                name: "jm_keyed KeySet::reserve",
+                answer: reserved(&mut self.set),
+            },
+            1 => Called {
+                name: "jm_keyed KeySet::copy_with",
+                answer: copied(self.alloc, &self.set),
+            },
+            _ => Called::NONE,
+        }
+    }
+}
+
+/// Makes the call of that number.
+pub fn made(alloc: Global, number: usize) -> Made {
+    tell(Keys::new(alloc, number))
+}
