@@ -34,7 +34,7 @@ impl Destination {
         Ok(Destination::Topic(name))
     }
 
-    /// An equal destination. `AllocError` where a request for memory was refused.
+    /// An equal destination, over the same text. Takes no memory; `AllocError` where the text has 9,223,372,036,854,775,807 owners.
     pub fn copy(&self) -> Result<Destination, AllocError>
         ensures { IfOk result (λ copy. copy ≡ self.now) }
     {

@@ -30,7 +30,7 @@ fn copy_client(client: &Option<ClientId>) -> Result<Option<ClientId>, AllocError
 }
 
 impl Key {
-    /// An equal key. `AllocError` where a request for memory was refused.
+    /// An equal key, over the same text. Takes no memory; `AllocError` where the text has 9,223,372,036,854,775,807 owners.
     pub fn copy(&self) -> Result<Key, AllocError>
         ensures { IfOk result (λ copy. copy ≡ self.now) }
     {

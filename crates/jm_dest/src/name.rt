@@ -71,7 +71,7 @@ impl Name {
         self.text.as_str()
     }
 
-    /// An equal name. `AllocError` where a request for memory was refused.
+    /// An equal name, over the same text. Takes no memory; `AllocError` where the text has 9,223,372,036,854,775,807 owners.
     pub fn copy(&self) -> Result<Name, AllocError>
         ensures { IfOk result (λ copy. copy ≡ self.now) }
     {
@@ -126,7 +126,7 @@ impl ClientId {
         self.identifier.as_str()
     }
 
-    /// An equal identifier. `AllocError` where a request for memory was refused.
+    /// An equal identifier, over the same text. Takes no memory; `AllocError` where the text has 9,223,372,036,854,775,807 owners.
     pub fn copy(&self) -> Result<ClientId, AllocError>
         ensures { IfOk result (λ copy. copy ≡ self.now) }
     {
@@ -179,7 +179,7 @@ impl SubscriptionName {
         self.name.as_str()
     }
 
-    /// An equal name. `AllocError` where a request for memory was refused.
+    /// An equal name, over the same text. Takes no memory; `AllocError` where the text has 9,223,372,036,854,775,807 owners.
     pub fn copy(&self) -> Result<SubscriptionName, AllocError>
         ensures { IfOk result (λ copy. copy ≡ self.now) }
     {

@@ -285,8 +285,9 @@ fn request_why(
 
 /// Why the core refuses the step as `IllegalState`, or as `SubscriptionInUse`: the first cause that stands; none where it is
 /// not refused so. It looks only, and changes nothing; where the step names a subscription it goes over all consumers that
-/// were ever made, and over the rows of the subscription. `AllocError` where a request for memory was refused, which comes
-/// only where the subscription is looked at: never of a step that is refused as `IllegalState`.
+/// were ever made, and over the rows of the subscription. Takes no memory; `AllocError` where a name of the subscription has
+/// 9,223,372,036,854,775,807 owners, which comes only where the subscription is looked at: never of a step that is refused as
+/// `IllegalState`.
 pub fn why(alloc: Global, core: &Core, step: &Step) -> Result<Option<Why>, AllocError>
     ensures ok { IfOk result (λ why. why ≡ spec.why (state_of core.now) step.now.who step.now.call) }
     ensures memory { OnErr result (IsNoState (spec.why (state_of core.now) step.now.who step.now.call)) }

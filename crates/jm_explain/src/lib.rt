@@ -2,12 +2,13 @@
 //!
 //! # Contract
 //!
-//! `why` answers of a core and a step exactly `why state who call` of `jm_why`, or that memory is wanted; it changes
-//! nothing. With `law_explained` its answer has a cause exactly where the core's reply is IllegalState or
+//! `why` answers of a core and a step exactly `why state who call` of `jm_why`, or that a name cannot be shared once more; it
+//! changes nothing. With `law_explained` its answer has a cause exactly where the core's reply is IllegalState or
 //! SubscriptionInUse. Where the step names a subscription it goes over all consumers that were ever made and over the
-//! rows of the subscription. Memory is wanted for no cause behind an `IllegalState`:
+//! rows of the subscription.
 //!
-//! `why` fails only where what is held under a key of a subscription is looked at (`IsNoState`).
+//! `why` fails only where what is held under a key of a subscription is looked at (`IsNoState`): never for a cause behind an
+//! `IllegalState`.
 #![tactic(auto)]
 
 mod calls;
