@@ -1,13 +1,14 @@
 //! A provider of messages that a service embeds: connections, sessions and consumers in the names of Jakarta Messaging, over
-//! one lock round a core and its keeper.
+//! one lock round a backend: a core with its keeper, or in tests one that is audited.
 //!
 //! # Contract
 //!
 //! What makes the calls under its lock is a `Backend`, whose step is told the machine's reply and leaves the machine's
-//! state, or counts as not made and leaves the state. `Plain`, a core with its keeper, carries by its type that where
-//! the keeper is clean what it has stored is what is stored of the core's state, and its `step` has the clauses of
-//! `jm_kept::step`. Through the lock a call is told the machine's reply to its request in some state that the provider
-//! reaches, or counts as not made (`Told`).
+//! state, or counts as not made and leaves the state; what it does beside is the backend's own to say (`IsStep`). `Plain`, a
+//! core with its keeper, carries by its type that where the keeper is clean what it has stored is what is stored of the core's
+//! state, and its step has the clauses of `jm_kept::step`, under the lock too (`IsKeptStep` in `specs/Locked.antt`;
+//! `Shared::apply`, clause `backend`). Through the lock a call is told the machine's reply to its request in some state that
+//! the provider reaches, or counts as not made (`Told`).
 //!
 //! `send` stamps the draft and publishes it, and tells its number; in a transacted session it waits behind all that waited
 //! (`Sends`). A commit or a rollback that is refused leaves all that waits; one that is accepted leaves nothing.

@@ -1,6 +1,7 @@
 //! A core with its keeper, and nothing beside.
 
 ghost use Rattle.std.specs.Prelude.{◌≡◌, ◌≤◌, false, IsTrue, IsErrOf};
+ghost use Rattle.jm_client.specs.Locked.{IsKeptStep};
 ghost use Rattle.jm_core.specs.Provider.{state_of};
 ghost use Rattle.jm_core.specs.Steps.{StepFits};
 ghost use Rattle.jm_keep.specs.Persisted.{IsPersisted};
@@ -85,6 +86,8 @@ impl<K: Keep + Drop> Plain<K> {
 
 impl<K: Keep + Drop> Backend for Plain<K> {
     ghost core_of = { λ p. p.core };
+
+    ghost IsStep = { IsKeptStep K.is_keeping K.is_clean K.faults K.stored };
 
     fn core(&self) -> &Core {
         &self.core

@@ -37,8 +37,8 @@ const OPENING: u32 = 1;
 /// How many rows a subscription that is not durable may hold, in a provider that keeps nothing (ours).
 const HELD_LIMIT: u32 = 100_000;
 
-/// A provider that a service embeds (ours): one lock round a core and its keeper, for all threads. It has the runtime, which
-/// waits for the lock and tells the time, so that no call needs it. Each call is one step in one hold of the lock, but that
+/// A provider that a service embeds (ours): one lock round its backend, which has the core, for all threads. It has the runtime,
+/// which waits for the lock and tells the time, so that no call needs it. Each call is one step in one hold of the lock, but that
 /// `receive` makes one each time that it looks. Nothing is promised of how long a thread waits for the lock, or of the order
 /// in which those that wait go on.
 #[derive(Drop)]

@@ -124,6 +124,7 @@ fn with_cause(
 fn applied<B: Backend>(alloc: Global, backend: &mut B, step: &Step) -> Result<Answer, Error>
     ensures fits { KeptFits (state_of (B.core_of backend.old)) step.now.who step.now.call (without_cause result) (state_of (B.core_of backend.new)) }
     ensures told { IsToldIn (state_of (B.core_of backend.old)) step.now.who step.now.call result }
+    ensures backend { B.IsStep backend.old step.now (without_cause result) backend.new }
 {
     let reply = backend.apply(step);
     with_cause(alloc, backend.core(), step, reply)
@@ -197,11 +198,12 @@ impl<B: Backend> Shared<B> {
         law_core_reached(self.backend.core());
     }
 
-    /// One step, as the backend makes it, with its refusals, each told with its cause in the state that the step met. The
-    /// numbers stay.
+    /// One step, as the backend makes it, with its refusals, each told with its cause in the state that the step met. Over a
+    /// plain backend it has the clauses of `jm_kept::step`. The numbers stay.
     pub(crate) fn apply(&mut self, step: &Step) -> Result<Answer, Error>
         ensures fits { KeptFits (state_of self.old.core) step.now.who step.now.call (without_cause result) (state_of self.new.core) }
         ensures told { IsToldIn (state_of self.old.core) step.now.who step.now.call result }
+        ensures backend { B.IsStep self.old.backend step.now (without_cause result) self.new.backend }
         ensures numbers { self.new ≡ record self.old { core = self.new.core; backend = self.new.backend } }
     {
         let Shared {

@@ -5,7 +5,7 @@ ghost use Rattle.jm_audit.specs.Audit.{segment, Agree, EachOnce, IsFault, Rise};
 ghost use Rattle.jm_audit.specs.Passes.{Calls};
 ghost use Rattle.jm_broker.specs.Calls.{entry, Gains, HasSame};
 ghost use Rattle.jm_broker.specs.Traces.{event, OnMade, OnNotMade};
-ghost use Rattle.jm_client_audited.specs.Audits.{IsNoted, IsUnnoted, calls_by};
+ghost use Rattle.jm_client_audited.specs.Audits.{IsAuditedStep, IsNoted, IsUnnoted, calls_by};
 ghost use Rattle.jm_client_audited.specs.Callers as spec;
 ghost use Rattle.jm_core.specs.Provider.{state_of};
 ghost use Rattle.jm_keep.specs.Persisted.{IsPersisted};
@@ -204,6 +204,8 @@ impl<K: Keep + Drop, L: Ledger> Audited<K, L> {
 
 impl<K: Keep + Drop, L: Ledger> Backend for Audited<K, L> {
     ghost core_of = { λ a. a.traced.core };
+
+    ghost IsStep = { IsAuditedStep K.is_clean K.faults K.stored };
 
     fn core(&self) -> &Core {
         self.traced.core()
