@@ -1,20 +1,17 @@
 -- Values that stand beside keys, at the same indexes: what is found under a key, for callers that keep them so.
-use Rattle.std.proofs.Common.{◌≡◌, ◌<◌, ℕ, Bool, true, false, cond, List, [], ◌∷◌, ◌++◌, length, get_or, set, Option, Some, None, arith, refl, sym, ◌∙◌, ap, suc, zero}
+use Rattle.std.proofs.Common.{◌≡◌, ◌<◌, ℕ, Bool, true, false, cond, List, [], ◌∷◌, ◌++◌, length, get_or, set, Some, None, arith, refl, sym, ◌∙◌, ap, suc, zero}
 use Rattle.std.specs.List.{All, IsDistinct, remove, zip}
 use Rattle.std.specs.Map.{lookup}
 use Rattle.std.specs.Cmp.{IsEquivalence}
 use Rattle.std.proofs.lemmas.List.Elements.{All-head, All-tail}
 use Rattle.std.proofs.lemmas.List.Quantifiers.{position-Some}
 use Rattle.std.proofs.lemmas.Map.Keys.{IsDistinct-tail, apart_from_distinct}
+use Rattle.jm_keyed.specs.Entries.{Updates}
 use Rattle.jm_keyed.specs.Order.{index_in}
 use Rattle.jm_keyed.proofs.Orders.{none_from_position}
 
--- at the key stands that value now, or none, and at each other what stood there
-abbrev pub Updates : {K V : Type 0} → (K → K → Bool) → List (K × V) → List (K × V) → K → Option V → Type 0
-Updates {K} eq old new key value = (q : K) → lookup (eq q) new ≡ cond (eq key q) value (lookup (eq q) old)
-
 module _ {K : Type 0} {eq : K → K → Bool} (same : IsEquivalence eq) where
-  turned : (a b : K) (r : Bool) → eq a b ≡ r → eq b a ≡ r
+  pub turned : (a b : K) (r : Bool) → eq a b ≡ r → eq b a ≡ r
   turned a b r e = same.symm b a ∙ e
 
   -- what is equal to one of two that are apart is not equal to the other

@@ -1,2 +1,4 @@
 pub mod Orders
 pub mod Columns
+pub mod Entries
+pub mod Marked

@@ -31,3 +31,9 @@ moved_up place other = if nat_lt place other then other - 1 else other
 abbrev pub marks_of : {K : Type 0} → (K → Bool) → ℕ → ℕ → List K → List ℕ
 marks_of stays before gone [] = []
 marks_of stays before gone (key ∷ keys) = if stays key then before ∷ marks_of stays (before + 1) gone keys else gone ∷ marks_of stays before gone keys
+
+-- the items whose marks are below the number
+abbrev pub marked_below : {X : Type 0} → ℕ → List ℕ → List X → List X
+marked_below gone [] items = []
+marked_below gone (mark ∷ marks) [] = []
+marked_below gone (mark ∷ marks) (x ∷ items) = if nat_lt mark gone then x ∷ marked_below gone marks items else marked_below gone marks items

@@ -1,11 +1,14 @@
 //! Sets of keys in order of coming.
 
-ghost use Rattle.std.specs.Prelude.{◌≡◌, ◌+◌, ◌<◌, ◌≤◌, ◌==◌, ◌++◌, [], ◌∷◌, filter, length, slice_index_or, IfOk, IfSome, OnOk, IsOk, None};
-ghost use Rattle.std.specs.List.{IsDistinct, remove};
+ghost use Rattle.std.specs.Prelude.{◌≡◌, ◌+◌, ◌-◌, ◌<◌, ◌≤◌, ◌==◌, ◌++◌, [], ◌∷◌, filter, length, slice_index_or, vec_len, IfOk, IfSome, OnOk, IsOk, None};
+ghost use Rattle.std.specs.List.{IsDistinct, remove, zip};
+ghost use Rattle.std.specs.Vec.{vec_capacity};
 ghost use Rattle.jm_keyed.specs.Order.{index_in};
 
-use crate::choice::Choice;
-use crate::order::{find, insert_place, keep_places, mark, remove_place};
+use crate::choice::{Choice, EntryChoice};
+use crate::order::{
+    find, insert_place, keep_marked, keep_places, mark, mark_entries, remove_place,
+};
 use std::alloc::{AllocError, Global};
 use std::marker::Model;
 
@@ -70,6 +73,16 @@ impl<K: Ord> KeySet<K> {
         ensures { result ≡ (length self.now.keys == 0) }
     {
         self.keys.is_empty()
+    }
+
+    /// For how many more keys there is room.
+    pub fn spare(&self) -> usize
+        ensures { result ≡ self.now.spare }
+    {
+        let room = self.keys.capacity() - self.keys.len();
+        let places = self.order.capacity() - self.order.len();
+        let marks = self.marks.capacity() - self.keys.len();
+        room.min(places.min(marks))
     }
 
     /// The keys in order of coming.
@@ -144,6 +157,28 @@ impl<K: Ord + Drop> KeySet<K> {
         keep_places(&mut self.order, self.marks.as_slice());
         self.marks.clear();
         self.keys.retain(|key| choice.keeps(key));
+    }
+
+    /// Leaves the keys that the choice keeps with the values beside them, and those values, each in their order. Takes no
+    /// memory.
+    pub(crate) fn retain_entries<V: Drop, C: EntryChoice<K, V>>(
+        &mut self,
+        values: &mut Vec<V>,
+        choice: &C,
+    )
+        requires { vec_len values.old ≡ length self.old.keys }
+        ensures entries { zip self.new.keys values.new.items ≡ filter (λ e. C.kept choice.now e.0 e.1) (zip self.old.keys values.old.items) }
+        ensures even { vec_len values.new ≡ length self.new.keys }
+        ensures spare { self.old.spare ≤ self.new.spare }
+        ensures room { vec_capacity values.old - vec_len values.old ≤ vec_capacity values.new - vec_len values.new }
+    {
+        let gone = self.keys.len();
+        let keys = self.keys.as_slice();
+        mark_entries(keys, values.as_slice(), choice, &mut self.marks);
+        keep_places(&mut self.order, self.marks.as_slice());
+        keep_marked(&mut self.keys, self.marks.as_slice(), gone);
+        keep_marked(values, self.marks.as_slice(), gone);
+        self.marks.clear();
     }
 
     /// A set of equal keys, which are handed in: no key is compared. There may be other room. `AllocError` where a request for

@@ -1,4 +1,4 @@
-//! Sets of keys in order of coming, of which each is found by the order of the keys.
+//! Sets and maps of keys in order of coming, of which each is found by the order of the keys.
 //!
 //! # Contract
 //!
@@ -11,9 +11,11 @@
 //! keeps (`filter`), in their order; neither takes memory, and room grows by what goes. `copy_with` makes the set of equal
 //! keys that are handed in.
 //!
-//! Values for the keys stand in a list of the caller's own, at the same indexes. `proofs/Columns.antt` has what is found under each key
-//! of two such lists (`found`, `not_found`), and what it becomes where a key comes, goes, or has another value (`inserted`, `removed`,
-//! `replaced`), as a map says it.
+//! `KeyMap<K, V>` has a value for each key. It is seen as its entries, the keys with their values in order of coming, and
+//! `spare`. `get`, `contains_key` and `index_of` look for a key (`lookup` by `==`), `entry_at` and `keys` give back what stands
+//! there, `value_mut` and `get_mut` lend a value to write (`with_value_at`, `WritesThrough`). `insert` and `remove` say what is
+//! found under each key afterwards (`Updates`), and where the entries stand; `retain` leaves those that an `EntryChoice` keeps.
+//! As with sets, `reserve` alone wants memory.
 //!
 //! # Costs
 //!
@@ -23,12 +25,15 @@
 //! the keys behind. `retain` looks at each key and at each place twice, however many go. So 20,000 keys that come in the worst
 //! order move 200,000,000 numbers in all, which is 1.6 GB in blocks of at most 160 kB: some tenth of a second. A balanced tree
 //! would move fewer, but takes memory at each key, or a slab of links, and is left until somebody holds far more. Beside each
-//! key stand its place in the order, and room for a mark that `retain` writes: sixteen bytes.
+//! key stand its place in the order, and room for a mark that `retain` writes: sixteen bytes. A map's values stand in a list beside
+//! the keys: where a key goes, the values behind its own move up too, and `retain` moves each that stays once at most.
 #![tactic(auto)]
 
 mod choice;
+mod key_map;
 mod key_set;
 mod order;
 
-pub use choice::Choice;
+pub use choice::{Choice, EntryChoice};
+pub use key_map::KeyMap;
 pub use key_set::KeySet;

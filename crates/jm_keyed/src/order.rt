@@ -1,13 +1,13 @@
 //! The places of keys in the order of the keys.
 
 ghost use Rattle.std.specs.Prelude.{◌≡◌, ℕ, ◌+◌, ◌<◌, ◌≤◌, ◌++◌, ◌∷◌, true, false, [], length, map, nat_lt, filter, slice_index, slice_index_or, vec_len, Some, None};
-ghost use Rattle.std.specs.List.{All, remove};
+ghost use Rattle.std.specs.List.{All, remove, zip};
 ghost use Rattle.std.specs.Ordering.{is_lt};
 ghost use Rattle.std.specs.Vec.{vec_capacity};
 ghost use Rattle.jm_keyed.specs.Order as spec;
 ghost use Rattle.jm_keyed.specs.Order.{IsOrder, index_in, is_below, marks_of};
 
-use crate::choice::Choice;
+use crate::choice::{Choice, EntryChoice};
 
 /// How many of the keys come before the key. It compares at most one key for each halving.
 pub(crate) fn count_before<K: Ord>(keys: &[K], order: &[usize], key: &K) -> usize
@@ -108,6 +108,31 @@ pub(crate) fn mark<K, C: Choice<K>>(keys: &[K], choice: &C, marks: &mut Vec<usiz
     }
 }
 
+/// Writes a mark for each entry, as `mark` does for each key. Takes no memory, since there is room.
+pub(crate) fn mark_entries<K, V, C: EntryChoice<K, V>>(
+    keys: &[K],
+    values: &[V],
+    choice: &C,
+    marks: &mut Vec<usize>,
+)
+    requires even { length values.now ≡ length keys.now }
+    requires none { marks.old.items ≡ [] }
+    requires room { length keys.now ≤ vec_capacity marks.old }
+    ensures marks { marks.new.items ≡ marks_of (λ e. C.kept choice.now e.0 e.1) 0 (length keys.now) (zip keys.now values.now) }
+    ensures capacity { vec_capacity marks.new ≡ vec_capacity marks.old }
+{
+    let gone = keys.len();
+    let mut stay = 0;
+    for at in 0..keys.len() {
+        if choice.keeps(&keys[at], &values[at]) {
+            marks.push_reserved(stay);
+            stay += 1;
+        } else {
+            marks.push_reserved(gone);
+        }
+    }
+}
+
 /// Puts its mark for each place.
 fn replace_each(order: &mut [usize], marks: &[usize])
     requires { All (λ i. i < length marks.now) order.old }
@@ -128,4 +153,21 @@ pub(crate) fn keep_places(order: &mut Vec<usize>, marks: &[usize])
     let gone = marks.len();
     replace_each(order, marks);
     order.retain(|place| *place < gone);
+}
+
+/// Leaves the items whose marks are below `gone`, in their order. Takes no memory.
+pub(crate) fn keep_marked<X: Drop>(items: &mut Vec<X>, marks: &[usize], gone: usize)
+    requires { vec_len items.old ≡ length marks.now }
+    ensures items { items.new.items ≡ spec.marked_below gone marks.now items.old.items }
+    ensures fewer { vec_len items.new ≤ vec_len items.old }
+    ensures capacity { vec_capacity items.new ≡ vec_capacity items.old }
+{
+    let mut kept = 0;
+    for at in 0..marks.len() {
+        if marks[at] < gone {
+            items.swap(kept, at);
+            kept += 1;
+        }
+    }
+    items.truncate(kept);
 }

@@ -1,0 +1,12 @@
+use Rattle.std.proofs.Common.{◌∙◌, sym, subst}
+use Rattle.std.specs.List.{IsDistinct}
+use Rattle.std.proofs.lemmas.Map.Made.{keys_of-zip}
+use Rattle.jm_keyed.proofs.Entries.{length_entries}
+use Rattle.jm_keyed.proofs.key_map.KeyMap.len.Goals as goal
+
+pub returns-clause-len : goal.returns-clause-len
+returns-clause-len g c = rw (← c.self.view_is) (c.len.ensures.len ∙ sym (length_entries c.self.inside.keys.keys c.self.inside.values.items c.self.invariant))
+
+pub returns-clause-once : goal.returns-clause-once
+returns-clause-once g c =
+    rw (← c.self.view_is) (subst (IsDistinct g.K.PartialEq.eq) (sym (keys_of-zip c.self.inside.keys.keys c.self.inside.values.items c.self.invariant)) c.len.ensures.once)
