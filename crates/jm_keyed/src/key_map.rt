@@ -1,6 +1,6 @@
 //! Maps of keys in order of coming.
 
-ghost use Rattle.std.specs.Prelude.{◌≡◌, ◌+◌, ◌<◌, ◌≤◌, ◌==◌, ◌++◌, [], ◌∷◌, filter, length, is_some, slice_get, IfSome, IsOk, OnOk, None, Some};
+ghost use Rattle.std.specs.Prelude.{◌≡◌, ◌+◌, ◌<◌, ◌≤◌, ◌^◌, ◌==◌, ◌++◌, [], ◌∷◌, filter, length, is_some, slice_get, IfSome, IsOk, OnOk, None, Some};
 ghost use Rattle.std.specs.Borrow.{sem};
 ghost use Rattle.std.specs.List.{IsDistinct};
 ghost use Rattle.std.specs.Map.{keys_of, lookup, remove_entry, values_of};
@@ -63,6 +63,7 @@ impl<K: Ord, V> KeyMap<K, V> {
     pub fn len(&self) -> usize
         ensures len { result ≡ length self.now.entries }
         ensures once { IsDistinct K.eq (keys_of self.now.entries) }
+        ensures small { length self.now.entries < 2 ^ 63 }
     {
         self.keys.len()
     }

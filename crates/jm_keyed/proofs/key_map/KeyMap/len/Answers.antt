@@ -1,4 +1,4 @@
-use Rattle.std.proofs.Common.{◌∙◌, sym, subst}
+use Rattle.std.proofs.Common.{◌∙◌, arith, sym, subst}
 use Rattle.std.specs.List.{IsDistinct}
 use Rattle.std.proofs.lemmas.Map.Made.{keys_of-zip}
 use Rattle.jm_keyed.proofs.Entries.{length_entries}
@@ -10,3 +10,7 @@ returns-clause-len g c = rw (← c.self.view_is) (c.len.ensures.len ∙ sym (len
 pub returns-clause-once : goal.returns-clause-once
 returns-clause-once g c =
     rw (← c.self.view_is) (subst (IsDistinct g.K.PartialEq.eq) (sym (keys_of-zip c.self.inside.keys.keys c.self.inside.values.items c.self.invariant)) c.len.ensures.once)
+
+pub returns-clause-small : goal.returns-clause-small
+returns-clause-small g c =
+    rw (← c.self.view_is) (omega (arith, length_entries c.self.inside.keys.keys c.self.inside.values.items c.self.invariant, c.self.invariant, c.self.inside.values.ok, c.self.inside.values.small))
