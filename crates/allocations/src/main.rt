@@ -74,6 +74,7 @@ fn made_of_core(alloc: Global, module: usize, number: usize) -> Made {
         0 => tried_core::cores::made(alloc, number),
         1 => tried_core::causes::made(alloc, number),
         2 => tried_core::events::made(alloc, number),
+        3 => tried_core::steps::made(alloc, number),
         _ => Made::NoCall,
     }
 }

@@ -8,3 +8,4 @@
 pub mod causes;
 pub mod cores;
 pub mod events;
+pub mod steps;
