@@ -4,7 +4,10 @@
 #![tactic(auto)]
 
 use std::alloc::Global;
+use std::marker::Brand;
 use std::process::ExitCode;
+use std::sync::Wait;
+use std::sync::ledger::Blank;
 use std::{env, io};
 use tried::Made;
 
@@ -13,7 +16,7 @@ const NUMBERS: usize = 16;
 /// How many modules each family has.
 const MODULES: usize = 8;
 /// Past the last number.
-const END: usize = 5 * MODULES * NUMBERS;
+const END: usize = 6 * MODULES * NUMBERS;
 
 /// Makes the call of that number of a module of values.
 fn made_of_values(alloc: Global, module: usize, number: usize) -> Made {
@@ -79,8 +82,19 @@ fn made_of_core(alloc: Global, module: usize, number: usize) -> Made {
     }
 }
 
+/// Makes the call of that number of a module of the lock.
+fn made_of_lock<R: Wait>(rt: &R, alloc: Global, module: usize, number: usize) -> Made {
+    match module {
+        0 => tried_broker::openings::made(alloc, number),
+        1 => tried_broker::locks::made::<Brand, _>(rt, alloc, Blank::new(3), number),
+        2 => tried_broker::segments::made::<Brand, _>(rt, alloc, Blank::new(3), number),
+        3 => tried_broker::left_out::made(rt, alloc, number),
+        _ => Made::NoCall,
+    }
+}
+
 /// Makes the call of that number.
-fn made(alloc: Global, at: usize) -> Made {
+fn made<R: Wait>(rt: &R, alloc: Global, at: usize) -> Made {
     let (family, module, number) = (
         at / (MODULES * NUMBERS),
         at / NUMBERS % MODULES,
@@ -92,15 +106,16 @@ fn made(alloc: Global, at: usize) -> Made {
         2 => made_of_machine(alloc, module, number),
         3 => made_of_state(alloc, module, number),
         4 => made_of_core(alloc, module, number),
+        5 => made_of_lock(rt, alloc, module, number),
         _ => Made::NoCall,
     }
 }
 
 /// Prints what the call was told; whether memory sufficed to make it.
-fn show(rt: &HostRuntime, at: usize, made: Made) -> io::Result<bool> {
+fn show(host: &HostRuntime, at: usize, made: Made) -> io::Result<bool> {
     match made {
         Made::Told(told) => {
-            println!(rt; "{at} {told}")?;
+            println!(host; "{at} {told}")?;
             Ok(true)
         }
         Made::NoMemory => Ok(false),
@@ -109,9 +124,9 @@ fn show(rt: &HostRuntime, at: usize, made: Made) -> io::Result<bool> {
 }
 
 /// Makes all calls; whether memory sufficed to make them.
-fn show_all(rt: &HostRuntime) -> io::Result<bool> {
+fn show_all<R: Wait>(host: &HostRuntime, rt: &R) -> io::Result<bool> {
     for at in 0..END {
-        if !show(rt, at, made(rt.alloc(), at))? {
+        if !show(host, at, made(rt, host.alloc(), at))? {
             return Ok(false);
         }
     }
@@ -119,16 +134,16 @@ fn show_all(rt: &HostRuntime) -> io::Result<bool> {
 }
 
 /// Makes the call of the number that is the first word, or all where there is no number.
-fn run(rt: &HostRuntime) -> io::Result<bool> {
-    let word = env::args(rt)?.nth(1);
+fn run<R: Wait>(host: &HostRuntime, rt: &R) -> io::Result<bool> {
+    let word = env::args(host)?.nth(1);
     match word.and_then(|word| word.as_str().parse::<usize>().ok()) {
-        Some(at) => show(rt, at, made(rt.alloc(), at)),
-        None => show_all(rt),
+        Some(at) => show(host, at, made(rt, host.alloc(), at)),
+        None => show_all(host, rt),
     }
 }
 
 fn main(rt: HostRuntime) -> ExitCode {
-    match run(&rt) {
+    match run(&rt, &rt) {
         Ok(true) => ExitCode::SUCCESS,
         _ => {
             let _ = eprintln!(&rt; "memory");

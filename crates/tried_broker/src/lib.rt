@@ -5,6 +5,9 @@
 //! None: each module makes the call of a number, and says so where there is none.
 #![tactic(auto)]
 
+pub mod anew;
+pub mod left_out;
 mod locked;
 pub mod locks;
+pub mod openings;
 pub mod segments;

@@ -37,13 +37,15 @@ impl Clock for Noon {
     }
 }
 
-static OPS: [Op; 6] = [
+/// With the send they fill the room for eight entries.
+static OPS: [Op; 7] = [
     Op::Open(1),
     Op::Open(2),
     Op::Session((1, 1), Mode::Auto),
     Op::Session((2, 1), Mode::Auto),
     Op::ConsumerAt((1, 1), 1, At::Queue("orders"), None, false),
     Op::Start(1),
+    Op::Start(2),
 ];
 
 fn sent(heap: Global) -> Result<Step, Refusal> {

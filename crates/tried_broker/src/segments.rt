@@ -24,7 +24,7 @@ struct Segment<L: Ledger> {
 }
 
 /// 1 where the passes account for the segment; else the pass and the index of the first fault, as two numbers behind a 2.
-fn verdict(verdict: Result<(), FinishFault>) -> Answer {
+pub(crate) fn verdict(verdict: Result<(), FinishFault>) -> Answer {
     match verdict {
         Ok(()) => Ok(1),
         Err(FinishFault::Memory) => Err(Refusal::Memory),
