@@ -8,6 +8,7 @@ use std::marker::Brand;
 use std::process::ExitCode;
 use std::sync::Wait;
 use std::sync::ledger::Blank;
+use std::time::Clock;
 use std::{env, io};
 use tried::Made;
 
@@ -16,7 +17,7 @@ const NUMBERS: usize = 16;
 /// How many modules each family has.
 const MODULES: usize = 8;
 /// Past the last number.
-const END: usize = 6 * MODULES * NUMBERS;
+const END: usize = 7 * MODULES * NUMBERS;
 
 /// Makes the call of that number of a module of values.
 fn made_of_values(alloc: Global, module: usize, number: usize) -> Made {
@@ -93,8 +94,20 @@ fn made_of_lock<R: Wait>(rt: &R, alloc: Global, module: usize, number: usize) ->
     }
 }
 
+/// Makes the call of that number of a module of what a service embeds.
+fn made_of_client<R: Wait + Clock>(rt: &R, alloc: Global, module: usize, number: usize) -> Made {
+    match module {
+        0 => tried_client::connections::made(rt, alloc, number),
+        1 => tried_client::sessions::made(rt, alloc, number),
+        2 => tried_client::receiving::made(rt, alloc, number),
+        3 => tried_audited::openings::made(rt, alloc, number),
+        4 => tried_audited::backends::made(alloc, number),
+        _ => Made::NoCall,
+    }
+}
+
 /// Makes the call of that number.
-fn made<R: Wait>(rt: &R, alloc: Global, at: usize) -> Made {
+fn made<R: Wait + Clock>(rt: &R, alloc: Global, at: usize) -> Made {
     let (family, module, number) = (
         at / (MODULES * NUMBERS),
         at / NUMBERS % MODULES,
@@ -107,6 +120,7 @@ fn made<R: Wait>(rt: &R, alloc: Global, at: usize) -> Made {
         3 => made_of_state(alloc, module, number),
         4 => made_of_core(alloc, module, number),
         5 => made_of_lock(rt, alloc, module, number),
+        6 => made_of_client(rt, alloc, module, number),
         _ => Made::NoCall,
     }
 }
@@ -124,7 +138,7 @@ fn show(host: &HostRuntime, at: usize, made: Made) -> io::Result<bool> {
 }
 
 /// Makes all calls; whether memory sufficed to make them.
-fn show_all<R: Wait>(host: &HostRuntime, rt: &R) -> io::Result<bool> {
+fn show_all<R: Wait + Clock>(host: &HostRuntime, rt: &R) -> io::Result<bool> {
     for at in 0..END {
         if !show(host, at, made(rt, host.alloc(), at))? {
             return Ok(false);
@@ -134,7 +148,7 @@ fn show_all<R: Wait>(host: &HostRuntime, rt: &R) -> io::Result<bool> {
 }
 
 /// Makes the call of the number that is the first word, or all where there is no number.
-fn run<R: Wait>(host: &HostRuntime, rt: &R) -> io::Result<bool> {
+fn run<R: Wait + Clock>(host: &HostRuntime, rt: &R) -> io::Result<bool> {
     let word = env::args(host)?.nth(1);
     match word.and_then(|word| word.as_str().parse::<usize>().ok()) {
         Some(at) => show(host, at, made(rt, host.alloc(), at)),

@@ -1,0 +1,5 @@
+use Rattle.tried_audited.proofs.openings.again.Given as goal
+
+-- the ledger of the blank that was just made
+abbrev pub ghosts-opened : goal.ghosts-opened
+ghosts-opened a = record { name = a.blank.name; parts = a.blank.parts }
