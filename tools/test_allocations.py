@@ -87,11 +87,11 @@ def load() -> Any:
 
 
 class Allocations(unittest.TestCase):
-    def told(self, made: str, take_none: str = "", within: str = "") -> tuple[int, list[str]]:
+    def told(self, made: str, take_none: str = "", within: str = "", as_another: str = "") -> tuple[int, list[str]]:
         """The status and the lines over the small repository, with those lists."""
         tool = load()
         tool.TAKE_NONE, tool.MADE_BY_RUNS, tool.ONE_BY_ONE, tool.WHOLE_RUNS, tool.WITHIN = take_none, "", made, "\na_run\n", within
-        tool.UNTRIED = ""
+        tool.AS_ANOTHER = as_another
         with tempfile.TemporaryDirectory() as room:
             files = {"jm_one/src/lib.rt": LIB, "jm_one/src/list.rt": LIST, "jm_one/src/hidden.rt": LIST}
             files |= {"one/src/lib.rt": "pub use a;\n\npub fn a() -> AllocError {}\n"}
@@ -128,6 +128,10 @@ class Allocations(unittest.TestCase):
     def test_a_call_is_made_within_what_is_no_row(self) -> None:
         status, lines = self.told("\njm_one Room::reserve\n", "", "\njm_one take: jm_one plain\n")
         self.assertEqual((status, lines[0]), (1, "jm_one take: is made within jm_one plain, which is no row: FAILED"))
+
+    def test_the_requests_of_a_call_are_anothers(self) -> None:
+        told = self.told("\njm_one Room::reserve\n", "", "", "\njm_one take: why\n")
+        self.assertEqual(told, (0, ["2 passed, 0 failed"]))
 
     def test_the_error_of_a_result(self) -> None:
         tool = load()

@@ -8,6 +8,7 @@ use std::marker::Brand;
 use std::process::ExitCode;
 use std::sync::Wait;
 use std::sync::ledger::Blank;
+use std::thread::Threads;
 use std::time::Clock;
 use std::{env, io};
 use tried::Made;
@@ -17,7 +18,7 @@ const NUMBERS: usize = 16;
 /// How many modules each family has.
 const MODULES: usize = 8;
 /// Past the last number.
-const END: usize = 7 * MODULES * NUMBERS;
+const END: usize = 8 * MODULES * NUMBERS;
 
 /// Makes the call of that number of a module of values.
 fn made_of_values(alloc: Global, module: usize, number: usize) -> Made {
@@ -84,12 +85,18 @@ fn made_of_core(alloc: Global, module: usize, number: usize) -> Made {
 }
 
 /// Makes the call of that number of a module of the lock.
-fn made_of_lock<R: Wait>(rt: &R, alloc: Global, module: usize, number: usize) -> Made {
+fn made_of_lock<R: Threads + Wait + Sync>(
+    rt: &R,
+    alloc: Global,
+    module: usize,
+    number: usize,
+) -> Made {
     match module {
         0 => tried_broker::openings::made(alloc, number),
         1 => tried_broker::locks::made::<Brand, _>(rt, alloc, Blank::new(3), number),
         2 => tried_broker::segments::made::<Brand, _>(rt, alloc, Blank::new(3), number),
         3 => tried_broker::left_out::made(rt, alloc, number),
+        4 => tried_listen::listeners::made(rt, alloc, number),
         _ => Made::NoCall,
     }
 }
@@ -106,8 +113,17 @@ fn made_of_client<R: Wait + Clock>(rt: &R, alloc: Global, module: usize, number:
     }
 }
 
+/// Makes the call of that number of a module of what is played and stored.
+fn made_of_runs<R: Wait + Clock>(rt: &R, alloc: Global, module: usize, number: usize) -> Made {
+    match module {
+        0 => tried_runs::plays::made(alloc, number),
+        1 => tried_runs::stores::made(rt, alloc, number),
+        _ => Made::NoCall,
+    }
+}
+
 /// Makes the call of that number.
-fn made<R: Wait + Clock>(rt: &R, alloc: Global, at: usize) -> Made {
+fn made<R: Threads + Wait + Clock + Sync>(rt: &R, alloc: Global, at: usize) -> Made {
     let (family, module, number) = (
         at / (MODULES * NUMBERS),
         at / NUMBERS % MODULES,
@@ -121,6 +137,7 @@ fn made<R: Wait + Clock>(rt: &R, alloc: Global, at: usize) -> Made {
         4 => made_of_core(alloc, module, number),
         5 => made_of_lock(rt, alloc, module, number),
         6 => made_of_client(rt, alloc, module, number),
+        7 => made_of_runs(rt, alloc, module, number),
         _ => Made::NoCall,
     }
 }
@@ -138,7 +155,7 @@ fn show(host: &HostRuntime, at: usize, made: Made) -> io::Result<bool> {
 }
 
 /// Makes all calls; whether memory sufficed to make them.
-fn show_all<R: Wait + Clock>(host: &HostRuntime, rt: &R) -> io::Result<bool> {
+fn show_all<R: Threads + Wait + Clock + Sync>(host: &HostRuntime, rt: &R) -> io::Result<bool> {
     for at in 0..END {
         if !show(host, at, made(rt, host.alloc(), at))? {
             return Ok(false);
@@ -148,7 +165,7 @@ fn show_all<R: Wait + Clock>(host: &HostRuntime, rt: &R) -> io::Result<bool> {
 }
 
 /// Makes the call of the number that is the first word, or all where there is no number.
-fn run<R: Wait + Clock>(host: &HostRuntime, rt: &R) -> io::Result<bool> {
+fn run<R: Threads + Wait + Clock + Sync>(host: &HostRuntime, rt: &R) -> io::Result<bool> {
     let word = env::args(host)?.nth(1);
     match word.and_then(|word| word.as_str().parse::<usize>().ok()) {
         Some(at) => show(host, at, made(rt, host.alloc(), at)),
