@@ -1,7 +1,7 @@
 //! Keys in order of coming.
 
 use jm_base::Refusal;
-use jm_keyed::KeySet;
+use jm_keyed::{KeyMap, KeySet};
 use std::alloc::{AllocError, Global};
 use tried::{Answer, Called, Made, Trial, tell, two};
 
@@ -79,7 +79,59 @@ impl Trial for Keys {
     }
 }
 
+/// A map of two keys.
+#[derive(Drop)]
+struct Entries {
+    map: KeyMap<u64, u64>,
+}
+
+/// Adds the key with that value, where it is not there.
+fn put(map: &mut KeyMap<u64, u64>, key: u64, value: u64) -> Result<(), AllocError> {
+    map.reserve(1)?;
+    match map.get_mut(&key) {
+        Some(held) => *held = value,
+        None => map.insert(key, value),
+    }
+    Ok(())
+}
+
+fn put_two(map: &mut KeyMap<u64, u64>) -> Result<(), AllocError> {
+    put(map, 30, 3)?;
+    put(map, 20, 2)
+}
+
+impl Entries {
+    fn new(alloc: Global) -> Result<Entries, Refusal> {
+        let mut map = KeyMap::new(alloc);
+        match put_two(&mut map) {
+            Ok(()) => Ok(Entries { map }),
+            Err(AllocError) => Err(Refusal::Memory),
+        }
+    }
+}
+
+impl Trial for Entries {
+    /// How many keys there are, and the index of the second.
+    fn state(&self) -> u64 {
+        two(self.map.len(), self.map.index_of(&20).unwrap_or(9))
+    }
+
+    fn call(&mut self) -> Called {
+        let answer = match self.map.reserve(100) {
+            Ok(()) => Ok(self.map.len() as u64),
+            Err(AllocError) => Err(Refusal::Memory),
+        };
+        Called {
+            name: "jm_keyed KeyMap::reserve",
+            answer,
+        }
+    }
+}
+
 /// Makes the call of that number.
 pub fn made(alloc: Global, number: usize) -> Made {
-    tell(Keys::new(alloc, number))
+    match number {
+        2 => tell(Entries::new(alloc)),
+        _ => tell(Keys::new(alloc, number)),
+    }
 }
