@@ -9,7 +9,7 @@ use std::alloc::{AllocError, Global};
 use std::marker::Model;
 
 /// A name of 1 to 255 bytes of UTF-8, none below 0x20 and none 0x7F (ours).
-#[derive(Clone, Debug, PartialEq, Eq, PartialOrd, Ord, Hash)]
+#[derive(Debug, PartialEq, Eq, PartialOrd, Ord, Hash)]
 pub struct Name {
     text: SharedStr,
 }
@@ -75,12 +75,14 @@ impl Name {
     pub fn copy(&self) -> Result<Name, AllocError>
         ensures { IfOk result (λ copy. copy ≡ self.now) }
     {
-        self.clone()
+        Ok(Name {
+            text: self.text.copy()?,
+        })
     }
 }
 
 /// The client identifier of a connection (Jakarta Messaging 3.1, section 6.1.2): a name.
-#[derive(Clone, Debug, PartialEq, Eq, PartialOrd, Ord, Hash)]
+#[derive(Debug, PartialEq, Eq, PartialOrd, Ord, Hash)]
 pub struct ClientId {
     identifier: Name,
 }
@@ -128,12 +130,14 @@ impl ClientId {
     pub fn copy(&self) -> Result<ClientId, AllocError>
         ensures { IfOk result (λ copy. copy ≡ self.now) }
     {
-        self.clone()
+        Ok(ClientId {
+            identifier: self.identifier.copy()?,
+        })
     }
 }
 
 /// The name of a durable or shared subscription (Jakarta Messaging 3.1, section 4.2): a name.
-#[derive(Clone, Debug, PartialEq, Eq, PartialOrd, Ord, Hash)]
+#[derive(Debug, PartialEq, Eq, PartialOrd, Ord, Hash)]
 pub struct SubscriptionName {
     name: Name,
 }
@@ -179,6 +183,8 @@ impl SubscriptionName {
     pub fn copy(&self) -> Result<SubscriptionName, AllocError>
         ensures { IfOk result (λ copy. copy ≡ self.now) }
     {
-        self.clone()
+        Ok(SubscriptionName {
+            name: self.name.copy()?,
+        })
     }
 }

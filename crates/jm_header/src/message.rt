@@ -14,7 +14,7 @@ use std::alloc::{AllocError, Global};
 use std::marker::Model;
 
 /// A message that was stamped by its sending session (Jakarta Messaging 3.1, chapter 3).
-#[derive(Clone, Debug, PartialEq)]
+#[derive(Debug, PartialEq)]
 pub struct Message {
     alloc: Global,
     content: Content,
@@ -264,7 +264,10 @@ impl Message {
     pub fn copy(&self) -> Result<Message, AllocError>
         ensures { IfOk result (λ copy. copy ≡ self.now) }
     {
-        self.clone()
+        Ok(Message {
+            alloc: self.alloc,
+            content: self.content.copy()?,
+        })
     }
 
     /// Whether both messages are the same in all that contracts see.

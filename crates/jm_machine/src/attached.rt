@@ -10,8 +10,8 @@ ghost use Rattle.jm_machine.specs.Attached as spec;
 
 use crate::consumers::Consumers;
 use crate::state::Consumer;
+use indexmap::IndexMap;
 use jm_dest::Key;
-use jm_keyed::KeyMap;
 use std::alloc::{AllocError, Global};
 use std::marker::Model;
 
@@ -19,15 +19,16 @@ use std::marker::Model;
 /// keys there is room.
 #[derive(Drop)]
 pub struct Attached {
-    counts: KeyMap<Key, u64>,
+    counts: IndexMap<Key, u64>,
 }
 
 impl Model for Attached {
+    ghost use Rattle.indexmap.specs.IndexMap.{spare};
     ghost use Rattle.jm_machine.specs.Attached.{Counts};
 
     ghost Value = { Counts };
 
-    ghost view = { λ a. record { entries = a.counts.entries; spare = a.counts.spare } };
+    ghost view = { λ a. record { entries = a.counts.entries; spare = spare a.counts } };
 }
 
 /// Whether the subscription of the key has a name.
@@ -46,7 +47,7 @@ impl Attached {
         ensures { (key : Key) → number_at result key ≡ 0 }
     {
         Attached {
-            counts: KeyMap::new(alloc),
+            counts: IndexMap::new(alloc),
         }
     }
 
@@ -61,7 +62,7 @@ impl Attached {
         Ok(attached)
     }
 
-    /// How many active consumers the key has. It is found by halves.
+    /// How many active consumers the key has. It is found by its hash.
     pub fn number(&self, key: &Key) -> u64
         ensures { result ≡ number_at self.now key.now }
     {
@@ -103,24 +104,18 @@ impl Attached {
         ensures number { (k : Key) → number_at self.new k ≡ number_at self.old k + (if key_eq key k then 1 else 0) }
         ensures spare { self.old.spare ≤ self.new.spare + 1 }
     {
-        match self.counts.get_mut(&key) {
-            None => self.counts.insert(key, 1),
-            Some(number) => {
-                *number += 1;
-                drop(key);
-            }
-        }
+        let number = self.number(&key) + 1;
+        let _ = self.counts.insert(key, number);
     }
 
-    /// Counts one active consumer of the key less, where there is one; with the last one the key goes, and what stands behind
-    /// it moves up. Takes no memory.
+    /// Counts one active consumer of the key less, where there is one. Takes no memory.
     pub fn leave(&mut self, key: &Key)
         ensures number { (k : Key) → number_at self.new k ≡ number_at self.old k - (if key_eq key.now k then 1 else 0) }
         ensures spare { self.old.spare ≤ self.new.spare }
     {
         let number = self.number(key);
         if number <= 1 {
-            self.counts.remove(key);
+            self.counts.swap_remove(key);
         } else if let Some(held) = self.counts.get_mut(key) {
             *held = number - 1;
         }

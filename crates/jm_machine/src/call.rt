@@ -1,10 +1,12 @@
 ghost use Rattle.std.specs.Prelude.{◌≡◌, ◌↔◌, IfOk, IsTrue};
 
+use crate::state::copy_client;
 use jm_base::{List, Mode, Str};
 use jm_dest::{
     ClientId, ConnectionId, ConsumerId, Destination, Moment, SessionId, SubscriptionName,
 };
 use jm_header::{Draft, Message};
+use jm_selector::copy_text;
 use std::alloc::{AllocError, Global};
 
 /// Who makes a call: a connection or a session.
@@ -15,7 +17,7 @@ pub enum Who {
 }
 
 /// What is asked of the provider by a call that carries no messages.
-#[derive(Clone, Debug, PartialEq, Drop)]
+#[derive(Debug, PartialEq, Drop)]
 pub enum Request {
     /// Opens the connection, stopped (Jakarta Messaging 3.1, section 6.1.4), for that client, or for none (section
     /// 6.1.2).
@@ -171,14 +173,99 @@ impl Request {
     pub fn copy(&self) -> Result<Request, AllocError>
         ensures { IfOk result (λ copy. copy ≡ self.now) }
     {
-        self.clone()
+        match self {
+            Request::Open { client } => Ok(Request::Open {
+                client: copy_client(client)?,
+            }),
+            Request::Start => Ok(Request::Start),
+            Request::Stop => Ok(Request::Stop),
+            Request::CloseConnection => Ok(Request::CloseConnection),
+            Request::CloseSession => Ok(Request::CloseSession),
+            Request::CloseConsumer { consumer } => Ok(Request::CloseConsumer {
+                consumer: *consumer,
+            }),
+            Request::Acknowledge => Ok(Request::Acknowledge),
+            Request::Recover => Ok(Request::Recover),
+            Request::Rollback => Ok(Request::Rollback),
+            Request::Missed { consumer } => Ok(Request::Missed {
+                consumer: *consumer,
+            }),
+            Request::CreateSession { mode } => Ok(Request::CreateSession { mode: *mode }),
+            Request::CreateConsumer {
+                consumer,
+                destination,
+                selector,
+                no_local,
+            } => Ok(Request::CreateConsumer {
+                consumer: *consumer,
+                destination: destination.copy()?,
+                selector: copy_text(selector)?,
+                no_local: *no_local,
+            }),
+            Request::CreateDurable {
+                consumer,
+                destination,
+                name,
+                selector,
+                no_local,
+            } => Ok(Request::CreateDurable {
+                consumer: *consumer,
+                destination: destination.copy()?,
+                name: name.copy()?,
+                selector: copy_text(selector)?,
+                no_local: *no_local,
+            }),
+            Request::CreateShared {
+                consumer,
+                destination,
+                name,
+                selector,
+            } => Ok(Request::CreateShared {
+                consumer: *consumer,
+                destination: destination.copy()?,
+                name: name.copy()?,
+                selector: copy_text(selector)?,
+            }),
+            Request::CreateSharedDurable {
+                consumer,
+                destination,
+                name,
+                selector,
+            } => Ok(Request::CreateSharedDurable {
+                consumer: *consumer,
+                destination: destination.copy()?,
+                name: name.copy()?,
+                selector: copy_text(selector)?,
+            }),
+            Request::Unsubscribe { name } => Ok(Request::Unsubscribe { name: name.copy()? }),
+            Request::Receive { consumer, now } => Ok(Request::Receive {
+                consumer: *consumer,
+                now: *now,
+            }),
+            Request::SetListener { consumer, on } => Ok(Request::SetListener {
+                consumer: *consumer,
+                on: *on,
+            }),
+            Request::Take { consumer, now } => Ok(Request::Take {
+                consumer: *consumer,
+                now: *now,
+            }),
+            Request::Done { consumer, ok } => Ok(Request::Done {
+                consumer: *consumer,
+                ok: *ok,
+            }),
+        }
     }
 }
 
-fn copy_messages(alloc: Global, messages: &List<Message>) -> Result<List<Message>, AllocError>
-    ensures { IfOk result (λ copies. copies ≡ messages.now) }
+fn copy_messages(alloc: Global, messages: &[Message]) -> Result<Vec<Message>, AllocError>
+    ensures { IfOk result (λ copies. copies.items ≡ messages.now) }
 {
-    Ok(List::new(messages.as_slice().to_vec(alloc)?))
+    let mut copies = Vec::with_capacity(alloc, messages.len())?;
+    for message in messages {
+        copies.push(message.copy()?)?;
+    }
+    Ok(copies)
 }
 
 impl Step {
@@ -195,8 +282,12 @@ impl Step {
     {
         let call = match &self.call {
             Call::Ask(request) => Call::Ask(request.copy()?),
-            Call::Publish(messages) => Call::Publish(copy_messages(alloc, messages)?),
-            Call::Commit(messages) => Call::Commit(copy_messages(alloc, messages)?),
+            Call::Publish(messages) => {
+                Call::Publish(List::new(copy_messages(alloc, messages.as_slice())?))
+            }
+            Call::Commit(messages) => {
+                Call::Commit(List::new(copy_messages(alloc, messages.as_slice())?))
+            }
         };
         Ok(Step {
             who: self.who,

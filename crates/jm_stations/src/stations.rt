@@ -20,9 +20,9 @@ use crate::backlogs::Backlogs;
 use crate::copies;
 use crate::loading::StoredRow;
 use crate::standing::Standing;
+use indexmap::IndexSet;
 use jm_dest::{ConsumerId, Key, Moment, SessionId};
 use jm_header::Message;
-use jm_keyed::{Choice, KeySet};
 use jm_machine::{Answer, Attached, Consumers, PlacedRow, Row};
 use jm_selector::Selector;
 use std::alloc::{AllocError, Global};
@@ -34,7 +34,7 @@ use std::marker::Model;
 /// a shared subscription that is not durable, and a close of one consumer ends its own subscription alone.
 pub struct Stations {
     alloc: Global,
-    keys: KeySet<Key>,
+    keys: IndexSet<Key>,
     backlogs: Backlogs,
     shares: bool,
 }
@@ -53,6 +53,7 @@ impl Drop for Stations {
 impl Model for Stations {
     ghost use Rattle.std.specs.Prelude.{◌≡◌, false, min, length};
     ghost use Rattle.std.specs.List.{IsDistinct};
+    ghost use Rattle.indexmap.specs.IndexSet.{spare};
     ghost use Rattle.jm_dest.specs.Keys.{key_eq};
     ghost use Rattle.jm_stations.specs.Stations.{Stations as StationsShown, NoneShared};
 
@@ -63,28 +64,10 @@ impl Model for Stations {
       list = s.backlogs.list;
       next_place = s.backlogs.next_place;
       message_room = s.backlogs.message_room;
-      key_room = min s.keys.spare s.backlogs.list_room;
+      key_room = min (spare s.keys) s.backlogs.list_room;
     } };
 
     ghost invariant = { λ s. (length s.keys.keys ≡ length s.backlogs.list) × IsDistinct key_eq s.keys.keys × (s.shares ≡ false → NoneShared s.keys.keys) };
-}
-
-/// Keeps the keys of the subscriptions that do not end once the consumers are closed.
-#[derive(Clone, Copy)]
-struct Lasting<'a> {
-    which: &'a Consumers,
-    attached: &'a Attached,
-}
-
-impl Choice<Key> for Lasting<'_> {
-    ghost use Rattle.std.specs.Prelude.{not};
-    ghost use Rattle.jm_machine.specs.Attached.{ended};
-
-    ghost kept = { λ lasting key. not (ended lasting.which.now lasting.attached.now key) };
-
-    fn keeps(&self, key: &Key) -> bool {
-        !self.attached.ends(self.which, key)
-    }
 }
 
 impl Stations {
@@ -96,7 +79,7 @@ impl Stations {
     {
         Stations {
             alloc,
-            keys: KeySet::new(alloc),
+            keys: IndexSet::new(alloc),
             backlogs: Backlogs::new(alloc),
             shares: false,
         }
@@ -136,9 +119,7 @@ impl Stations {
         }) }
     {
         let backlogs = self.backlogs.copy()?;
-        let keys = self
-            .keys
-            .copy_with(copies::copy_keys(self.alloc, self.keys.as_slice())?)?;
+        let keys = copies::copy_keys(self.alloc, self.keys.as_slice())?;
         Ok(Stations {
             alloc: self.alloc,
             keys,
@@ -164,12 +145,12 @@ impl Stations {
         self.backlogs.is_home(index)
     }
 
-    /// Where the key stands, in order of creation. It is found by halves.
+    /// Where the key stands, in order of creation. It is found by its hash.
     pub fn index_of(&self, key: &Key) -> Option<usize>
         ensures index { result ≡ index_in self.now.keys key.now }
         ensures within { IfSome result (λ i. i < length self.now.list) }
     {
-        self.keys.index_of(key)
+        self.keys.get_index_of(key)
     }
 
     /// Where each of those keys stands, in their order. `AllocError` where a request for memory was refused.
@@ -212,9 +193,7 @@ impl Stations {
         ensures room { self.old.key_room ≤ self.new.key_room + 1 }
     {
         self.shares = or_shared(self.shares, &key);
-        self.keys.insert(key);
-        // The length is what says that each key stands once.
-        let _number = self.keys.len();
+        let _ = self.keys.insert(key);
         self.backlogs.create(limit);
     }
 
@@ -231,16 +210,14 @@ impl Stations {
         ensures message_room { self.old.message_room ≤ self.new.message_room }
         ensures key_room { self.old.key_room ≤ self.new.key_room }
     {
-        drop(self.keys.remove(index));
-        // The length is what says that each key stands once.
-        let _number = self.keys.len();
+        let _ = self.keys.shift_remove_index(index);
         self.backlogs.remove(index);
     }
 
     /// The keys of the subscriptions that end once those consumers are closed, as `Attached::ends` has it, go with the rows
     /// under them, and each message that no other row holds with them; the others move up, in their order. Goes over all
     /// keys, each time once; but where one consumer is closed, and no key is of a shared subscription that is not durable,
-    /// the key of its own is found by halves. Takes no memory.
+    /// the key of its own is found by its hash. Takes no memory.
     pub fn close(&mut self, which: &Consumers, attached: &Attached)
         ensures keys { self.new.keys ≡ filter (λ k. not (ended which.now attached.now k)) self.old.keys }
         ensures list { self.new.list ≡ spec.kept_under (λ k. not (ended which.now attached.now k)) self.old.keys self.old.list }
@@ -287,9 +264,7 @@ impl Stations {
         ensures key_room { self.old.key_room ≤ self.new.key_room }
     {
         self.backlogs.close(self.keys.as_slice(), which, attached);
-        self.keys.retain(&Lasting { which, attached });
-        // The length is what says that each key stands once.
-        let _number = self.keys.len();
+        self.keys.retain(|key| !attached.ends(which, key));
         self.shares = are_shared(self.keys.as_slice());
     }
 

@@ -3,7 +3,7 @@
 ghost use Rattle.std.specs.Prelude.{◌≡◌, ◌≢◌, ◌+◌, ◌<◌, ◌≤◌, ◌==◌, ◌++◌, [], ◌∷◌, true, false, length, not, filter, count_by, slice_get, option_map, position, IfOk, IfErr, IfSome, MatchResult, OnOk, None, Some};
 ghost use Rattle.std.specs.List.{list_any};
 ghost use Rattle.std.specs.Option.{option_copied};
-ghost use Rattle.std.specs.Map.{keys_of};
+ghost use Rattle.indexmap.specs.IndexMap.{keys, spare};
 ghost use Rattle.jm_base.specs.declared.refusal.Refusal.TheVariants.{Memory, SubscriptionInUse};
 ghost use Rattle.jm_dest.specs.declared.key.Key.{Key};
 ghost use Rattle.jm_dest.specs.declared.key.Key.TheVariants.{Own};
@@ -22,10 +22,10 @@ use crate::definition::{accepts, defined, is_same, wants};
 use crate::ending::{Ending, shared_own};
 use crate::sharing::Sharing;
 use crate::topics::Topics;
+use indexmap::IndexMap;
 use jm_base::{Refusal, Str};
 use jm_dest::{ClientId, ConsumerId, Destination, Key, Name, SessionId};
 use jm_header::Message;
-use jm_keyed::KeyMap;
 use jm_machine::{Attached, Consumers, Definition};
 use std::alloc::{AllocError, Global};
 use std::collections::LinkedList;
@@ -36,7 +36,7 @@ use std::marker::Model;
 /// and definitions, and `spare`, for how many more there is room.
 pub struct Subs {
     alloc: Global,
-    items: KeyMap<Key, Definition>,
+    items: IndexMap<Key, Definition>,
     topics: Topics,
     shared: usize,
 }
@@ -54,6 +54,7 @@ impl Drop for Subs {
 
 impl Model for Subs {
     ghost use Rattle.std.specs.Prelude.{◌≡◌, min};
+    ghost use Rattle.indexmap.specs.IndexMap.{spare};
     ghost use Rattle.jm_sub.specs.Entries.{subscriptions_of};
     ghost use Rattle.jm_sub.specs.Subscriptions.{Subscriptions, number_of_shared};
     ghost use Rattle.jm_sub.specs.Topics.{IsTableOf, room};
@@ -62,7 +63,7 @@ impl Model for Subs {
 
     ghost view = { λ s. record {
       list = subscriptions_of s.items.entries;
-      spare = min s.items.spare (room s.topics);
+      spare = min (spare s.items) (room s.topics);
     } };
 
     ghost invariant = { λ s. IsTableOf (subscriptions_of s.items.entries) s.topics
@@ -92,7 +93,7 @@ impl Model for Decision {
 
 /// Whether there is a subscription of the key that wants the message of that publisher.
 fn wants_at(
-    items: &KeyMap<Key, Definition>,
+    items: &IndexMap<Key, Definition>,
     key: &Key,
     message: &Message,
     client: Option<&ClientId>,
@@ -108,7 +109,7 @@ fn wants_at(
 /// Those of the keys whose subscriptions want the message of that publisher.
 fn selected(
     alloc: Global,
-    items: &KeyMap<Key, Definition>,
+    items: &IndexMap<Key, Definition>,
     keys: &LinkedList<Key>,
     message: &Message,
     client: Option<&ClientId>,
@@ -125,28 +126,28 @@ fn selected(
 }
 
 /// Puts the subscription last, of which no other has the key. There is room for it.
-fn put_last(items: &mut KeyMap<Key, Definition>, key: Key, created: Definition)
-    requires room { 0 < items.old.spare }
+fn put_last(items: &mut IndexMap<Key, Definition>, key: Key, created: Definition)
+    requires room { 0 < spare items.old }
     requires new { IsNew key (subscriptions_of items.old.entries) }
     ensures items { items.new.entries ≡ items.old.entries ++ (key, created) ∷ [] }
-    ensures spare { items.old.spare ≤ items.new.spare + 1 }
+    ensures spare { spare items.old ≤ spare items.new + 1 }
 {
-    items.insert(key, created);
+    drop(items.insert(key, created));
 }
 
 /// Whether the key of one of them ends.
-fn is_any_ending(items: &KeyMap<Key, Definition>, ending: &Ending) -> bool
-    ensures { result ≡ list_any (ends ending.now) (keys_of items.now.entries) }
+fn is_any_ending(items: &IndexMap<Key, Definition>, ending: &Ending) -> bool
+    ensures { result ≡ list_any (ends ending.now) (keys items.now) }
 {
-    items.keys().iter().any(|key| ending.ends(key))
+    items.keys().any(|key| ending.ends(key))
 }
 
 /// How many of them are shared and not durable.
-fn number_of_shared(items: &KeyMap<Key, Definition>) -> usize
-    ensures { result ≡ count_by spec.is_shared_own (keys_of items.now.entries) }
+fn number_of_shared(items: &IndexMap<Key, Definition>) -> usize
+    ensures { result ≡ count_by spec.is_shared_own (keys items.now) }
 {
     let mut number = 0;
-    for key in items.keys() {
+    for key in items.keys().as_slice() {
         number += shared_own(key);
     }
     number
@@ -172,12 +173,14 @@ fn decision_of(alloc: Global, key: &Key, definition: &Definition) -> Result<Deci
 }
 
 /// Equal subscriptions, with a table of their own.
-fn copied(alloc: Global, items: &KeyMap<Key, Definition>) -> Result<Subs, AllocError>
+fn copied(alloc: Global, items: &IndexMap<Key, Definition>) -> Result<Subs, AllocError>
     ensures { IfOk result (λ copy. copy.list ≡ subscriptions_of items.now.entries) }
 {
     let mut copy = Subs::new(alloc);
     for at in 0..items.len() {
-        let (key, definition) = items.entry_at(at);
+        let Some((key, definition)) = items.get_index(at) else {
+            break;
+        };
         copy.reserve()?;
         let decision = decision_of(alloc, key, definition)?;
         copy.add(decision);
@@ -215,7 +218,7 @@ impl Subs {
     {
         Subs {
             alloc,
-            items: KeyMap::new(alloc),
+            items: IndexMap::new(alloc),
             topics: Topics::new(alloc),
             shared: 0,
         }
@@ -250,11 +253,11 @@ impl Subs {
         self.topics.len()
     }
 
-    /// Where the subscription of the key stands, from 0 in order of creation. It is found by halves.
+    /// Where the subscription of the key stands, from 0 in order of creation. It is found by its hash.
     pub fn position(&self, key: &Key) -> Option<usize>
         ensures { result ≡ position (λ s. key_eq s.key key.now) self.now.list }
     {
-        self.items.index_of(key)
+        self.items.get_index_of(key)
     }
 
     /// What the subscription at that place asks for.
@@ -262,11 +265,10 @@ impl Subs {
         requires { at < length self.now.list }
         ensures { option_map (λ s. s.definition) (slice_get self.now.list at) ≡ Some result.now }
     {
-        let (_, definition) = self.items.entry_at(at);
-        definition
+        &self.items[at]
     }
 
-    /// What the subscription of the key asks for, if there is one. It is found by halves.
+    /// What the subscription of the key asks for, if there is one. It is found by its hash.
     pub fn definition_of(&self, key: &Key) -> Option<&Definition>
         ensures { option_copied result ≡ spec.definition_at key.now self.now.list }
     {
@@ -282,7 +284,9 @@ impl Subs {
         requires { at < length self.now.list }
         ensures { option_map (takes (publisher message.now (option_copied client.entry)) message.now) (slice_get self.now.list at) ≡ Some result }
     {
-        let (key, definition) = self.items.entry_at(at);
+        let Some((key, definition)) = self.items.get_index(at) else {
+            return false;
+        };
         accepts(key, definition, message, client)
     }
 
@@ -412,15 +416,15 @@ impl Subs {
         self.add(decision);
     }
 
-    /// Ends the subscription of the key, if there is one. It is found by halves, those behind it move up, and in the table of
-    /// topics only the keys of its topic are gone over. Takes no memory.
+    /// Ends the subscription of the key, if there is one. It is found by its hash, and in the table of topics only the
+    /// keys of its topic are gone over. Takes no memory.
     pub fn delete(&mut self, key: &Key)
         ensures list { self.new.list ≡ without key.now self.old.list }
         ensures spare { self.old.spare ≤ self.new.spare }
     {
         // The length is what says that each key stands once.
         let _number = self.items.len();
-        let Some(definition) = self.items.remove(key) else {
+        let Some(definition) = self.items.shift_remove(key) else {
             return;
         };
         self.shared -= shared_own(key);
@@ -441,7 +445,7 @@ impl Subs {
         }
     }
 
-    /// Ends the subscriptions that end once that consumer is closed: its own, which is found by halves; the others are
+    /// Ends the subscriptions that end once that consumer is closed: its own, which is found by its hash; the others are
     /// looked at only where one of them is shared and not durable. Takes no memory.
     fn close_one(&mut self, session: &SessionId, id: ConsumerId, attached: &Attached)
         ensures list { self.new.list ≡ without_ended (One session.now id) attached.now self.old.list }
@@ -494,7 +498,7 @@ impl Subs {
         if !is_any_ending(&self.items, ending) {
             return;
         }
-        self.items.retain(ending);
+        self.items.retain(|key, _| !ending.ends(key));
         self.topics.remove(ending);
         self.shared = number_of_shared(&self.items);
     }
