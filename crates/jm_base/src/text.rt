@@ -59,6 +59,14 @@ impl Str {
     pub fn copy(&self) -> Result<Str, AllocError>
         ensures { IfOk result (λ copy. copy ≡ self.now) }
     {
+        self.clone()
+    }
+}
+
+impl Clone for Str {
+    ghost is_clone = { λ a b. b ≡ a };
+
+    fn clone(&self) -> Result<Str, AllocError> {
         Ok(Str {
             text: self.text.clone()?,
         })

@@ -365,6 +365,7 @@ impl<'p, R: Wait + Clock, B: Backend> Session<'p, R, B> {
     /// 6.2.10). A refusal leaves it out:
     ///
     /// - `IllegalState`: the session is closed.
+    /// - `Memory`: a request for memory was refused, over a keeper that keeps something.
     /// - `Store`: the keeper failed.
     pub fn acknowledge(&self) -> Result<(), Error>
         ensures { Answers (BySession self.now.sender.session) Acknowledge result }

@@ -16,9 +16,9 @@
 //!
 //! `plan` leaves the state, and gives a `Plan` of the call on the core as it stands (`IsPlan`: no cause stands, and
 //! there is room); or it refuses (`IsRefused`) as the machine does, or wants memory, only where the call takes memory
-//! (`may_want`: it opens a connection or a session, makes a consumer, publishes or commits, or hands out a copy, in
-//! modes Client and Transacted or of a message that another row holds too, and no cause stands but a refused
-//! selector; a queue's message has no other row).
+//! (`may_want`: it opens a connection or a session, makes a consumer, deletes a subscription, publishes or commits, takes a
+//! message for a listener, or receives a copy, in modes Client and Transacted or of a message that another row holds too, and
+//! no cause stands but a refused selector; a queue's message has no other row).
 //!
 //! `install` of a plan of the core as it stands (`IsPlanned`) answers the machine's reply and leaves the machine's
 //! state (`InstallFits`), needs no memory and cannot fail. `step` is both (`StepFits`).

@@ -199,7 +199,7 @@ impl Core {
         self.state.kept_by_queues()
     }
 
-    /// What the subscription of that key asks for, where there is one. It is found by its hash. Takes no memory.
+    /// What the subscription of that key asks for, where there is one. It is found by the order of the keys. Takes no memory.
     pub fn definition_of(&self, key: &Key) -> Option<&Definition>
         ensures { option_copied result ≡ machine.definition_of (machine.station_of key.now (state_of self.now).stations) }
     {
@@ -258,7 +258,8 @@ impl Core {
     ///   `Recover` in a transacted session and with a `Commit` or a `Rollback` in any other (Jakarta Messaging 3.1,
     ///   section 6.2), with a `Publish` in a transacted session, and with messages that this session did
     ///   not stamp in this opening (ours), and with a `CreateDurable` on a connection that has no client identifier
-    ///   (section 8.3.3).
+    ///   (section 8.3.3). So it is with a `Receive` of a consumer that listens, with a `Take` of one that does not listen or is
+    ///   busy, with a `Done` of one that is not busy, and with a `SetListener` or a `CloseConsumer` of one that is (ours).
     /// - `InvalidClientId`: an open connection has the client identifier for which another is to be opened (Jakarta
     ///   Messaging 3.1, section 6.1.2).
     /// - `InvalidDestination`: a subscription that has a name is asked for of a queue, or there is none to be deleted.
@@ -271,8 +272,9 @@ impl Core {
     /// - `Memory`: a request for memory was refused. It comes only to a call that takes memory, and only where no other
     ///   cause stands, or in place of a new consumer's `InvalidSelector` or `SubscriptionInUse`, or of why a subscription
     ///   is not deleted in an open session. Memory is taken to open a connection or a session, to make a consumer, to
-    ///   delete a subscription, to publish and to commit, and by a `Receive` that hands out a copy: in modes `Client`
-    ///   and `Transacted`, and of a message that another subscription holds too. No other call takes any.
+    ///   delete a subscription, to publish and to commit, by a `Receive` that hands out a copy: in modes `Client`
+    ///   and `Transacted`, and of a message that another subscription holds too; and by a `Take` that hands out a message. No
+    ///   other call takes any.
     pub fn step(&mut self, step: &Step) -> Result<Answer, Refusal>
         ensures { StepFits (state_of self.old) step.now.who step.now.call result (state_of self.new) }
     {

@@ -129,7 +129,7 @@ impl Queues {
         Rows::new(&self.stations, index)
     }
 
-    /// Where the key of a queue stands. It is found by its hash.
+    /// Where the key of a queue stands. It is found by the order of the keys.
     pub(crate) fn index_of(&self, key: &Key) -> Option<usize>
         ensures index { result ≡ index_in self.now.keys key.now }
         ensures within { IfSome result (λ i. i < length self.now.list) }

@@ -157,8 +157,8 @@ impl Core {
         self.state.key_at(index)
     }
 
-    /// Where the key stands among those; none where it is none of them, and then no row stands under it. It is found by its
-    /// hash.
+    /// Where the key stands among those; none where it is none of them, and then no row stands under it. It is found by the
+    /// order of the keys.
     pub fn index_of(&self, key: &Key) -> Option<usize>
         ensures { spec.IsIndexOf self.now key.now result }
     {

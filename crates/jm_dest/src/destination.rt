@@ -7,7 +7,7 @@ use jm_base::Refusal;
 use std::alloc::{AllocError, Global};
 
 /// Where a message is sent: a queue or a topic (Jakarta Messaging 3.1, section 2.4).
-#[derive(Debug, PartialEq, Eq, Drop)]
+#[derive(Clone, Debug, PartialEq, Eq, Drop)]
 pub enum Destination {
     Queue(Name),
     Topic(Name),
@@ -38,9 +38,6 @@ impl Destination {
     pub fn copy(&self) -> Result<Destination, AllocError>
         ensures { IfOk result (λ copy. copy ≡ self.now) }
     {
-        match self {
-            Destination::Queue(name) => Ok(Destination::Queue(name.copy()?)),
-            Destination::Topic(name) => Ok(Destination::Topic(name.copy()?)),
-        }
+        self.clone()
     }
 }

@@ -8,7 +8,7 @@ use std::alloc::AllocError;
 
 /// What a row is held for: a queue, or a subscription of one of three families (Jakarta Messaging
 /// 3.1, section 8.3; the keys are ours).
-#[derive(Debug, PartialEq, Eq, PartialOrd, Ord, Hash, Drop)]
+#[derive(Clone, Debug, PartialEq, Eq, PartialOrd, Ord, Hash, Drop)]
 pub enum Key {
     /// The queue of that name.
     Queue(Name),
@@ -20,28 +20,12 @@ pub enum Key {
     Durable(Option<ClientId>, SubscriptionName),
 }
 
-fn copy_client(client: &Option<ClientId>) -> Result<Option<ClientId>, AllocError>
-    ensures { IfOk result (λ copy. copy ≡ client.now) }
-{
-    match client {
-        None => Ok(None),
-        Some(client) => Ok(Some(client.copy()?)),
-    }
-}
-
 impl Key {
     /// An equal key, over the same text. Takes no memory; `AllocError` where the text has 9,223,372,036,854,775,807 owners.
     pub fn copy(&self) -> Result<Key, AllocError>
         ensures { IfOk result (λ copy. copy ≡ self.now) }
     {
-        match self {
-            Key::Queue(name) => Ok(Key::Queue(name.copy()?)),
-            Key::Own(session, consumer) => Ok(Key::Own(*session, *consumer)),
-            Key::SharedOwn(client, name) => {
-                Ok(Key::SharedOwn(copy_client(client)?, name.copy()?))
-            }
-            Key::Durable(client, name) => Ok(Key::Durable(copy_client(client)?, name.copy()?)),
-        }
+        self.clone()
     }
 
     /// Whether both are the same key.

@@ -9,7 +9,7 @@ use std::alloc::{AllocError, Global};
 use std::marker::Model;
 
 /// A name of 1 to 255 bytes of UTF-8, none below 0x20 and none 0x7F (ours).
-#[derive(Debug, PartialEq, Eq, PartialOrd, Ord, Hash)]
+#[derive(Clone, Debug, PartialEq, Eq, PartialOrd, Ord, Hash)]
 pub struct Name {
     text: SharedStr,
 }
@@ -75,14 +75,12 @@ impl Name {
     pub fn copy(&self) -> Result<Name, AllocError>
         ensures { IfOk result (λ copy. copy ≡ self.now) }
     {
-        Ok(Name {
-            text: self.text.copy()?,
-        })
+        self.clone()
     }
 }
 
 /// The client identifier of a connection (Jakarta Messaging 3.1, section 6.1.2): a name.
-#[derive(Debug, PartialEq, Eq, PartialOrd, Ord, Hash)]
+#[derive(Clone, Debug, PartialEq, Eq, PartialOrd, Ord, Hash)]
 pub struct ClientId {
     identifier: Name,
 }
@@ -130,14 +128,12 @@ impl ClientId {
     pub fn copy(&self) -> Result<ClientId, AllocError>
         ensures { IfOk result (λ copy. copy ≡ self.now) }
     {
-        Ok(ClientId {
-            identifier: self.identifier.copy()?,
-        })
+        self.clone()
     }
 }
 
 /// The name of a durable or shared subscription (Jakarta Messaging 3.1, section 4.2): a name.
-#[derive(Debug, PartialEq, Eq, PartialOrd, Ord, Hash)]
+#[derive(Clone, Debug, PartialEq, Eq, PartialOrd, Ord, Hash)]
 pub struct SubscriptionName {
     name: Name,
 }
@@ -183,8 +179,6 @@ impl SubscriptionName {
     pub fn copy(&self) -> Result<SubscriptionName, AllocError>
         ensures { IfOk result (λ copy. copy ≡ self.now) }
     {
-        Ok(SubscriptionName {
-            name: self.name.copy()?,
-        })
+        self.clone()
     }
 }

@@ -155,7 +155,8 @@ fn advice(refusal: &Refusal) -> &'static str {
         }
         Refusal::Exhausted => "no number is left; make a new provider",
         Refusal::Memory => "nothing was changed; let memory go, and call again",
-        Refusal::Store => "nothing was changed; mend the store, and call again",
+        Refusal::Store =>
+            "nothing was changed; mend the store, open it anew if it stays shut, and call again",
     }
 }
 

@@ -1,5 +1,3 @@
-ghost use Rattle.std.specs.Prelude.{◌≡◌, IfOk};
-
 use crate::body::Body;
 use jm_dest::{Destination, Moment, Number, SessionId};
 use jm_property::Properties;
@@ -56,7 +54,7 @@ pub struct Content {
 }
 
 /// The fields of a draft, as contracts see it.
-#[derive(Debug, PartialEq, Drop)]
+#[derive(Clone, Debug, PartialEq, Drop)]
 pub struct Settings {
     /// JMSDeliveryMode.
     pub mode: DeliveryMode,
@@ -76,21 +74,13 @@ pub struct Settings {
     pub properties: Properties,
 }
 
-/// An equal text, or none. `AllocError` where a request for memory was refused.
-fn copy_text(text: &Option<SharedStr>) -> Result<Option<SharedStr>, AllocError>
-    ensures { IfOk result (λ copy. copy ≡ text.now) }
-{
-    match text {
-        None => Ok(None),
-        Some(text) => Ok(Some(text.copy()?)),
-    }
-}
+// (by hand: of a derived one, with so many fields, the search does not find that it is equal)
+impl Clone for Content {
+    ghost use Rattle.std.specs.Prelude.{◌≡◌};
 
-impl Content {
-    /// Equal fields. `AllocError` where a request for memory was refused.
-    pub(crate) fn copy(&self) -> Result<Content, AllocError>
-        ensures { IfOk result (λ copy. copy ≡ self.now) }
-    {
+    ghost is_clone = { λ a b. b ≡ a };
+
+    fn clone(&self) -> Result<Content, AllocError> {
         Ok(Content {
             sender: self.sender,
             number: self.number,
@@ -100,30 +90,12 @@ impl Content {
             timestamp: self.timestamp,
             expiration: self.expiration,
             delivery_time: self.delivery_time,
-            correlation: copy_text(&self.correlation)?,
-            message_type: copy_text(&self.message_type)?,
-            body: self.body.copy()?,
+            correlation: self.correlation.clone()?,
+            message_type: self.message_type.clone()?,
+            body: self.body.clone()?,
             properties: self.properties.copy()?,
             is_body_read_only: self.is_body_read_only,
             are_properties_read_only: self.are_properties_read_only,
-        })
-    }
-}
-
-impl Settings {
-    /// Equal fields. `AllocError` where a request for memory was refused.
-    pub(crate) fn copy(&self) -> Result<Settings, AllocError>
-        ensures { IfOk result (λ copy. copy ≡ self.now) }
-    {
-        Ok(Settings {
-            mode: self.mode,
-            priority: self.priority,
-            time_to_live: self.time_to_live,
-            delivery_delay: self.delivery_delay,
-            correlation: copy_text(&self.correlation)?,
-            message_type: copy_text(&self.message_type)?,
-            body: self.body.copy()?,
-            properties: self.properties.copy()?,
         })
     }
 }

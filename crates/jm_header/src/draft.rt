@@ -16,7 +16,7 @@ use std::alloc::{AllocError, Global};
 use std::marker::Model;
 
 /// A message that is not sent yet.
-#[derive(Debug, PartialEq)]
+#[derive(Clone, Debug, PartialEq)]
 pub struct Draft {
     alloc: Global,
     settings: Settings,
@@ -193,10 +193,7 @@ impl Draft {
     pub fn copy(&self) -> Result<Draft, AllocError>
         ensures { IfOk result (λ copy. copy ≡ self.now) }
     {
-        Ok(Draft {
-            alloc: self.alloc,
-            settings: self.settings.copy()?,
-        })
+        self.clone()
     }
 
     /// The settings, and the allocator that the draft keeps. Takes no memory.

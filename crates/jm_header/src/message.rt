@@ -14,7 +14,7 @@ use std::alloc::{AllocError, Global};
 use std::marker::Model;
 
 /// A message that was stamped by its sending session (Jakarta Messaging 3.1, chapter 3).
-#[derive(Debug, PartialEq)]
+#[derive(Clone, Debug, PartialEq)]
 pub struct Message {
     alloc: Global,
     content: Content,
@@ -264,10 +264,7 @@ impl Message {
     pub fn copy(&self) -> Result<Message, AllocError>
         ensures { IfOk result (λ copy. copy ≡ self.now) }
     {
-        Ok(Message {
-            alloc: self.alloc,
-            content: self.content.copy()?,
-        })
+        self.clone()
     }
 
     /// Whether both messages are the same in all that contracts see.

@@ -10,9 +10,8 @@
 //! Over a keeper that keeps nothing `step` is `step_without_store`, whose promise is `Core::step`'s (`StepFits`):
 //! nothing is listed or written, and `Memory` comes only to a call that takes memory. With a keeper that keeps,
 //! `Memory` also comes where listing the changes or writing them wanted memory. `step` lists by `jm_listed`; a keeper
-//! that keeps nothing is as before, and one that is clean after was clean before.
-//!
-//! Nothing is written where nothing is listed.
+//! that keeps nothing is as before, and one that is clean after was clean before. Where nothing is listed the keeper is not
+//! called, though no clause says so.
 //!
 //! `run` makes a list of client calls so, and its replies and end state are what a run over a keeper owes
 //! (`RunKept`): each reply is the machine's and the run goes on, or it is `Memory` or `Store`, and state and

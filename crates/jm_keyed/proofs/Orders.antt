@@ -464,10 +464,9 @@ module _ {K : Type 0} {cmp : K → K → Ordering} (o : IsTotalOrder cmp) where
 
     -- ---- keys that are apart
 
-    -- each key stands once
-    pub are_distinct : {eq : K → K → Bool} (ties : (x y : K) → eq x y ≡ eq_by_cmp cmp x y) → IsDistinct eq keys
-    are_distinct {eq} ties = IsDistinct-from_apart eq keys (λ i j d l m. refuted _ (λ hit.
-        let tied : cmp (get_or keys i d) (get_or keys j d) ≡ Equal = is_equal _ (sym (ties (get_or keys i d) (get_or keys j d)) ∙ hit) in
+    -- of two keys none is tied with the other
+    none_tied : (i j : ℕ) (d : K) → i < j → j < length keys → cmp (get_or keys i d) (get_or keys j d) ≡ Equal → ⊥
+    none_tied i j d l m tied =
         let a = it.whole i (omega (arith, l, m)) in
         let b = it.whole j m in
         let a_is : get_or order a.0 0 ≡ i = get_or_default order a.0 0 i a.1 ∙ a.2 in
@@ -476,7 +475,23 @@ module _ {K : Type 0} {cmp : K → K → Ordering} (o : IsTotalOrder cmp) where
           | inl below ↦ not_tied (get_or keys i d) (get_or keys j d) ((λ t. is_lt (cmp (get_or keys (sym a_is t) d) (get_or keys (sym b_is t) d))) ∙ it.rising a.0 b.0 0 below b.1 d) tied
           | inr (inl same) ↦ omega (arith, l, sym a_is ∙ ap (λ n. get_or order n 0) (sym same) ∙ b_is)
           | inr (inr above) ↦ not_tied (get_or keys j d) (get_or keys i d) ((λ t. is_lt (cmp (get_or keys (sym b_is t) d) (get_or keys (sym a_is t) d))) ∙ it.rising b.0 a.0 0 above a.1 d) (tied_back o (get_or keys i d) (get_or keys j d) tied)
-        ]))
+        ]
+
+    module _ {eq : K → K → Bool} (ties : (x y : K) → eq x y ≡ eq_by_cmp cmp x y) where
+      tied_by : (x y : K) → eq x y ≡ true → cmp x y ≡ Equal
+      tied_by x y hit = is_equal _ (sym (ties x y) ∙ hit)
+
+      -- each key stands once
+      pub are_distinct : IsDistinct eq keys
+      are_distinct = IsDistinct-from_apart eq keys (λ i j d l m. refuted _ (λ hit. none_tied i j d l m (tied_by (get_or keys i d) (get_or keys j d) hit)))
+
+      -- what is equal to the key at some place is the key there
+      pub found_near : (key : K) (guess : ℕ) → guess < length keys → eq (get_or keys guess key) key ≡ true → index_in eq keys key ≡ Some guess
+      found_near key guess inside hit =
+          position_at (λ k. eq k key) keys guess key inside
+          (λ k l. refuted _ (λ other. none_tied k guess key l inside
+          (alike_right o (get_or keys guess key) key (get_or keys k key) (tied_by (get_or keys guess key) key hit) ∙ tied_by (get_or keys k key) key other)))
+          hit
 
 -- ---- no keys
 

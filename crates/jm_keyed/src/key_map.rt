@@ -108,6 +108,17 @@ impl<K: Ord, V> KeyMap<K, V> {
         self.keys.index_of(key)
     }
 
+    /// Where the key stands, as `index_of` answers it. At the index that is guessed it is found by one comparison, so that keys
+    /// which are asked for in their order of coming cost no search.
+    pub fn index_near(&self, key: &K, guess: usize) -> Option<usize>
+        ensures index { result ≡ index_in K.eq (keys_of self.now.entries) key.now }
+        ensures found { is_some result ≡ is_some (lookup (K.eq key.now) self.now.entries) }
+        ensures value { IfSome result (λ i. slice_get (values_of self.now.entries) i ≡ lookup (K.eq key.now) self.now.entries) }
+        ensures within { IfSome result (λ i. i < length self.now.entries) }
+    {
+        self.keys.index_near(key, guess)
+    }
+
     /// Whether the key is there. It is found by halves.
     pub fn contains_key(&self, key: &K) -> bool
         ensures { result ≡ is_some (lookup (K.eq key.now) self.now.entries) }

@@ -7,7 +7,7 @@ ghost use Rattle.jm_keyed.specs.Order.{index_in};
 
 use crate::choice::{Choice, EntryChoice};
 use crate::order::{
-    find, insert_place, keep_marked, keep_places, mark, mark_entries, remove_place,
+    find, find_near, insert_place, keep_marked, keep_places, mark, mark_entries, remove_place,
 };
 use std::alloc::{AllocError, Global};
 use std::marker::Model;
@@ -106,6 +106,14 @@ impl<K: Ord> KeySet<K> {
         ensures within { IfSome result (λ i. i < length self.now.keys) }
     {
         find(self.keys.as_slice(), self.order.as_slice(), key)
+    }
+
+    /// Where the key stands, as `index_of` answers it. At the index that is guessed it is found by one comparison.
+    pub fn index_near(&self, key: &K, guess: usize) -> Option<usize>
+        ensures index { result ≡ index_in K.eq self.now.keys key.now }
+        ensures within { IfSome result (λ i. i < length self.now.keys) }
+    {
+        find_near(self.keys.as_slice(), self.order.as_slice(), key, guess)
     }
 
     /// Makes room for `n` more keys. `AllocError` where a request for memory was refused, which does not come where there is

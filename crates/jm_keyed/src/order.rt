@@ -46,6 +46,17 @@ pub(crate) fn find<K: Ord>(keys: &[K], order: &[usize], key: &K) -> Option<usize
     }
 }
 
+/// Where the key stands, which is looked for at that place first.
+pub(crate) fn find_near<K: Ord>(keys: &[K], order: &[usize], key: &K, guess: usize) -> Option<usize>
+    requires { IsOrder K.cmp keys.now order.now }
+    ensures { result ≡ index_in K.eq keys.now key.now }
+{
+    if guess < keys.len() && keys[guess] == *key {
+        return Some(guess);
+    }
+    find(keys, order, key)
+}
+
 /// Puts the place behind all of theirs, that of the key, where it belongs. Takes no memory, since there is room.
 pub(crate) fn insert_place<K: Ord>(keys: &[K], order: &mut Vec<usize>, key: &K)
     requires order { IsOrder K.cmp keys.now order.old.items }

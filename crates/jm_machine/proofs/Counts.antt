@@ -36,6 +36,14 @@ one_more old new key n next h k = ap (λ o. unwrap_or o 0) (noted old new key (S
     go true e = next ∙ ap (λ x. held old x + 1) (key_same key k e)
     go false e = omega arith
 
+-- where nothing is found, none is held
+pub none_held : (entries : List (Key × ℕ)) (key : Key) → lookup (set_eq key) entries ≡ None → held entries key ≡ 0
+none_held entries key none = ap (λ o. unwrap_or o 0) (sym (found key entries) ∙ none)
+
+-- and else what is found
+pub some_held : (entries : List (Key × ℕ)) (key : Key) (n : ℕ) → lookup (set_eq key) entries ≡ Some n → held entries key ≡ n
+some_held entries key n some = ap (λ o. unwrap_or o 0) (sym (found key entries) ∙ some)
+
 -- the number at the key is one less, where it was noted
 pub one_less : (old new : List (Key × ℕ)) (key : Key) (n : ℕ) → n ≡ held old key - 1 → Notes old new key (Some n) → (k : Key) → held new k ≡ held old k - (if key_eq key k then 1 else 0)
 one_less old new key n next h k = ap (λ o. unwrap_or o 0) (noted old new key (Some n) h k) ∙ go (key_eq key k) refl

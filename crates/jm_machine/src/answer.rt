@@ -5,7 +5,7 @@ use jm_header::Message;
 use std::alloc::AllocError;
 
 /// A message that is handed to a consumer, with the count of its deliveries.
-#[derive(Debug, PartialEq, Drop)]
+#[derive(Clone, Debug, PartialEq, Drop)]
 pub struct Delivery {
     /// The message as it was published, with both of its parts read-only.
     pub message: Message,
@@ -15,7 +15,7 @@ pub struct Delivery {
 }
 
 /// What the core answers to a call that is not refused.
-#[derive(Debug, PartialEq, Drop)]
+#[derive(Clone, Debug, PartialEq, Drop)]
 pub enum Answer {
     /// The call is done.
     Done,
@@ -45,10 +45,7 @@ impl Delivery {
     pub fn copy(&self) -> Result<Delivery, AllocError>
         ensures { IfOk result (λ copy. copy ≡ self.now) }
     {
-        Ok(Delivery {
-            message: self.message.copy()?,
-            count: self.count,
-        })
+        Delivery::clone(self)
     }
 }
 
@@ -64,13 +61,7 @@ impl Answer {
     pub fn copy(&self) -> Result<Answer, AllocError>
         ensures { IfOk result (λ copy. copy ≡ self.now) }
     {
-        match self {
-            Answer::Done => Ok(Answer::Done),
-            Answer::Sent(number) => Ok(Answer::Sent(*number)),
-            Answer::Delivered(delivery) => Ok(Answer::Delivered(delivery.copy()?)),
-            Answer::Nothing => Ok(Answer::Nothing),
-            Answer::Missed(number) => Ok(Answer::Missed(*number)),
-        }
+        Answer::clone(self)
     }
 }
 
@@ -85,8 +76,5 @@ pub fn same_reply(a: &Reply, b: &Reply) -> bool
 pub fn copy_reply(reply: &Reply) -> Result<Reply, AllocError>
     ensures { IfOk result (λ copy. copy ≡ reply.now) }
 {
-    match reply {
-        Ok(answer) => Ok(Ok(answer.copy()?)),
-        Err(refusal) => Ok(Err(*refusal)),
-    }
+    reply.clone()
 }

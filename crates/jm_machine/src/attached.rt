@@ -10,8 +10,8 @@ ghost use Rattle.jm_machine.specs.Attached as spec;
 
 use crate::consumers::Consumers;
 use crate::state::Consumer;
-use indexmap::IndexMap;
 use jm_dest::Key;
+use jm_keyed::KeyMap;
 use std::alloc::{AllocError, Global};
 use std::marker::Model;
 
@@ -19,16 +19,15 @@ use std::marker::Model;
 /// keys there is room.
 #[derive(Drop)]
 pub struct Attached {
-    counts: IndexMap<Key, u64>,
+    counts: KeyMap<Key, u64>,
 }
 
 impl Model for Attached {
-    ghost use Rattle.indexmap.specs.IndexMap.{spare};
     ghost use Rattle.jm_machine.specs.Attached.{Counts};
 
     ghost Value = { Counts };
 
-    ghost view = { λ a. record { entries = a.counts.entries; spare = spare a.counts } };
+    ghost view = { λ a. record { entries = a.counts.entries; spare = a.counts.spare } };
 }
 
 /// Whether the subscription of the key has a name.
@@ -47,7 +46,7 @@ impl Attached {
         ensures { (key : Key) → number_at result key ≡ 0 }
     {
         Attached {
-            counts: IndexMap::new(alloc),
+            counts: KeyMap::new(alloc),
         }
     }
 
@@ -62,7 +61,7 @@ impl Attached {
         Ok(attached)
     }
 
-    /// How many active consumers the key has. It is found by its hash.
+    /// How many active consumers the key has. It is found by halves.
     pub fn number(&self, key: &Key) -> u64
         ensures { result ≡ number_at self.now key.now }
     {
@@ -104,18 +103,24 @@ impl Attached {
         ensures number { (k : Key) → number_at self.new k ≡ number_at self.old k + (if key_eq key k then 1 else 0) }
         ensures spare { self.old.spare ≤ self.new.spare + 1 }
     {
-        let number = self.number(&key) + 1;
-        let _ = self.counts.insert(key, number);
+        match self.counts.get_mut(&key) {
+            None => self.counts.insert(key, 1),
+            Some(number) => {
+                *number += 1;
+                drop(key);
+            }
+        }
     }
 
-    /// Counts one active consumer of the key less, where there is one. Takes no memory.
+    /// Counts one active consumer of the key less, where there is one; with the last one the key goes, and what stands behind
+    /// it moves up. Takes no memory.
     pub fn leave(&mut self, key: &Key)
         ensures number { (k : Key) → number_at self.new k ≡ number_at self.old k - (if key_eq key.now k then 1 else 0) }
         ensures spare { self.old.spare ≤ self.new.spare }
     {
         let number = self.number(key);
         if number <= 1 {
-            self.counts.swap_remove(key);
+            self.counts.remove(key);
         } else if let Some(held) = self.counts.get_mut(key) {
             *held = number - 1;
         }

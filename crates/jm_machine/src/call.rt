@@ -1,12 +1,10 @@
 ghost use Rattle.std.specs.Prelude.{◌≡◌, ◌↔◌, IfOk, IsTrue};
 
-use crate::state::copy_client;
 use jm_base::{List, Mode, Str};
 use jm_dest::{
     ClientId, ConnectionId, ConsumerId, Destination, Moment, SessionId, SubscriptionName,
 };
 use jm_header::{Draft, Message};
-use jm_selector::copy_text;
 use std::alloc::{AllocError, Global};
 
 /// Who makes a call: a connection or a session.
@@ -17,7 +15,7 @@ pub enum Who {
 }
 
 /// What is asked of the provider by a call that carries no messages.
-#[derive(Debug, PartialEq, Drop)]
+#[derive(Clone, Debug, PartialEq, Drop)]
 pub enum Request {
     /// Opens the connection, stopped (Jakarta Messaging 3.1, section 6.1.4), for that client, or for none (section
     /// 6.1.2).
@@ -173,99 +171,14 @@ impl Request {
     pub fn copy(&self) -> Result<Request, AllocError>
         ensures { IfOk result (λ copy. copy ≡ self.now) }
     {
-        match self {
-            Request::Open { client } => Ok(Request::Open {
-                client: copy_client(client)?,
-            }),
-            Request::Start => Ok(Request::Start),
-            Request::Stop => Ok(Request::Stop),
-            Request::CloseConnection => Ok(Request::CloseConnection),
-            Request::CloseSession => Ok(Request::CloseSession),
-            Request::CloseConsumer { consumer } => Ok(Request::CloseConsumer {
-                consumer: *consumer,
-            }),
-            Request::Acknowledge => Ok(Request::Acknowledge),
-            Request::Recover => Ok(Request::Recover),
-            Request::Rollback => Ok(Request::Rollback),
-            Request::Missed { consumer } => Ok(Request::Missed {
-                consumer: *consumer,
-            }),
-            Request::CreateSession { mode } => Ok(Request::CreateSession { mode: *mode }),
-            Request::CreateConsumer {
-                consumer,
-                destination,
-                selector,
-                no_local,
-            } => Ok(Request::CreateConsumer {
-                consumer: *consumer,
-                destination: destination.copy()?,
-                selector: copy_text(selector)?,
-                no_local: *no_local,
-            }),
-            Request::CreateDurable {
-                consumer,
-                destination,
-                name,
-                selector,
-                no_local,
-            } => Ok(Request::CreateDurable {
-                consumer: *consumer,
-                destination: destination.copy()?,
-                name: name.copy()?,
-                selector: copy_text(selector)?,
-                no_local: *no_local,
-            }),
-            Request::CreateShared {
-                consumer,
-                destination,
-                name,
-                selector,
-            } => Ok(Request::CreateShared {
-                consumer: *consumer,
-                destination: destination.copy()?,
-                name: name.copy()?,
-                selector: copy_text(selector)?,
-            }),
-            Request::CreateSharedDurable {
-                consumer,
-                destination,
-                name,
-                selector,
-            } => Ok(Request::CreateSharedDurable {
-                consumer: *consumer,
-                destination: destination.copy()?,
-                name: name.copy()?,
-                selector: copy_text(selector)?,
-            }),
-            Request::Unsubscribe { name } => Ok(Request::Unsubscribe { name: name.copy()? }),
-            Request::Receive { consumer, now } => Ok(Request::Receive {
-                consumer: *consumer,
-                now: *now,
-            }),
-            Request::SetListener { consumer, on } => Ok(Request::SetListener {
-                consumer: *consumer,
-                on: *on,
-            }),
-            Request::Take { consumer, now } => Ok(Request::Take {
-                consumer: *consumer,
-                now: *now,
-            }),
-            Request::Done { consumer, ok } => Ok(Request::Done {
-                consumer: *consumer,
-                ok: *ok,
-            }),
-        }
+        self.clone()
     }
 }
 
-fn copy_messages(alloc: Global, messages: &[Message]) -> Result<Vec<Message>, AllocError>
-    ensures { IfOk result (λ copies. copies.items ≡ messages.now) }
+fn copy_messages(alloc: Global, messages: &List<Message>) -> Result<List<Message>, AllocError>
+    ensures { IfOk result (λ copies. copies ≡ messages.now) }
 {
-    let mut copies = Vec::with_capacity(alloc, messages.len())?;
-    for message in messages {
-        copies.push(message.copy()?)?;
-    }
-    Ok(copies)
+    Ok(List::new(messages.as_slice().to_vec(alloc)?))
 }
 
 impl Step {
@@ -282,12 +195,8 @@ impl Step {
     {
         let call = match &self.call {
             Call::Ask(request) => Call::Ask(request.copy()?),
-            Call::Publish(messages) => {
-                Call::Publish(List::new(copy_messages(alloc, messages.as_slice())?))
-            }
-            Call::Commit(messages) => {
-                Call::Commit(List::new(copy_messages(alloc, messages.as_slice())?))
-            }
+            Call::Publish(messages) => Call::Publish(copy_messages(alloc, messages)?),
+            Call::Commit(messages) => Call::Commit(copy_messages(alloc, messages)?),
         };
         Ok(Step {
             who: self.who,

@@ -11,7 +11,7 @@
 //!
 //! `Attached` is seen as the number of active consumers at each key of a subscription that has a name (`number_at`),
 //! and for how many more keys there is room: `join` and `leave` count one more and one less, `number` is found by the
-//! key's hash, and `ends` says which subscriptions end once consumers are closed (`ended`); only `reserve` and `of`
+//! order of the keys, and `ends` says which subscriptions end once consumers are closed (`ended`); only `reserve` and `of`
 //! take memory.
 //!
 //! A consumer has two marks, whether it listens and whether it is busy; `Request` has `SetListener`, `Take` and

@@ -8,7 +8,7 @@ use jm_selector::Selector;
 use std::alloc::{AllocError, Global};
 
 /// A connection that was opened.
-#[derive(Debug, PartialEq, Drop)]
+#[derive(Clone, Debug, PartialEq, Drop)]
 pub struct ConnectionState {
     pub id: ConnectionId,
     /// The client for which it was opened, if any.
@@ -28,7 +28,7 @@ pub struct SessionState {
 }
 
 /// A consumer that was made.
-#[derive(Debug, PartialEq, Drop)]
+#[derive(Clone, Debug, PartialEq, Drop)]
 pub struct Consumer {
     pub session: SessionId,
     pub id: ConsumerId,
@@ -46,7 +46,7 @@ pub struct Consumer {
 }
 
 /// What a subscription asks for.
-#[derive(Debug, PartialEq, Drop)]
+#[derive(Clone, Debug, PartialEq, Drop)]
 pub struct Definition {
     pub topic: Name,
     /// The selector as it was handed in, and none where its text holds no token.
@@ -68,7 +68,7 @@ pub enum RowState {
 }
 
 /// A message that is held for a subscription, with the count of its deliveries.
-#[derive(Debug, PartialEq, Drop)]
+#[derive(Clone, Debug, PartialEq, Drop)]
 pub struct Row {
     pub message: Message,
     pub count: u32,
@@ -76,7 +76,7 @@ pub struct Row {
 }
 
 /// A row at the place of its publication, from 1.
-#[derive(Debug, PartialEq, Drop)]
+#[derive(Clone, Debug, PartialEq, Drop)]
 pub struct PlacedRow {
     pub place: u64,
     pub row: Row,
@@ -96,10 +96,7 @@ pub struct Station {
 pub fn copy_client(client: &Option<ClientId>) -> Result<Option<ClientId>, AllocError>
     ensures { IfOk result (λ copy. copy ≡ client.now) }
 {
-    match client {
-        None => Ok(None),
-        Some(client) => Ok(Some(client.copy()?)),
-    }
+    client.clone()
 }
 
 impl ConnectionState {
@@ -107,20 +104,7 @@ impl ConnectionState {
     pub fn copy(&self) -> Result<ConnectionState, AllocError>
         ensures { IfOk result (λ copy. copy ≡ self.now) }
     {
-        Ok(ConnectionState {
-            id: self.id,
-            client: copy_client(&self.client)?,
-            is_started: self.is_started,
-            is_open: self.is_open,
-        })
-    }
-}
-
-impl Clone for ConnectionState {
-    ghost is_clone = { λ a b. b ≡ a };
-
-    fn clone(&self) -> Result<ConnectionState, AllocError> {
-        self.copy()
+        ConnectionState::clone(self)
     }
 }
 
@@ -129,23 +113,7 @@ impl Consumer {
     pub fn copy(&self) -> Result<Consumer, AllocError>
         ensures { IfOk result (λ copy. copy ≡ self.now) }
     {
-        Ok(Consumer {
-            session: self.session,
-            id: self.id,
-            key: self.key.copy()?,
-            selector: self.selector.copy()?,
-            is_active: self.is_active,
-            is_listening: self.is_listening,
-            is_busy: self.is_busy,
-        })
-    }
-}
-
-impl Clone for Consumer {
-    ghost is_clone = { λ a b. b ≡ a };
-
-    fn clone(&self) -> Result<Consumer, AllocError> {
-        self.copy()
+        Consumer::clone(self)
     }
 }
 
@@ -154,12 +122,7 @@ impl Definition {
     pub fn copy(&self) -> Result<Definition, AllocError>
         ensures { IfOk result (λ copy. copy ≡ self.now) }
     {
-        Ok(Definition {
-            topic: self.topic.copy()?,
-            selector: self.selector.copy()?,
-            no_local: self.no_local,
-            shared: self.shared,
-        })
+        Definition::clone(self)
     }
 
     /// Whether the message goes to the subscription's topic.
@@ -178,11 +141,7 @@ impl Row {
     pub fn copy(&self) -> Result<Row, AllocError>
         ensures { IfOk result (λ copy. copy ≡ self.now) }
     {
-        Ok(Row {
-            message: self.message.copy()?,
-            count: self.count,
-            state: self.state,
-        })
+        Row::clone(self)
     }
 }
 
@@ -191,21 +150,14 @@ impl PlacedRow {
     pub fn copy(&self) -> Result<PlacedRow, AllocError>
         ensures { IfOk result (λ copy. copy ≡ self.now) }
     {
-        Ok(PlacedRow {
-            place: self.place,
-            row: self.row.copy()?,
-        })
+        PlacedRow::clone(self)
     }
 }
 
-fn copy_rows(alloc: Global, rows: &[PlacedRow]) -> Result<Vec<PlacedRow>, AllocError>
-    ensures { IfOk result (λ copies. copies.items ≡ rows.now) }
+fn copy_rows(alloc: Global, rows: &List<PlacedRow>) -> Result<List<PlacedRow>, AllocError>
+    ensures { IfOk result (λ copies. copies ≡ rows.now) }
 {
-    let mut copies = Vec::with_capacity(alloc, rows.len())?;
-    for row in rows {
-        copies.push(row.copy()?)?;
-    }
-    Ok(copies)
+    Ok(List::new(rows.as_slice().to_vec(alloc)?))
 }
 
 impl Station {
@@ -213,12 +165,12 @@ impl Station {
     pub fn copy(&self, alloc: Global) -> Result<Station, AllocError>
         ensures { IfOk result (λ copy. copy ≡ self.now) }
     {
-        let rows = copy_rows(alloc, self.rows.as_slice())?;
+        let rows = copy_rows(alloc, &self.rows)?;
         Ok(Station {
             key: self.key.copy()?,
             definition: self.definition.copy()?,
             missed: self.missed,
-            rows: List::new(rows),
+            rows,
         })
     }
 }

@@ -1,4 +1,4 @@
-//! The lone subscription, executable, and the law of isolation on a core; the laws of the definitions are given out again.
+//! The lone subscription, executable, and the law of isolation on a core; most laws of the definitions are given out again.
 //!
 //! # Contract
 //!
@@ -9,8 +9,8 @@
 //!
 //! It feeds the subscription alone (`Lone`) entry by entry, from an opening whose rows may be out, with what the
 //! record has said so far (`Transactions`), so a commit looks nothing up but its own messages; `law_core_isolation`
-//! is the law on a core that a caller holds, also for a list that is run on the end of another. It gives the laws of
-//! `jm_law` out again.
+//! is the law on a core that a caller holds, also for a list that is run on the end of another. It gives those laws of
+//! `jm_law` out again that a caller of it cites.
 #![tactic(auto)]
 
 mod expanded;

@@ -19,6 +19,7 @@ use std::marker::Model;
 /// the order in which they were first set.
 ///
 /// `order` has their places in the order of the names, once there are more than a few.
+#[derive(Clone)]
 pub struct Properties {
     entries: Vec<Entry>,
     order: Vec<usize>,
@@ -70,16 +71,6 @@ fn is_allowed(name: &str, value: &Property) -> bool
     ensures { result ≡ spec.is_allowed name.now value.now }
 {
     is_identifier(name) && (!name.as_bytes().starts_with(b"JMS") || is_group_property(name, value))
-}
-
-fn copy_entries(alloc: Global, entries: &[Entry]) -> Result<Vec<Entry>, AllocError>
-    ensures { IfOk result (λ copies. copies.items ≡ entries.now) }
-{
-    let mut copies = Vec::with_capacity(alloc, entries.len())?;
-    for (name, value) in entries {
-        copies.push((name.copy()?, value.copy()?))?;
-    }
-    Ok(copies)
 }
 
 impl Properties {
@@ -278,10 +269,7 @@ impl Properties {
     pub fn copy(&self) -> Result<Properties, AllocError>
         ensures { IfOk result (λ copy. copy ≡ self.now) }
     {
-        Ok(Properties {
-            entries: copy_entries(*self.entries.allocator(), &self.entries)?,
-            order: self.order.clone()?,
-        })
+        self.clone()
     }
 }
 

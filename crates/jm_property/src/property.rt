@@ -6,7 +6,7 @@ use std::alloc::{AllocError, Global};
 
 /// The value of a property, of one of the types that this provider keeps (Jakarta Messaging 3.1,
 /// section 3.5.2; `float` and `double` are left out).
-#[derive(Debug, PartialEq, Drop)]
+#[derive(Clone, Debug, PartialEq, Drop)]
 pub enum Property {
     /// boolean
     Bool(bool),
@@ -104,14 +104,7 @@ impl Property {
     pub fn copy(&self) -> Result<Property, AllocError>
         ensures { IfOk result (λ copy. copy ≡ self.now) }
     {
-        match self {
-            Property::Bool(value) => Ok(Property::Bool(*value)),
-            Property::Byte(value) => Ok(Property::Byte(*value)),
-            Property::Short(value) => Ok(Property::Short(*value)),
-            Property::Int(value) => Ok(Property::Int(*value)),
-            Property::Long(value) => Ok(Property::Long(*value)),
-            Property::Text(text) => Ok(Property::Text(text.copy()?)),
-        }
+        self.clone()
     }
 }
 
@@ -137,12 +130,4 @@ fn parse_long(text: &str) -> Option<i64>
     ensures { result ≡ spec.integer_of 64 text.now }
 {
     text.parse::<i64>().ok()
-}
-
-impl Clone for Property {
-    ghost is_clone = { λ a b. b ≡ a };
-
-    fn clone(&self) -> Result<Property, AllocError> {
-        self.copy()
-    }
 }

@@ -47,10 +47,7 @@ impl Model for Selector {
 pub fn copy_text(text: &Option<Str>) -> Result<Option<Str>, AllocError>
     ensures { IfOk result (λ copy. copy ≡ text.now) }
 {
-    match text {
-        None => Ok(None),
-        Some(text) => Ok(Some(text.copy()?)),
-    }
+    text.clone()
 }
 
 fn copy_tree(alloc: Global, tree: &Option<Tree>) -> Result<Option<Tree>, AllocError>
@@ -160,6 +157,14 @@ impl Selector {
         ensures { result ≡ matches self.now message.now }
     {
         selects(&self.tree, message)
+    }
+}
+
+impl Clone for Selector {
+    ghost is_clone = { λ a b. b ≡ a };
+
+    fn clone(&self) -> Result<Selector, AllocError> {
+        self.copy()
     }
 }
 

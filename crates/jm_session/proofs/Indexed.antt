@@ -2,11 +2,11 @@
 use Rattle.std.proofs.Common.{◌≡◌, ◌≤◌, ◌+◌, ℕ, zero, suc, Bool, true, false, cond, List, [], ◌∷◌, ◌++◌, Option, None, Some, refl, sym, ap, ◌∙◌, arith}
 use Rattle.std.specs.Prelude.{◌&&◌, ◌||◌, not, is_some, unwrap_or, slice_get, option_to_list, if◌then◌else◌}
 use Rattle.std.specs.Cmp.Lexicographic.{bytes_decides}
-use Rattle.std.specs.HashMap.{get, Updates}
 use Rattle.std.specs.Map.{lookup, values_of}
 use Rattle.std.proofs.lemmas.List.Folds.{list_any-append}
 use Rattle.indexmap.specs.IndexMap.{set_value_at}
 use Rattle.jm_dest.specs.Names.{client_eq, text_eq}
+use Rattle.jm_keyed.specs.Entries.{Updates}
 use Rattle.jm_machine.specs.declared.state.ConnectionState.{ConnectionState}
 use Rattle.jm_machine.specs.declared.state.SessionState.{SessionState}
 use Rattle.jm_machine.specs.Life.{is_client_open, is_client_taken}
@@ -29,22 +29,11 @@ unfolding is_indexed
 still_indexed old new same client = ap (λ es. is_some (lookup (text_eq client) es)) same
 
 -- one more client stands in the index
-pub one_indexed : (old new : Clients) (own : List ℕ) (n : ℕ) → Updates text_eq old.owners new.owners own (Some n) → (client : List ℕ) → is_indexed new client ≡ (is_indexed old client || text_eq own client)
+pub one_indexed : (old new : Clients) (own : List ℕ) (n : ℕ) → Updates text_eq old.owners.entries new.owners.entries own (Some n) → (client : List ℕ) → is_indexed new client ≡ (is_indexed old client || text_eq own client)
 unfolding is_indexed
-one_indexed old new own n h client = ap is_some (h.0 client) ∙ go (text_eq own client) (get text_eq old.owners client)
+one_indexed old new own n h client = ap is_some (h client) ∙ go (text_eq own client) (lookup (text_eq client) old.owners.entries)
   where
     go : (b : Bool) (o : Option ℕ) → is_some (cond b (Some n) o) ≡ (is_some o || b)
-    go true None = refl
-    go true (Some x) = refl
-    go false None = refl
-    go false (Some x) = refl
-
--- a client stands in the index no more
-pub one_freed : (old new : Clients) (own : List ℕ) → Updates text_eq old.owners new.owners own None → (client : List ℕ) → is_indexed new client ≡ (is_indexed old client && not (text_eq own client))
-unfolding is_indexed
-one_freed old new own h client = ap is_some (h.0 client) ∙ go (text_eq own client) (get text_eq old.owners client)
-  where
-    go : (b : Bool) (o : Option ℕ) → is_some (cond b None o) ≡ (is_some o && not b)
     go true None = refl
     go true (Some x) = refl
     go false None = refl
@@ -54,6 +43,29 @@ one_freed old new own h client = ap is_some (h.0 client) ∙ go (text_eq own cli
 or_none : (b : Bool) → (b || false) ≡ b
 or_none true = refl
 or_none false = refl
+
+-- a client that stands in the index already
+pub still_there : (clients : Clients) (own : List ℕ) → is_indexed clients own ≡ true → (client : List ℕ) → is_indexed clients client ≡ (is_indexed clients client || text_eq own client)
+still_there clients own there client = go (text_eq own client) refl
+  where
+    stays : (b : Bool) → b ≡ true → b ≡ (b || true)
+    stays true e = refl
+    stays false e = e
+
+    go : (b : Bool) → text_eq own client ≡ b → is_indexed clients client ≡ (is_indexed clients client || b)
+    go true e = stays (is_indexed clients client) (ap (is_indexed clients) (sym ((bytes_decides own client).0 e)) ∙ there)
+    go false e = sym (or_none (is_indexed clients client))
+
+-- a client stands in the index no more
+pub one_freed : (old new : Clients) (own : List ℕ) → Updates text_eq old.owners.entries new.owners.entries own None → (client : List ℕ) → is_indexed new client ≡ (is_indexed old client && not (text_eq own client))
+unfolding is_indexed
+one_freed old new own h client = ap is_some (h client) ∙ go (text_eq own client) (lookup (text_eq client) old.owners.entries)
+  where
+    go : (b : Bool) (o : Option ℕ) → is_some (cond b None o) ≡ (is_some o && not b)
+    go true None = refl
+    go true (Some x) = refl
+    go false None = refl
+    go false (Some x) = refl
 
 -- an open connection may be the last
 open_last : (connections : List ConnectionState) (x : ConnectionState) (client : List ℕ) → is_client_open (connections ++ x ∷ []) client ≡ (is_client_open connections client || has_client x client)

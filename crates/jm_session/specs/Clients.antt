@@ -1,6 +1,6 @@
 -- Which clients have an open connection, and the index by which that is found.
 use Rattle.std.specs.Prelude.{◌≡◌, ◌≤◌, ℕ, ◌+◌, Bool, ◌&&◌, List, [], ◌∷◌, Some, is_some, if◌then◌else◌}
-use Rattle.std.specs.HashMap.{get, spare}
+use Rattle.std.specs.Map.{lookup}
 use Rattle.jm_dest.specs.Names.{client_eq, text_eq}
 use Rattle.jm_machine.specs.declared.state.ConnectionState.{ConnectionState}
 use Rattle.jm_machine.specs.Life.{is_client_open}
@@ -21,7 +21,7 @@ AreClientsApart connections = (client : List ℕ) → open_with connections clie
 
 -- the client stands in the index
 unfoldable pub is_indexed : Clients → List ℕ → Bool
-is_indexed clients client = is_some (get text_eq clients.owners client)
+is_indexed clients client = is_some (lookup (text_eq client) clients.owners.entries)
 
 -- a client stands in the index exactly where an open connection has it
 abbrev pub IsIndexOf : List ConnectionState → Clients → Type 0
@@ -29,4 +29,4 @@ IsIndexOf connections clients = (client : List ℕ) → is_indexed clients clien
 
 -- for how many more clients there is room
 unfoldable pub room : Clients → ℕ
-room clients = spare clients.owners
+room clients = clients.owners.spare

@@ -4,15 +4,15 @@ ghost use Rattle.std.specs.Prelude.{◌≡◌, ◌≤◌, ◌+◌, [], ℕ, List
 ghost use Rattle.jm_machine.specs.Life.{is_client_open};
 ghost use Rattle.jm_session.specs.Clients.{IsIndexOf, has_client, is_indexed, room};
 
-use indexmap::IndexMap;
 use jm_dest::{ClientId, ConnectionId};
+use jm_keyed::KeyMap;
 use jm_machine::ConnectionState;
 use std::alloc::{AllocError, Global};
 
-/// The clients of open connections, each with the connection that has it. An entry is a copy, for which memory may be
+/// The clients of open connections, each found by halves, with the connection that has it. An entry is a copy, for which memory may be
 /// refused: then a client is not here, and a look-up is by a walk, until all are gathered again.
 pub(crate) struct Clients {
-    owners: IndexMap<ClientId, ConnectionId>,
+    owners: KeyMap<ClientId, ConnectionId>,
     has_all: bool,
 }
 
@@ -41,7 +41,7 @@ impl Clients {
         ensures all { result.has_all ≡ true }
     {
         Clients {
-            owners: IndexMap::new(alloc),
+            owners: KeyMap::new(alloc),
             has_all: true,
         }
     }
@@ -81,9 +81,14 @@ impl Clients {
         if !connection.is_open {
             return Ok(());
         }
-        if let Some(client) = &connection.client {
-            self.owners.insert(client.copy()?, connection.id)?;
+        let Some(client) = &connection.client else {
+            return Ok(());
+        };
+        if self.owners.contains_key(client) {
+            return Ok(());
         }
+        self.owners.reserve(1)?;
+        self.owners.insert(client.copy()?, connection.id);
         Ok(())
     }
 
@@ -111,7 +116,7 @@ impl Clients {
             return;
         }
         if let Some(client) = &connection.client {
-            self.owners.swap_remove(client);
+            self.owners.remove(client);
         }
     }
 
@@ -125,9 +130,7 @@ impl Clients {
         ensures room { room self.old ≤ room self.new }
     {
         let mut gathered = Clients::of(alloc, connections)?;
-        gathered
-            .owners
-            .reserve(self.owners.capacity() - self.owners.len())?;
+        gathered.owners.reserve(self.owners.spare())?;
         *self = gathered;
         Ok(())
     }

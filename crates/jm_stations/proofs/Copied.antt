@@ -5,7 +5,6 @@ use Rattle.std.specs.List.{filter, find, AllByRecursion, IsDistinct, list_any}
 use Rattle.std.proofs.lemmas.List.{take_more, map-append, length-append}
 use Rattle.std.proofs.lemmas.List.Filters.{length-filter_both}
 use Rattle.std.proofs.lemmas.List.Elements.{All-map, All-weaker}
-use Rattle.indexmap.specs.IndexSet.{insert_key}
 use Rattle.jm_dest.specs.declared.key.Key.{Key}
 use Rattle.jm_dest.specs.Keys.{key_eq}
 use Rattle.jm_machine.specs.declared.state.PlacedRow.{PlacedRow}
@@ -34,12 +33,6 @@ unfolding IsDistinct
 none_before [] n d h l = absurd (omega arith)
 none_before (k ∷ keys) zero d h l = refl
 none_before (k ∷ keys) (suc n) d h l = rw (key_sym (get_or keys n d) k, none_later k keys n d h.0 (omega arith), none_before keys n d h.1 (omega arith)) refl
-
--- one key more
-pub key_more : (keys : List Key) (n : ℕ) (key : Key) → IsDistinct key_eq keys → n < length keys → key ≡ get_or keys n key → insert_key set_eq (take n keys) key ≡ take (n + 1) keys
-key_more keys n key h l is =
-    let new : list_any (set_eq key) (take n keys) ≡ false = (λ i. list_any (λ k. set_is key k i) (take n keys)) ∙ ap (λ k. list_any (key_eq k) (take n keys)) is ∙ none_before keys n key h l in
-    rw new (ap (λ k. take n keys ++ k ∷ []) is ∙ sym (take_more keys n key l))
 
 -- the first row from a place on has a holder
 pub row_held : (t : Messages) (rows : List Row) (p : ℕ) → Covers t rows → IfSome (find (is_from p) rows) (λ (r : Row). 0 < holders_of t r.place)

@@ -9,7 +9,6 @@ use Rattle.std.proofs.lemmas.Bool.{eqb-true}
 use Rattle.std.proofs.lemmas.List.Elements.{All-nil, All-cons}
 use Rattle.std.proofs.lemmas.List.Quantifiers.{position-Some}
 use Rattle.std.proofs.lemmas.List.{length-map}
-use Rattle.indexmap.specs.IndexSet.{insert_key}
 use Rattle.jm_dest.specs.declared.key.Key.{Key}
 use Rattle.jm_dest.specs.Keys.{key_eq}
 use Rattle.jm_stations.specs.Backlogs.{changed_at}
@@ -45,11 +44,9 @@ no_key p keys h = none_first p keys (go (position_or_len p keys) (length keys) (
     go n m true e h = cc
     go n m false e h = grind (arith, nat_tests)
 
--- a new key stands last
-pub added_last : (keys : List Key) (key : Key) → index_in keys key ≡ None → insert_key set_eq keys key ≡ keys ++ key ∷ []
-added_last keys key h =
-    let none : list_any (set_eq key) keys ≡ false = (λ i. list_any (λ k. (set_is key k ∙ key_sym key k) i) keys) ∙ no_key (λ k. key_eq k key) keys h in
-    rw none refl
+-- where a key stands, by either test
+pub place_same : (keys : List Key) (key : Key) → position (λ k. set_eq k key) keys ≡ index_in keys key
+place_same keys key = λ i. position (λ k. set_is k key i) keys
 
 -- a change of one is of no other
 pub length-changed : {X : Type 0} (i : ℕ) (f : X → X) (xs : List X) → length (changed_at i f xs) ≡ length xs

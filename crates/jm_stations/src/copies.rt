@@ -1,13 +1,10 @@
 //! Copies of keys and of what is held under them.
 
 ghost use Rattle.std.specs.Prelude.{◌≡◌, ◌<◌, map, option_map, IfSome, IfOk};
-ghost use Rattle.std.specs.List.{IsDistinct};
-ghost use Rattle.jm_dest.specs.Keys.{key_eq};
 ghost use Rattle.jm_pending.specs.Holders.{Covers, holders_of};
 ghost use Rattle.jm_pending.specs.Placed as placed;
 ghost use Rattle.jm_stations.specs.Kept as kept;
 
-use indexmap::IndexSet;
 use jm_dest::Key;
 use jm_machine::{PlacedRow, Row as MachineRow};
 use jm_pending::{Held, Row, Table};
@@ -64,13 +61,12 @@ pub(crate) fn copy_lists(alloc: Global, lists: &[Held]) -> Result<Vec<Held>, All
 }
 
 /// The same keys, in their order.
-pub(crate) fn copy_keys(alloc: Global, keys: &[Key]) -> Result<IndexSet<Key>, AllocError>
-    requires { IsDistinct key_eq keys.now }
-    ensures { IfOk result (λ copies. copies.keys ≡ keys.now) }
+pub(crate) fn copy_keys(alloc: Global, keys: &[Key]) -> Result<Vec<Key>, AllocError>
+    ensures { IfOk result (λ copies. copies.items ≡ keys.now) }
 {
-    let mut copies = IndexSet::with_capacity(alloc, keys.len())?;
+    let mut copies = Vec::with_capacity(alloc, keys.len())?;
     for key in keys {
-        copies.insert(key.copy()?)?;
+        copies.push(key.copy()?)?;
     }
     Ok(copies)
 }

@@ -6,7 +6,7 @@
 //!
 //! `Stations` is seen as the keys in order of creation, each once, what is held under each in that order (rows with
 //! their messages by place, limit, missed count, room), the place of the next publication, and for how many more
-//! messages and keys there is room. `index_of` answers where a key stands, by its hash; `indexes_of` answers the same
+//! messages and keys there is room. `index_of` answers where a key stands, by their order; `indexes_of` answers the same
 //! of each of many keys, and of distinct ones distinct indexes.
 //!
 //! `reserve_key` makes room for a key, and changes nothing but the room, also where memory is wanted; `create` then

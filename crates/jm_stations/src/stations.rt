@@ -20,9 +20,9 @@ use crate::backlogs::Backlogs;
 use crate::copies;
 use crate::loading::StoredRow;
 use crate::standing::Standing;
-use indexmap::IndexSet;
 use jm_dest::{ConsumerId, Key, Moment, SessionId};
 use jm_header::Message;
+use jm_keyed::{Choice, KeySet};
 use jm_machine::{Answer, Attached, Consumers, PlacedRow, Row};
 use jm_selector::Selector;
 use std::alloc::{AllocError, Global};
@@ -34,7 +34,7 @@ use std::marker::Model;
 /// a shared subscription that is not durable, and a close of one consumer ends its own subscription alone.
 pub struct Stations {
     alloc: Global,
-    keys: IndexSet<Key>,
+    keys: KeySet<Key>,
     backlogs: Backlogs,
     shares: bool,
 }
@@ -53,7 +53,6 @@ impl Drop for Stations {
 impl Model for Stations {
     ghost use Rattle.std.specs.Prelude.{◌≡◌, false, min, length};
     ghost use Rattle.std.specs.List.{IsDistinct};
-    ghost use Rattle.indexmap.specs.IndexSet.{spare};
     ghost use Rattle.jm_dest.specs.Keys.{key_eq};
     ghost use Rattle.jm_stations.specs.Stations.{Stations as StationsShown, NoneShared};
 
@@ -64,10 +63,28 @@ impl Model for Stations {
       list = s.backlogs.list;
       next_place = s.backlogs.next_place;
       message_room = s.backlogs.message_room;
-      key_room = min (spare s.keys) s.backlogs.list_room;
+      key_room = min s.keys.spare s.backlogs.list_room;
     } };
 
     ghost invariant = { λ s. (length s.keys.keys ≡ length s.backlogs.list) × IsDistinct key_eq s.keys.keys × (s.shares ≡ false → NoneShared s.keys.keys) };
+}
+
+/// Keeps the keys of the subscriptions that do not end once the consumers are closed.
+#[derive(Clone, Copy)]
+struct Lasting<'a> {
+    which: &'a Consumers,
+    attached: &'a Attached,
+}
+
+impl Choice<Key> for Lasting<'_> {
+    ghost use Rattle.std.specs.Prelude.{not};
+    ghost use Rattle.jm_machine.specs.Attached.{ended};
+
+    ghost kept = { λ lasting key. not (ended lasting.which.now lasting.attached.now key) };
+
+    fn keeps(&self, key: &Key) -> bool {
+        !self.attached.ends(self.which, key)
+    }
 }
 
 impl Stations {
@@ -79,7 +96,7 @@ impl Stations {
     {
         Stations {
             alloc,
-            keys: IndexSet::new(alloc),
+            keys: KeySet::new(alloc),
             backlogs: Backlogs::new(alloc),
             shares: false,
         }
@@ -119,7 +136,9 @@ impl Stations {
         }) }
     {
         let backlogs = self.backlogs.copy()?;
-        let keys = copies::copy_keys(self.alloc, self.keys.as_slice())?;
+        let keys = self
+            .keys
+            .copy_with(copies::copy_keys(self.alloc, self.keys.as_slice())?)?;
         Ok(Stations {
             alloc: self.alloc,
             keys,
@@ -145,15 +164,26 @@ impl Stations {
         self.backlogs.is_home(index)
     }
 
-    /// Where the key stands, in order of creation. It is found by its hash.
+    /// Where the key stands, in order of creation. It is found by halves.
     pub fn index_of(&self, key: &Key) -> Option<usize>
         ensures index { result ≡ index_in self.now.keys key.now }
         ensures within { IfSome result (λ i. i < length self.now.list) }
     {
-        self.keys.get_index_of(key)
+        self.keys.index_of(key)
     }
 
-    /// Where each of those keys stands, in their order. `AllocError` where a request for memory was refused.
+    /// Where the key stands, as `index_of` answers it. It is looked for at the guessed index first; the next guess is the index
+    /// behind it.
+    fn index_near(&self, key: &Key, guess: &mut usize) -> Option<usize>
+        ensures { result ≡ index_in self.now.keys key.now }
+    {
+        let index = self.keys.index_near(key, *guess)?;
+        *guess = index.saturating_add(1);
+        Some(index)
+    }
+
+    /// Where each of those keys stands, in their order: keys that come in order of creation, each behind the one before, cost no
+    /// search. `AllocError` where a request for memory was refused.
     pub fn indexes_of(&self, keys: &[Key]) -> Result<Vec<usize>, AllocError>
         requires there { All (λ k. is_some (index_in self.now.keys k) ≡ true) keys.now }
         ensures indexes { IfOk result (λ is. map Some is.items ≡ map (index_in self.now.keys) keys.now) }
@@ -161,8 +191,9 @@ impl Stations {
         ensures once { IsDistinct key_eq keys.now → IfOk result (λ is. IsDistinct nat_eq is.items) }
     {
         let mut indexes = Vec::with_capacity(self.alloc, keys.len())?;
+        let mut guess = 0;
         for key in keys {
-            if let Some(index) = self.index_of(key) {
+            if let Some(index) = self.index_near(key, &mut guess) {
                 indexes.push(index)?;
             }
         }
@@ -193,7 +224,9 @@ impl Stations {
         ensures room { self.old.key_room ≤ self.new.key_room + 1 }
     {
         self.shares = or_shared(self.shares, &key);
-        let _ = self.keys.insert(key);
+        self.keys.insert(key);
+        // The length is what says that each key stands once.
+        let _number = self.keys.len();
         self.backlogs.create(limit);
     }
 
@@ -210,14 +243,16 @@ impl Stations {
         ensures message_room { self.old.message_room ≤ self.new.message_room }
         ensures key_room { self.old.key_room ≤ self.new.key_room }
     {
-        let _ = self.keys.shift_remove_index(index);
+        drop(self.keys.remove(index));
+        // The length is what says that each key stands once.
+        let _number = self.keys.len();
         self.backlogs.remove(index);
     }
 
     /// The keys of the subscriptions that end once those consumers are closed, as `Attached::ends` has it, go with the rows
     /// under them, and each message that no other row holds with them; the others move up, in their order. Goes over all
     /// keys, each time once; but where one consumer is closed, and no key is of a shared subscription that is not durable,
-    /// the key of its own is found by its hash. Takes no memory.
+    /// the key of its own is found by halves. Takes no memory.
     pub fn close(&mut self, which: &Consumers, attached: &Attached)
         ensures keys { self.new.keys ≡ filter (λ k. not (ended which.now attached.now k)) self.old.keys }
         ensures list { self.new.list ≡ spec.kept_under (λ k. not (ended which.now attached.now k)) self.old.keys self.old.list }
@@ -264,7 +299,9 @@ impl Stations {
         ensures key_room { self.old.key_room ≤ self.new.key_room }
     {
         self.backlogs.close(self.keys.as_slice(), which, attached);
-        self.keys.retain(|key| !attached.ends(which, key));
+        self.keys.retain(&Lasting { which, attached });
+        // The length is what says that each key stands once.
+        let _number = self.keys.len();
         self.shares = are_shared(self.keys.as_slice());
     }
 

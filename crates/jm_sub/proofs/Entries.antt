@@ -1,16 +1,16 @@
 -- What the entries of the table of topics say.
-use Rattle.std.proofs.Common.{◌≡◌, ℕ, length, Bool, true, false, cond, List, [], ◌∷◌, Some, None, refl, sym, ap, ◌∙◌, subst, is_some, arith, Result, Ok, Err, IsOk, OnOk}
+use Rattle.std.proofs.Common.{◌≡◌, ◌≤◌, ℕ, zero, suc, length, Bool, true, false, cond, List, [], ◌∷◌, Some, None, refl, sym, ap, ◌∙◌, is_some, arith, Result, Ok, Err, IsOk, OnOk}
 use Rattle.std.proofs.lemmas.Bool.Decides.{nat_tests}
 use Rattle.std.specs.List.{IsDistinct, AllByRecursion}
-use Rattle.std.specs.Map.{keys_of, lookup}
-use Rattle.std.specs.Map.Calls.{RetainsPairs}
-use Rattle.std.specs.Prelude.{◌==◌, not, option_and_then}
+use Rattle.std.specs.Map.{keys_of, lookup, values_of}
+use Rattle.std.specs.Prelude.{◌==◌, filter, map, not, option_and_then, slice_get}
 use Rattle.std.specs.Cmp.{IsEquivalence}
 use Rattle.std.specs.Set.{distinct_count, is_member}
 use Rattle.std.proofs.lemmas.Cmp.{nat_list_eq_equiv}
 use Rattle.std.proofs.lemmas.Map.Entries.{length-keys_of}
 use Rattle.std.proofs.lemmas.Map.Made.{is_some-lookup, length-from_keys}
 use Rattle.jm_dest.specs.Names.{text_eq}
+use Rattle.jm_keyed.specs.Entries.{set_value_at}
 use Rattle.jm_sub.specs.Topics.{at_least_one}
 
 -- the topics that have an entry are as many as those
@@ -40,16 +40,38 @@ module _ {K Y : Type 0} (g : List Y → List Y) where
   cut [] = []
   cut (e ∷ es) = cond (not (length (g e.1) == 0)) ((e.0, g e.1) ∷ cut es) (cut es)
 
-  -- that is what `retain` leaves, where the closure cuts each list down
-  pub retained_cut : {F : Type 0} (T : F → K → List Y → Bool → List Y → F → Type 0) (f : F)
-      (says : (k : K) (v : List Y) (b : Bool) (w : List Y) (f' : F) → T f k v b w f' → (b ≡ not (length w == 0)) × (w ≡ g v) × (f' ≡ f))
-      (es kept : List (K × List Y)) → RetainsPairs T f es kept → kept ≡ cut es
-  retained_cut T f says [] kept h = h
-  retained_cut T f says (e ∷ es) kept h =
-      let s = says e.0 e.1 h.0 h.1 h.2 h.4 in
-      let rest = retained_cut T f says es h.3 (subst (λ u. RetainsPairs T u es h.3) s.2 h.5) in
-      let keeps : h.0 ≡ not (length (g e.1) == 0) = s.0 ∙ ap (λ ys. not (length ys == 0)) s.1 in
-      h.6 ∙ (λ i. cond (keeps i) ((e.0, s.1 i) ∷ rest i) (rest i))
+  -- the entries after the first lists are cut down
+  abbrev pub first_cut : ℕ → List (K × List Y) → List (K × List Y)
+  first_cut zero es = es
+  first_cut (suc n) [] = []
+  first_cut (suc n) (e ∷ es) = (e.0, g e.1) ∷ first_cut n es
+
+  pub next_cut : (n : ℕ) (es : List (K × List Y)) (v : List Y) → slice_get (values_of (first_cut n es)) n ≡ Some v → set_value_at (first_cut n es) n (g v) ≡ first_cut (suc n) es
+  next_cut zero [] v is = cc
+  next_cut zero (e ∷ es) v is = let same : v ≡ e.1 = cc in ap (λ ys. (e.0, g ys) ∷ es) same
+  next_cut (suc n) [] v is = cc
+  next_cut (suc n) (e ∷ es) v is = ap (λ xs. (e.0, g e.1) ∷ xs) (next_cut n es v is)
+
+  pub all_cut : (n : ℕ) (es : List (K × List Y)) → length es ≤ n → first_cut n es ≡ map (λ e. (e.0, g e.1)) es
+  all_cut zero [] past = refl
+  all_cut zero (e ∷ es) past = absurd (omega (arith, past))
+  all_cut (suc n) [] past = refl
+  all_cut (suc n) (e ∷ es) past = ap (λ xs. (e.0, g e.1) ∷ xs) (all_cut n es (omega (arith, past)))
+
+  pub length-first_cut : (n : ℕ) (es : List (K × List Y)) → length (first_cut n es) ≡ length es
+  length-first_cut zero es = refl
+  length-first_cut (suc n) [] = refl
+  length-first_cut (suc n) (e ∷ es) = ap suc (length-first_cut n es)
+
+  -- what `retain` leaves of the lists that were cut down
+  pub filled_cut : (es : List (K × List Y)) → filter (λ e. not (length e.1 == 0)) (map (λ e. (e.0, g e.1)) es) ≡ cut es
+  filled_cut [] = refl
+  filled_cut (e ∷ es) = by (not (length (g e.1) == 0)) (filled_cut es)
+    where
+      by : (b : Bool) → filter (λ x. not (length x.1 == 0)) (map (λ x. (x.0, g x.1)) es) ≡ cut es →
+          cond b ((e.0, g e.1) ∷ filter (λ x. not (length x.1 == 0)) (map (λ x. (x.0, g x.1)) es)) (filter (λ x. not (length x.1 == 0)) (map (λ x. (x.0, g x.1)) es)) ≡ cond b ((e.0, g e.1) ∷ cut es) (cut es)
+      by true rest = ap (λ xs. (e.0, g e.1) ∷ xs) rest
+      by false rest = rest
 
   module _ (eq : K → K → Bool) (laws : IsEquivalence eq) where
     -- a key that no entry has is nobody's after it

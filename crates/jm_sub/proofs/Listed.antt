@@ -1,15 +1,15 @@
 -- The entries as a list of subscriptions: what is found in it, and a copy that grows.
 use Rattle.std.proofs.Common.{◌≡◌, ◌+◌, ℕ, zero, suc, length, Bool, true, false, cond, List, [], ◌∷◌, ◌++◌, None, Some, refl, sym, ap, subst, ◌∙◌, add-one, take}
-use Rattle.std.specs.Prelude.{slice_get, position, nat_lt, option_map}
+use Rattle.std.specs.Prelude.{slice_get, position, nat_lt}
 use Rattle.std.specs.List.{IsDistinct, AllByRecursion, position_or_len}
-use Rattle.std.specs.Map.{keys_of, lookup, values_of}
+use Rattle.std.specs.Map.{keys_of, lookup}
 use Rattle.jm_dest.specs.declared.key.Key.{Key}
 use Rattle.jm_dest.specs.Keys.{key_eq}
 use Rattle.jm_machine.specs.declared.state.Definition.{Definition}
 use Rattle.jm_sub.specs.Entries.{IsNew, subscription_of, subscriptions_of}
 use Rattle.jm_sub.specs.Subscriptions as spec
 use Rattle.jm_sub.specs.Subscriptions.{Subscription}
-use Rattle.jm_machine.proofs.Keys.{key_sym, position_sym, set_eq, set_is}
+use Rattle.jm_machine.proofs.Keys.{key_sym, set_eq, set_is}
 
 -- what is found under a key
 pub lookup_key : (k : Key) (es : List (Key × Definition)) → lookup (set_eq k) es ≡ lookup (key_eq k) es
@@ -50,21 +50,15 @@ as_many : (es : List (Key × Definition)) → length (keys_of es) ≡ length (su
 as_many [] = refl
 as_many (e ∷ es) = ap suc (as_many es)
 
-pub position_listed : (k : Key) (es : List (Key × Definition)) → position (set_eq k) (keys_of es) ≡ position (λ s. key_eq s.key k) (subscriptions_of es)
+pub position_listed : (k : Key) (es : List (Key × Definition)) → position (λ x. set_eq x k) (keys_of es) ≡ position (λ s. key_eq s.key k) (subscriptions_of es)
 position_listed k es =
-    position_sym (keys_of es) k ∙ (λ i. cond (nat_lt (place (λ x. key_eq x k) es i) (as_many es i)) (Some (place (λ x. key_eq x k) es i)) None)
+    (λ i. position (λ x. set_is x k i) (keys_of es)) ∙ (λ i. cond (nat_lt (place (λ x. key_eq x k) es i) (as_many es i)) (Some (place (λ x. key_eq x k) es i)) None)
 
 -- the subscription of the entry at a place
 pub entry_at : (es : List (Key × Definition)) (at : ℕ) (e : Key × Definition) → slice_get es at ≡ Some e → slice_get (subscriptions_of es) at ≡ Some (subscription_of e)
 entry_at [] at e is = cc
 entry_at (x ∷ es) zero e is = let same : x ≡ e = cc in ap (λ y. Some (subscription_of y)) same
 entry_at (x ∷ es) (suc at) e is = entry_at es at e is
-
--- the definition at a place is that of the subscription there
-pub definition_at : (es : List (Key × Definition)) (at : ℕ) (d : Definition) → slice_get (values_of es) at ≡ Some d → option_map (λ (s : Subscription). s.definition) (slice_get (subscriptions_of es) at) ≡ Some d
-definition_at [] at d is = cc
-definition_at (x ∷ es) zero d is = is
-definition_at (x ∷ es) (suc at) d is = definition_at es at d is
 
 -- what is found under a key is what its subscription asks for
 pub definition_found : (key : Key) (es : List (Key × Definition)) → lookup (set_eq key) es ≡ spec.definition_at key (subscriptions_of es)

@@ -1,6 +1,6 @@
 -- The table of topics: the keys of the subscriptions of each, in order of creation.
 use Rattle.std.specs.Prelude.{◌≡◌, ℕ, Bool, not, List, [], ◌∷◌, map, filter, Option, None, Some}
-use Rattle.indexmap.specs.IndexMap.{get, spare}
+use Rattle.std.specs.Map.{lookup}
 use Rattle.jm_dest.specs.declared.key.Key.{Key}
 use Rattle.jm_dest.specs.Keys.{key_eq}
 use Rattle.jm_dest.specs.Names.{text_eq}
@@ -26,11 +26,11 @@ at_least_one (x ∷ xs) = Some (x ∷ xs)
 
 -- the keys that stand under a topic, if the topic has an entry
 abbrev pub keys_at : Topics → List ℕ → Option (List Key)
-keys_at t topic = get text_eq t.entries topic
+keys_at t topic = lookup (text_eq topic) t.entries.entries
 
 -- for how many more topics there is room
 abbrev pub room : Topics → ℕ
-room t = spare t.entries
+room t = t.entries.spare
 
 -- the keys of the subscriptions of a topic
 abbrev pub keys_to : List ℕ → List Subscription → List Key

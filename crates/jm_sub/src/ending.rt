@@ -5,7 +5,8 @@ ghost use Rattle.jm_sub.specs.Subscriptions.{is_shared_own};
 ghost use Rattle.jm_sub.specs.Topics as spec;
 
 use jm_dest::Key;
-use jm_machine::{Attached, Consumers};
+use jm_keyed::EntryChoice;
+use jm_machine::{Attached, Consumers, Definition};
 
 /// Which subscriptions end with a change.
 #[derive(Clone, Copy)]
@@ -25,6 +26,17 @@ impl Ending<'_> {
             Ending::With(which, attached) => attached.ends(which, key),
             Ending::Of(other) => key.is(other),
         }
+    }
+}
+
+impl EntryChoice<Key, Definition> for Ending<'_> {
+    ghost use Rattle.std.specs.Prelude.{not};
+    ghost use Rattle.jm_sub.specs.Topics.{ends};
+
+    ghost kept = { λ ending key definition. not (ends ending key) };
+
+    fn keeps(&self, key: &Key, _definition: &Definition) -> bool {
+        !self.ends(key)
     }
 }
 

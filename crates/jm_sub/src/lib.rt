@@ -18,15 +18,15 @@
 //! deleted, told the same, and takes no memory.
 //!
 //! `apply` puts a new one last, in place of any other of its key, `delete` ends the one of a key, and neither takes
-//! memory; `definition_of` finds by the hash of a key what its subscription asks for; `accepting` gives the keys of
+//! memory; `definition_of` finds by halves under a key what its subscription asks for; `accepting` gives the keys of
 //! those that accept a message, published on the connection of its sender, whose client is handed in, in that order;
 //! `accepts_at` says it of one, and takes no memory; `close` ends those subscriptions that end once consumers are
 //! closed (`ended`), and takes none.
 //!
 //! `topics` is the number of distinct topics of the definitions (`number_of_topics`).
 //!
-//! Inside, a subscription is found by the hash of its key, and the keys of each topic stand in order of creation
-//! under the topic's entry in a table, found by its hash, where a topic without subscriptions has no entry
+//! Inside, a subscription is found by halves by its key, and the keys of each topic stand in order of creation
+//! under the topic's entry in a table, found by halves, where a topic without subscriptions has no entry
 //! (`IsTableOf`, an invariant of the type): so `position` does not scan, and `accepting` looks at the subscriptions
 //! of the message's topic alone.
 //!

@@ -3,7 +3,7 @@
 ghost use Rattle.std.specs.Prelude.{◌≡◌, ◌≢◌, ◌+◌, ◌<◌, ◌≤◌, ◌==◌, ◌++◌, [], ◌∷◌, true, false, length, not, filter, count_by, slice_get, option_map, position, IfOk, IfErr, IfSome, MatchResult, OnOk, None, Some};
 ghost use Rattle.std.specs.List.{list_any};
 ghost use Rattle.std.specs.Option.{option_copied};
-ghost use Rattle.indexmap.specs.IndexMap.{keys, spare};
+ghost use Rattle.std.specs.Map.{keys_of};
 ghost use Rattle.jm_base.specs.declared.refusal.Refusal.TheVariants.{Memory, SubscriptionInUse};
 ghost use Rattle.jm_dest.specs.declared.key.Key.{Key};
 ghost use Rattle.jm_dest.specs.declared.key.Key.TheVariants.{Own};
@@ -22,10 +22,10 @@ use crate::definition::{accepts, defined, is_same, wants};
 use crate::ending::{Ending, shared_own};
 use crate::sharing::Sharing;
 use crate::topics::Topics;
-use indexmap::IndexMap;
 use jm_base::{Refusal, Str};
 use jm_dest::{ClientId, ConsumerId, Destination, Key, Name, SessionId};
 use jm_header::Message;
+use jm_keyed::KeyMap;
 use jm_machine::{Attached, Consumers, Definition};
 use std::alloc::{AllocError, Global};
 use std::collections::LinkedList;
@@ -36,7 +36,7 @@ use std::marker::Model;
 /// and definitions, and `spare`, for how many more there is room.
 pub struct Subs {
     alloc: Global,
-    items: IndexMap<Key, Definition>,
+    items: KeyMap<Key, Definition>,
     topics: Topics,
     shared: usize,
 }
@@ -54,7 +54,6 @@ impl Drop for Subs {
 
 impl Model for Subs {
     ghost use Rattle.std.specs.Prelude.{◌≡◌, min};
-    ghost use Rattle.indexmap.specs.IndexMap.{spare};
     ghost use Rattle.jm_sub.specs.Entries.{subscriptions_of};
     ghost use Rattle.jm_sub.specs.Subscriptions.{Subscriptions, number_of_shared};
     ghost use Rattle.jm_sub.specs.Topics.{IsTableOf, room};
@@ -63,7 +62,7 @@ impl Model for Subs {
 
     ghost view = { λ s. record {
       list = subscriptions_of s.items.entries;
-      spare = min (spare s.items) (room s.topics);
+      spare = min s.items.spare (room s.topics);
     } };
 
     ghost invariant = { λ s. IsTableOf (subscriptions_of s.items.entries) s.topics
@@ -91,25 +90,32 @@ impl Model for Decision {
     ghost invariant = { λ d. (d.topic ≡ d.created.topic) × (d.keys ≡ d.key ∷ []) };
 }
 
-/// Whether there is a subscription of the key that wants the message of that publisher.
-fn wants_at(
-    items: &IndexMap<Key, Definition>,
+/// Whether there is a subscription of the key that wants the message of that publisher. It is looked for at the guessed place
+/// first; the next guess is the place behind it.
+fn wants_near(
+    items: &KeyMap<Key, Definition>,
     key: &Key,
+    guess: &mut usize,
     message: &Message,
     client: Option<&ClientId>,
 ) -> bool
     ensures { result ≡ wanting items.now.entries (publisher message.now (option_copied client.entry)) message.now key.now }
 {
-    match items.get(key) {
+    match items.index_near(key, *guess) {
         None => false,
-        Some(definition) => wants(key, definition, message, client),
+        Some(at) => {
+            *guess = at.saturating_add(1);
+            let (_, definition) = items.entry_at(at);
+            wants(key, definition, message, client)
+        }
     }
 }
 
-/// Those of the keys whose subscriptions want the message of that publisher.
+/// Those of the keys whose subscriptions want the message of that publisher. The keys come in the order of the items, so that
+/// each is looked for behind the one before.
 fn selected(
     alloc: Global,
-    items: &IndexMap<Key, Definition>,
+    items: &KeyMap<Key, Definition>,
     keys: &LinkedList<Key>,
     message: &Message,
     client: Option<&ClientId>,
@@ -117,8 +123,9 @@ fn selected(
     ensures { IfOk result (λ selected. selected.items ≡ filter (wanting items.now.entries (publisher message.now (option_copied client.entry)) message.now) keys.now) }
 {
     let mut selected = Vec::new(alloc);
+    let mut guess = 0;
     for key in keys {
-        if wants_at(items, key, message, client) {
+        if wants_near(items, key, &mut guess, message, client) {
             selected.push(key.copy()?)?;
         }
     }
@@ -126,28 +133,28 @@ fn selected(
 }
 
 /// Puts the subscription last, of which no other has the key. There is room for it.
-fn put_last(items: &mut IndexMap<Key, Definition>, key: Key, created: Definition)
-    requires room { 0 < spare items.old }
+fn put_last(items: &mut KeyMap<Key, Definition>, key: Key, created: Definition)
+    requires room { 0 < items.old.spare }
     requires new { IsNew key (subscriptions_of items.old.entries) }
     ensures items { items.new.entries ≡ items.old.entries ++ (key, created) ∷ [] }
-    ensures spare { spare items.old ≤ spare items.new + 1 }
+    ensures spare { items.old.spare ≤ items.new.spare + 1 }
 {
-    drop(items.insert(key, created));
+    items.insert(key, created);
 }
 
 /// Whether the key of one of them ends.
-fn is_any_ending(items: &IndexMap<Key, Definition>, ending: &Ending) -> bool
-    ensures { result ≡ list_any (ends ending.now) (keys items.now) }
+fn is_any_ending(items: &KeyMap<Key, Definition>, ending: &Ending) -> bool
+    ensures { result ≡ list_any (ends ending.now) (keys_of items.now.entries) }
 {
-    items.keys().any(|key| ending.ends(key))
+    items.keys().iter().any(|key| ending.ends(key))
 }
 
 /// How many of them are shared and not durable.
-fn number_of_shared(items: &IndexMap<Key, Definition>) -> usize
-    ensures { result ≡ count_by spec.is_shared_own (keys items.now) }
+fn number_of_shared(items: &KeyMap<Key, Definition>) -> usize
+    ensures { result ≡ count_by spec.is_shared_own (keys_of items.now.entries) }
 {
     let mut number = 0;
-    for key in items.keys().as_slice() {
+    for key in items.keys() {
         number += shared_own(key);
     }
     number
@@ -173,14 +180,12 @@ fn decision_of(alloc: Global, key: &Key, definition: &Definition) -> Result<Deci
 }
 
 /// Equal subscriptions, with a table of their own.
-fn copied(alloc: Global, items: &IndexMap<Key, Definition>) -> Result<Subs, AllocError>
+fn copied(alloc: Global, items: &KeyMap<Key, Definition>) -> Result<Subs, AllocError>
     ensures { IfOk result (λ copy. copy.list ≡ subscriptions_of items.now.entries) }
 {
     let mut copy = Subs::new(alloc);
     for at in 0..items.len() {
-        let Some((key, definition)) = items.get_index(at) else {
-            break;
-        };
+        let (key, definition) = items.entry_at(at);
         copy.reserve()?;
         let decision = decision_of(alloc, key, definition)?;
         copy.add(decision);
@@ -218,7 +223,7 @@ impl Subs {
     {
         Subs {
             alloc,
-            items: IndexMap::new(alloc),
+            items: KeyMap::new(alloc),
             topics: Topics::new(alloc),
             shared: 0,
         }
@@ -253,11 +258,11 @@ impl Subs {
         self.topics.len()
     }
 
-    /// Where the subscription of the key stands, from 0 in order of creation. It is found by its hash.
+    /// Where the subscription of the key stands, from 0 in order of creation. It is found by halves.
     pub fn position(&self, key: &Key) -> Option<usize>
         ensures { result ≡ position (λ s. key_eq s.key key.now) self.now.list }
     {
-        self.items.get_index_of(key)
+        self.items.index_of(key)
     }
 
     /// What the subscription at that place asks for.
@@ -265,10 +270,11 @@ impl Subs {
         requires { at < length self.now.list }
         ensures { option_map (λ s. s.definition) (slice_get self.now.list at) ≡ Some result.now }
     {
-        &self.items[at]
+        let (_, definition) = self.items.entry_at(at);
+        definition
     }
 
-    /// What the subscription of the key asks for, if there is one. It is found by its hash.
+    /// What the subscription of the key asks for, if there is one. It is found by halves.
     pub fn definition_of(&self, key: &Key) -> Option<&Definition>
         ensures { option_copied result ≡ spec.definition_at key.now self.now.list }
     {
@@ -284,9 +290,7 @@ impl Subs {
         requires { at < length self.now.list }
         ensures { option_map (takes (publisher message.now (option_copied client.entry)) message.now) (slice_get self.now.list at) ≡ Some result }
     {
-        let Some((key, definition)) = self.items.get_index(at) else {
-            return false;
-        };
+        let (key, definition) = self.items.entry_at(at);
         accepts(key, definition, message, client)
     }
 
@@ -416,15 +420,15 @@ impl Subs {
         self.add(decision);
     }
 
-    /// Ends the subscription of the key, if there is one. It is found by its hash, and in the table of topics only the
-    /// keys of its topic are gone over. Takes no memory.
+    /// Ends the subscription of the key, if there is one. It is found by halves, those behind it move up, and in the table of
+    /// topics only the keys of its topic are gone over. Takes no memory.
     pub fn delete(&mut self, key: &Key)
         ensures list { self.new.list ≡ without key.now self.old.list }
         ensures spare { self.old.spare ≤ self.new.spare }
     {
         // The length is what says that each key stands once.
         let _number = self.items.len();
-        let Some(definition) = self.items.shift_remove(key) else {
+        let Some(definition) = self.items.remove(key) else {
             return;
         };
         self.shared -= shared_own(key);
@@ -445,7 +449,7 @@ impl Subs {
         }
     }
 
-    /// Ends the subscriptions that end once that consumer is closed: its own, which is found by its hash; the others are
+    /// Ends the subscriptions that end once that consumer is closed: its own, which is found by halves; the others are
     /// looked at only where one of them is shared and not durable. Takes no memory.
     fn close_one(&mut self, session: &SessionId, id: ConsumerId, attached: &Attached)
         ensures list { self.new.list ≡ without_ended (One session.now id) attached.now self.old.list }
@@ -498,7 +502,7 @@ impl Subs {
         if !is_any_ending(&self.items, ending) {
             return;
         }
-        self.items.retain(|key, _| !ending.ends(key));
+        self.items.retain(ending);
         self.topics.remove(ending);
         self.shared = number_of_shared(&self.items);
     }

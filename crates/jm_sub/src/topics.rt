@@ -1,23 +1,23 @@
 //! The table of topics.
 
-ghost use Rattle.std.specs.Prelude.{◌≡◌, [], ◌+◌, ◌<◌, ◌≤◌, ◌++◌, ◌^◌, ℕ, List, length, true, false, not, is_some, filter, position, IfOk, MatchOption, OnOk, None, Some, unwrap_or, option_and_then, if◌then◌else◌};
+ghost use Rattle.std.specs.Prelude.{◌≡◌, [], ◌+◌, ◌<◌, ◌≤◌, ◌++◌, ◌^◌, ℕ, List, length, true, false, not, is_some, filter, map, position, IfOk, MatchOption, OnOk, None, Some, unwrap_or, option_and_then, if◌then◌else◌};
 ghost use Rattle.std.specs.Option.{option_copied};
 ghost use Rattle.std.specs.Set.{distinct_count, is_member};
 ghost use Rattle.jm_dest.specs.Names.{text_eq};
 ghost use Rattle.jm_sub.specs.Topics.{at_least_one, ends, keys_at, left, room};
 
 use crate::ending::Ending;
-use indexmap::IndexMap;
 use jm_dest::{Key, Name};
+use jm_keyed::{EntryChoice, KeyMap};
 use std::alloc::{AllocError, Global};
 use std::collections::LinkedList;
 
-/// The keys of the subscriptions of each topic, in order of creation, found by the topic. A topic without
-/// subscriptions has no entry. Keys are linked one behind the other, so that a key which has its memory
+/// The keys of the subscriptions of each topic, in order of creation, found by halves. A topic without
+/// subscriptions has no entry; where one goes, what stands behind it moves up. Keys are linked one behind the other, so that a key which has its memory
 /// already joins its topic without more.
 pub(crate) struct Topics {
     alloc: Global,
-    entries: IndexMap<Name, LinkedList<Key>>,
+    entries: KeyMap<Name, LinkedList<Key>>,
 }
 
 impl Drop for Topics {
@@ -67,6 +67,30 @@ fn remove_from(alloc: Global, keys: &mut LinkedList<Key>, ending: &Ending)
     *keys = kept;
 }
 
+/// Takes the keys that end out of those of each topic, and leaves the topics. Takes no memory.
+fn cut_each(alloc: Global, entries: &mut KeyMap<Name, LinkedList<Key>>, ending: &Ending)
+    ensures entries { entries.new.entries ≡ map (λ e. (e.0, left ending.now e.1)) entries.old.entries }
+    ensures spare { entries.new.spare ≡ entries.old.spare }
+{
+    for at in 0..entries.len() {
+        remove_from(alloc, entries.value_mut(at), ending);
+    }
+}
+
+/// Keeps the topics that have keys.
+#[derive(Clone, Copy)]
+struct Filled;
+
+impl EntryChoice<Name, LinkedList<Key>> for Filled {
+    ghost use Rattle.std.specs.Prelude.{length, not, ◌==◌};
+
+    ghost kept = { λ filled topic keys. not (length keys == 0) };
+
+    fn keeps(&self, _topic: &Name, keys: &LinkedList<Key>) -> bool {
+        !keys.is_empty()
+    }
+}
+
 impl Topics {
     /// No topics. Takes no memory.
     pub(crate) fn new(alloc: Global) -> Topics
@@ -74,7 +98,7 @@ impl Topics {
     {
         Topics {
             alloc,
-            entries: IndexMap::new(alloc),
+            entries: KeyMap::new(alloc),
         }
     }
 
@@ -114,9 +138,7 @@ impl Topics {
             Some(held) => {
                 let _ = held.append(&mut keys);
             }
-            None => {
-                let _ = self.entries.insert(topic, keys);
-            }
+            None => self.entries.insert(topic, keys),
         }
     }
 
@@ -134,7 +156,7 @@ impl Topics {
         remove_from(alloc, keys, ending);
         let is_empty = keys.is_empty();
         if is_empty {
-            drop(self.entries.swap_remove(topic));
+            drop(self.entries.remove(topic));
         }
     }
 
@@ -146,10 +168,7 @@ impl Topics {
     {
         // The length is what says that each topic stands once.
         let _number = self.entries.len();
-        let alloc = self.alloc;
-        self.entries.retain(|_, keys| {
-            remove_from(alloc, keys, ending);
-            !keys.is_empty()
-        });
+        cut_each(self.alloc, &mut self.entries, ending);
+        self.entries.retain(&Filled);
     }
 }

@@ -2,4 +2,4 @@ use Rattle.std.proofs.Common.{◌≡◌, take}
 use Rattle.jm_stations.proofs.copies.copy_keys.Given as goal
 
 abbrev pub invariant-loop-key : goal.invariant-loop-key
-invariant-loop-key l = l.copies.keys ≡ take l.key-index l.keys
+invariant-loop-key l = l.copies.items ≡ take l.key-index l.keys

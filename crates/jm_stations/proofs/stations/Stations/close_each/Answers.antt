@@ -1,6 +1,5 @@
-use Rattle.std.proofs.Common.{◌≡◌, Bool, not, rules}
+use Rattle.std.proofs.Common.{◌≡◌, Bool, not}
 use Rattle.std.specs.List.{filter}
-use Rattle.std.proofs.lemmas.Fn.{filter_same}
 use Rattle.jm_dest.specs.declared.key.Key.{Key}
 use Rattle.jm_machine.specs.Attached.{ended}
 use Rattle.jm_stations.proofs.Closing.{as_many_left}
@@ -11,15 +10,15 @@ pub invariant_of-self : goal.invariant_of-self
 invariant_of-self c =
     let p : Key → Bool = λ k. not (ended c.args.which.now c.args.attached.now k) in
     let keys = c.self.inside.keys.keys in
-    let left : c.retain.new.self.keys ≡ filter p keys = filter_same _ p _ (λ x b f' k. search rules) _ _ c.retain.ensures.filtered in
-    let same : c.as_slice.result.now ≡ keys = c.as_slice.ensures.keys in (
+    let left : c.retain.new.self.keys ≡ filter p keys = c.retain.ensures.keys in
+    let same : c.as_slice.result.now ≡ keys = c.as_slice.ensures in (
       rw (left, c.close.ensures.list, same) (as_many_left p keys c.self.inside.backlogs.list c.self.invariant.0),
-      distinct_keys c.retain.new.self.keys c.retain.ensures.unique,
-      λ none. rw c.as_slice-2.ensures.keys at (c.are_shared-self-inside.ensures none),
+      distinct_keys c.retain.new.self.keys c.len-number.ensures.once,
+      λ none. rw c.as_slice-2.ensures at (c.are_shared-self-inside.ensures none),
     )
 
 pub returns-clause-keys : goal.returns-clause-keys
 returns-clause-keys c =
     let p : Key → Bool = λ k. not (ended c.args.which.now c.args.attached.now k) in
-    let left : c.retain.new.self.keys ≡ filter p c.self.inside.keys.keys = filter_same _ p _ (λ x b f' k. search rules) _ _ c.retain.ensures.filtered in
+    let left : c.retain.new.self.keys ≡ filter p c.self.inside.keys.keys = c.retain.ensures.keys in
     rw (← c.self.view_is) left

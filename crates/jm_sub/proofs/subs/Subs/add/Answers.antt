@@ -11,7 +11,7 @@ pub join-requires-clause-fits : goal.join-requires-clause-fits
 join-requires-clause-fits c =
     let number : c.len-number.result ≡ length (subscriptions_of c.self.inside.items.entries) + 1 =
     omega (arith, c.len-number.ensures.len, ap length c.put_last.ensures.items, length-append c.self.inside.items.entries ((c.decision.inside.key, c.decision.inside.created) ∷ []), length_subscriptions c.self.inside.items.entries) in
-    keys_fit c.self.inside.topics (subscriptions_of c.self.inside.items.entries) c.decision.inside.topic c.decision.inside.keys c.decision.inside.key c.len-number.result c.self.invariant.0 c.decision.invariant.1 number c.len-number.ensures.small
+    keys_fit c.self.inside.topics (subscriptions_of c.self.inside.items.entries) c.decision.inside.topic c.decision.inside.keys c.decision.inside.key c.len-number.result c.self.invariant.0 c.decision.invariant.1 number (omega (arith, c.len-number.ensures.len, c.len-number.ensures.small))
 
 pub overflow_add-self : goal.overflow_add-self
 overflow_add-self c =

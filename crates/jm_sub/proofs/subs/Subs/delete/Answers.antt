@@ -1,4 +1,6 @@
 use Rattle.std.proofs.Common.{◌∙◌, sym, ap, arith, is_some}
+use Rattle.jm_keyed.proofs.Entries.{absent_stays}
+use Rattle.jm_machine.proofs.Keys.{set_eq}
 use Rattle.jm_sub.specs.Entries.{subscriptions_of}
 use Rattle.jm_sub.specs.Subscriptions.{number_of_shared}
 use Rattle.jm_sub.proofs.Shared.{number_without}
@@ -6,25 +8,28 @@ use Rattle.jm_sub.proofs.Table.{deleted_table, without_absent, without_entry}
 use Rattle.jm_sub.proofs.subs.Subs.delete.Goals as goal
 
 pub invariant_of-self : goal.invariant_of-self
-invariant_of-self c = rw c.in_default.ensures.unchanged c.self.invariant
+invariant_of-self c =
+    let same = c.remove.ensures.entries ∙ absent_stays (set_eq c.args.key.now) c.self.inside.items.entries (sym c.remove.ensures.value ∙ c.in_default.is) in
+    rw same c.self.invariant
 
 pub returns-in_default-clause-list : goal.returns-in_default-clause-list
 returns-in_default-clause-list c =
-    rw (← c.self.view_is) (ap subscriptions_of c.in_default.ensures.unchanged ∙ without_absent c.args.key.now c.self.inside.items.entries (ap is_some (sym c.shift_remove.ensures.value ∙ c.in_default.is)))
+    let same = c.remove.ensures.entries ∙ absent_stays (set_eq c.args.key.now) c.self.inside.items.entries (sym c.remove.ensures.value ∙ c.in_default.is) in
+    rw (← c.self.view_is) (ap subscriptions_of same ∙ without_absent c.args.key.now c.self.inside.items.entries (ap is_some (sym c.remove.ensures.value ∙ c.in_default.is)))
 
 pub overflow_sub-self : goal.overflow_sub-self
 overflow_sub-self c =
-    let found = sym c.shift_remove.ensures.value ∙ c.in-Some.is in
+    let found = sym c.remove.ensures.value ∙ c.in-Some.is in
     omega (arith, c.shared_own.ensures, number_without c.args.key.now c.in-Some.definition c.self.inside.items.entries found, c.self.invariant.1)
 
 pub invariant_of-self-2 : goal.invariant_of-self-2
 invariant_of-self-2 c =
-    let found = sym c.shift_remove.ensures.value ∙ c.in-Some.is in (
-      deleted_table c.args.key c.in-Some.definition c.self.inside.topics c.leave.new.self c.self.inside.items.entries c.shift_remove.new.self.entries c.len-number.ensures.unique found c.shift_remove.ensures.entries
+    let found = sym c.remove.ensures.value ∙ c.in-Some.is in (
+      deleted_table c.args.key c.in-Some.definition c.self.inside.topics c.leave.new.self c.self.inside.items.entries c.remove.new.self.entries c.len-number.ensures.once found c.remove.ensures.entries
           c.self.invariant.0 c.leave.ensures.keys,
-      omega (arith, c.shared_own.ensures, number_without c.args.key.now c.in-Some.definition c.self.inside.items.entries found, ap (λ es. number_of_shared (subscriptions_of es)) c.shift_remove.ensures.entries, c.self.invariant.1),
+      omega (arith, c.shared_own.ensures, number_without c.args.key.now c.in-Some.definition c.self.inside.items.entries found, ap (λ es. number_of_shared (subscriptions_of es)) c.remove.ensures.entries, c.self.invariant.1),
     )
 
 pub returns-clause-list : goal.returns-clause-list
 returns-clause-list c =
-    rw (← c.self.view_is) (ap subscriptions_of c.shift_remove.ensures.entries ∙ without_entry c.args.key.now c.self.inside.items.entries c.len-number.ensures.unique)
+    rw (← c.self.view_is) (ap subscriptions_of c.remove.ensures.entries ∙ without_entry c.args.key.now c.self.inside.items.entries c.len-number.ensures.once)
