@@ -1,17 +1,14 @@
 -- The first row that a test finds in all lanes, and its lane.
-use Rattle.std.proofs.Common.{◌≡◌, ◌≢◌, ℕ, ◌+◌, ◌-◌, ◌<◌, ◌≤◌, List, [], ◌∷◌, ◌++◌, length, get_or, set, map, take, drop, true, false, Bool, cond, Option, Some, None, refl, ap, sym, subst, ◌∙◌, arith, suc, zero, ◌⊎◌, inl, inr, is_some, option_map}
+use Rattle.std.proofs.Common.{◌≡◌, ◌≢◌, ℕ, ◌+◌, ◌-◌, ◌<◌, ◌≤◌, List, [], ◌∷◌, ◌++◌, length, get_or, set, take, drop, true, false, Bool, cond, Option, Some, None, refl, ap, sym, subst, ◌∙◌, arith, suc, zero, ◌⊎◌, inl, inr, is_some}
 use Rattle.std.specs.List.{filter, find, All}
-use Rattle.std.specs.Option.{IfSome, IsSome, MatchOption}
+use Rattle.std.specs.Option.{IsSome}
 use Rattle.std.proofs.lemmas.List.{length-set, get_or-set_same, get_or-set_other, take_more, take-append-drop, drop_more, get_or-take, get_or-drop, length-take, length-drop, append-nil, get_or_default, length-append}
 use Rattle.std.proofs.lemmas.Grind.{flat_map-append}
 use Rattle.std.proofs.lemmas.List.Elements.{filter-append}
 use Rattle.std.proofs.lemmas.Bool.Decides.{eqb_tells, leb_tells}
 use Rattle.jm_pending.specs.declared.row.Row.{Row}
-use Rattle.jm_dest.specs.declared.session.SessionId.{SessionId}
-use Rattle.jm_pending.specs.Rows.{is_waiting, is_elsewhere, sent, sent_at}
 use Rattle.jm_pending.specs.Lanes.{Lane, Becomes, EachBecomes, all_rows, IsApart}
-use Rattle.jm_pending.proofs.Rising.{map_elsewhere, filter_elsewhere}
-use Rattle.jm_pending.proofs.Places.{all_front, all_back, apart_before, apart_behind, apart_tail, find_has}
+use Rattle.jm_pending.proofs.Places.{all_front, all_back, apart_before, apart_behind, apart_tail}
 
 pub none_of : {X : Type 0} (o : Option X) → is_some o ≡ false → o ≡ None
 none_of None h = refl

@@ -80,7 +80,7 @@ held_room xs room more h there a =
     record { number = h.number; made = λ some. h.number there; priorities = h.priorities; rising = h.rising; bounded = h.bounded; spare = a }
 
 -- lanes with the same rows
-copied_number : (xs ys : List Lane) → AllZip IsCopied xs ys → length ys ≡ length xs
+pub copied_number : (xs ys : List Lane) → AllZip IsCopied xs ys → length ys ≡ length xs
 copied_number [] [] e = refl
 copied_number [] (y ∷ ys) e = absurd e
 copied_number (x ∷ xs) [] e = absurd e

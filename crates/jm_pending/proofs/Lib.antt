@@ -26,4 +26,6 @@ mod Spots
 mod Taking
 pub mod Lowest
 mod Written
+mod Within
+mod Releasing
 mod Number

@@ -1,19 +1,18 @@
 -- The row that goes first of those that pass, lane by lane, and that it is the next one.
-use Rattle.std.proofs.Common.{◌≡◌, ◌≢◌, ℕ, ◌+◌, ◌<◌, ◌≤◌, ◌==◌, nat_lt, nat_le, List, [], ◌∷◌, ◌++◌, length, get_or, take, true, false, Bool, not, ◌&&◌, ◌||◌, cond, Option, Some, None, refl, ap, sym, subst, ◌∙◌, arith, suc, zero, ◌⊎◌, inl, inr}
+use Rattle.std.proofs.Common.{◌≡◌, ◌≢◌, ℕ, ◌<◌, ◌≤◌, ◌==◌, nat_lt, nat_le, List, [], ◌∷◌, ◌++◌, length, get_or, true, false, Bool, not, ◌&&◌, ◌||◌, cond, Option, Some, None, refl, ap, sym, subst, ◌∙◌, arith, suc, zero, ◌⊎◌, inl, inr}
 use Rattle.std.specs.List.{filter, find, All, Contains, list_all}
 use Rattle.std.specs.Option.{IfSome}
 use Rattle.std.specs.Prelude.{slice_get}
 use Rattle.std.proofs.lemmas.Bool.{eq-eqb, ne_eqb}
 use Rattle.std.proofs.lemmas.Bool.Decides.{nat_tests, eqb_tells}
-use Rattle.std.proofs.lemmas.List.Elements.{All-nil, All-cons, All-head, All-tail, All-append, All-filter, All-weaker, All-contains, All-contains_itself, Contains-get_or, Contains-append_left, Contains-append_right}
+use Rattle.std.proofs.lemmas.List.Elements.{All-nil, All-cons, All-head, All-tail, All-append, All-weaker, All-contains, Contains-get_or, Contains-append_right}
 use Rattle.jm_pending.specs.declared.row.Row.{Row}
 use Rattle.jm_pending.specs.Lists.{sorted}
-use Rattle.jm_pending.specs.Rows.{IsRising, is_waiting, is_expired, is_ready, stays, is_next, next}
-use Rattle.jm_pending.specs.Lanes.{Lane, IsApart, IsSoonestOf, all_rows, is_at, is_lower, is_sooner}
+use Rattle.jm_pending.specs.Rows.{IsRising, is_ready, is_next, next}
+use Rattle.jm_pending.specs.Lanes.{IsApart, IsSoonestOf, is_at, is_lower, is_sooner}
 use Rattle.jm_pending.proofs.Rising.{find_none}
 use Rattle.jm_pending.proofs.Places.{all_sorted, apart_from_rising, find_has}
 use Rattle.jm_pending.proofs.Ranks.{at_sorted}
-use Rattle.jm_pending.proofs.Found.{all_rows_more}
 
 -- of two numbered rows neither goes before itself, not both go before the other, and what does not go before one that
 -- does not go before a third does not go before that

@@ -1,7 +1,7 @@
 -- What a lane keeps through each of its steps.
 use Rattle.std.proofs.Common.{◌≡◌, ◌≢◌, ℕ, ◌+◌, ◌<◌, ◌≤◌, List, [], ◌∷◌, ◌++◌, length, get_or, set, map, take, drop, ◌==◌, nat_le, ◌-◌, ◌&&◌, ◌||◌, true, false, Bool, not, cond, refl, ap, ◌∙◌, ◌⊎◌, inl, inr, arith}
 use Rattle.std.specs.List.{filter, All}
-use Rattle.std.proofs.lemmas.List.{take-append-le, drop-append-le, length-map, take_more_set, length-set, drop-set-lt, length_push, drop-drop, drop_all}
+use Rattle.std.proofs.lemmas.List.{take-append-le, drop-append-le, length-map, length-set, drop-set-lt, length_push, drop-drop, drop_all}
 use Rattle.std.proofs.lemmas.Bool.Decides.{nat_tests}
 use Rattle.std.proofs.lemmas.List.Elements.{All-nil, All-head, All-tail, All-filter, All-map, All-weaker, All-set, All-push, All-drop}
 use Rattle.jm_pending.specs.declared.row.Row.{Row}

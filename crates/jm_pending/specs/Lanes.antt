@@ -4,6 +4,7 @@ use Rattle.std.specs.List.{flat_map}
 use Rattle.jm_pending.specs.Lists.{sorted}
 use Rattle.jm_dest.specs.Numbers.{long_end}
 use Rattle.jm_pending.specs.declared.row.Row.{Row}
+use Rattle.jm_pending.specs.declared.span.Span.{Span}
 use Rattle.jm_pending.specs.Rows.{is_waiting, IsRising}
 
 -- a lane: the rows of one priority, and for how many more there is room
@@ -114,6 +115,16 @@ pub record IsHeld (lanes : List Lane) (room : ℕ) : Type 0 where
   pub rising : IsRising (rows_of lanes)
   pub bounded : All (λ (r : Row). r.place < long_end) (all_rows lanes)
   pub spare : All (λ (l : Lane). room ≤ l.spare) lanes
+
+-- no lane but those of a span has rows, and each of the others has room for so many
+pub record IsWithin (lanes : List Lane) (span : Span) (room : ℕ) : Type 0 where
+  pub order : span.first ≤ span.end
+  pub inside : span.end ≤ length lanes
+  pub before : (k : ℕ) (d : Lane) → k < span.first → (slice_index_or lanes k d).rows ≡ []
+  pub behind : (k : ℕ) (d : Lane) → span.end ≤ k → k < length lanes → (slice_index_or lanes k d).rows ≡ []
+  pub room_before : (k : ℕ) (d : Lane) → k < span.first → room ≤ (slice_index_or lanes k d).spare
+  pub room_behind : (k : ℕ) (d : Lane) → span.end ≤ k → k < length lanes → room ≤ (slice_index_or lanes k d).spare
+  pub unmade : length lanes ≡ 0 → room ≡ 0
 
 -- a lane after an edit of its rows
 pub record Becomes (f : List Row → List Row) (a b : Lane) : Type 0 where

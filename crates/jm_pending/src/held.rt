@@ -11,11 +11,10 @@ ghost use Rattle.jm_pending.specs.Holders.{Covers, Follows, holders_of, last_mes
 ghost use Rattle.jm_pending.specs.Lanes.{is_at};
 ghost use Rattle.jm_pending.specs.Cursors as cursor;
 
-use crate::lane::Lane;
 use crate::receivers::Receivers;
 use crate::row::{Outs, Row};
 use crate::table::Table;
-use crate::{cursors, lanes};
+use crate::used::UsedLanes;
 use jm_dest::{ConsumerId, Moment, SessionId};
 use jm_header::Message;
 use jm_machine::Consumers;
@@ -33,9 +32,9 @@ pub struct Taken {
 /// The rows that a subscription holds (ours). Contracts see them as a list by place, with the limit of
 /// their number, how many publications were missed at the limit, and for how many more rows there is room.
 /// The lanes are made when room is first made for a row, and how many rows there are is kept, so that where there is
-/// none, no lane is looked at.
+/// none, no lane is looked at, and else none but those that may have rows.
 pub struct Held {
-    lanes: Vec<Lane>,
+    lanes: UsedLanes,
     count: usize,
     receivers: Receivers,
     limit: Option<u32>,
@@ -64,9 +63,9 @@ impl Model for Held {
 
     ghost Value = { HeldShown };
 
-    ghost view = { λ h. record { rows = rows_of h.lanes.items; limit = h.limit; missed = h.missed; room = h.room } };
+    ghost view = { λ h. record { rows = rows_of h.lanes; limit = h.limit; missed = h.missed; room = h.room } };
 
-    ghost invariant = { λ h. IsHeld h.lanes.items h.room × AreKnown h.receivers (rows_of h.lanes.items) × (h.count ≡ length (rows_of h.lanes.items)) };
+    ghost invariant = { λ h. IsHeld h.lanes h.room × AreKnown h.receivers (rows_of h.lanes) × (h.count ≡ length (rows_of h.lanes)) };
 }
 
 impl Held {
@@ -75,7 +74,7 @@ impl Held {
         ensures { result ≡ record { rows = []; limit = limit; missed = 0; room = 0 } }
     {
         Held {
-            lanes: Vec::new(alloc),
+            lanes: UsedLanes::new(alloc),
             count: 0,
             receivers: Receivers::Nobody,
             limit,
@@ -90,7 +89,7 @@ impl Held {
         ensures { IfOk result (λ copy. copy ≡ record self.now { room = 0 }) }
     {
         Ok(Held {
-            lanes: self.lanes.clone()?,
+            lanes: self.lanes.copy()?,
             count: self.count,
             receivers: self.receivers,
             limit: self.limit,
@@ -126,7 +125,7 @@ impl Held {
         ensures { result ≡ slice_get self.now.rows index }
     {
         if index < self.count {
-            lanes::row_at(&self.lanes, index)
+            self.lanes.row_at(index)
         } else {
             None
         }
@@ -143,10 +142,10 @@ impl Held {
         if self.is_empty() {
             return None;
         }
-        lanes::row_from(&self.lanes, place)
+        self.lanes.row_from(place)
     }
 
-    /// The row at that place, where there is one. Looks for it in each lane by halves.
+    /// The row at that place, where there is one. Looks for it by halves in each lane that may have rows.
     #[tactic(auto, using(crate::proofs::Ranks::at_sorted))]
     pub fn row_of(&self, place: u64) -> Option<Row>
         ensures { result ≡ find (is_at place) self.now.rows }
@@ -154,7 +153,7 @@ impl Held {
         if self.is_empty() {
             return None;
         }
-        lanes::at(&self.lanes, place)
+        self.lanes.row_of(place)
     }
 
     /// The first row by place, from that place on, that waits and is expired at that moment. All such rows are met in turn
@@ -170,7 +169,7 @@ impl Held {
         if self.is_empty() {
             return None;
         }
-        cursors::lapsed_from(&self.lanes, place, now)
+        self.lanes.lapsed_from(place, now)
     }
 
     /// The first row by place, from that place on, that is out through one of those consumers. All such rows are met in turn
@@ -186,7 +185,7 @@ impl Held {
             return None;
         }
         if self.receivers.include(which) {
-            cursors::out_from(&self.lanes, place, which)
+            self.lanes.out_from(place, which)
         } else {
             None
         }
@@ -209,11 +208,12 @@ impl Held {
         if self.is_empty() {
             return true;
         }
-        self.receivers.is_nobody() || lanes::are_home(&self.lanes)
+        self.receivers.is_nobody() || self.lanes.are_home()
     }
 
     /// Makes room for that many more rows, and the lanes, where they are not there. `AllocError` where a request for
-    /// memory was refused. Either way the rows are as before. Where there is room for so many, no lane is looked at.
+    /// memory was refused. Either way the rows are as before. Where there is room for so many, no lane is looked at, and
+    /// where the empty lanes are known to have it, none but those that may have rows.
     pub fn reserve(&mut self, additional: usize) -> Result<(), AllocError>
         ensures ok { OnOk result (additional ≤ self.new.room) }
         ensures same { self.new ≡ record self.old { room = self.new.room } }
@@ -222,8 +222,8 @@ impl Held {
         if additional <= self.room {
             return Ok(());
         }
-        lanes::make(&mut self.lanes)?;
-        lanes::reserve(&mut self.lanes, additional)?;
+        self.lanes.make()?;
+        self.lanes.reserve(additional)?;
         self.room = additional;
         Ok(())
     }
@@ -250,7 +250,7 @@ impl Held {
         }
         table.hold(row.place);
         self.receivers = self.receivers.with(row.state);
-        lanes::push(&mut self.lanes, row);
+        self.lanes.push(row, self.count);
         self.count += 1;
         self.room -= 1;
     }
@@ -265,7 +265,7 @@ impl Held {
         if self.is_empty() {
             return None;
         }
-        lanes::next(&self.lanes, now)
+        self.lanes.next(now)
     }
 
     /// The row that a delivery at that moment would take of those whose messages the selector selects: of those that wait,
@@ -279,7 +279,7 @@ impl Held {
         if self.is_empty() {
             return None;
         }
-        lanes::next_where(&self.lanes, table, now, selector)
+        self.lanes.next_where(table, now, selector)
     }
 
     /// Drops the waiting rows that are expired at that moment, and delivers the next row, which goes
@@ -305,9 +305,9 @@ impl Held {
         if self.is_empty() {
             return None;
         }
-        self.count = lanes::drop_expired(&mut self.lanes, table, now);
+        self.count = self.lanes.drop_expired(table, now);
         self.receivers = self.receivers.with_one(&session, consumer);
-        lanes::take_first(&mut self.lanes, now, session, consumer)
+        self.lanes.take_first(now, session, consumer)
     }
 
     /// Drops the waiting rows that are expired at that moment, and delivers the next row, which is
@@ -328,8 +328,8 @@ impl Held {
         if self.is_empty() {
             return None;
         }
-        self.count = lanes::drop_expired(&mut self.lanes, table, now);
-        let row = lanes::remove_first(&mut self.lanes, now)?;
+        self.count = self.lanes.drop_expired(table, now);
+        let row = self.lanes.remove_first(now)?;
         self.count -= 1;
         let message = table.release(row.place);
         Some(Taken {
@@ -362,9 +362,10 @@ impl Held {
         if self.is_empty() {
             return None;
         }
-        self.count = lanes::drop_expired(&mut self.lanes, table, now);
+        self.count = self.lanes.drop_expired(table, now);
         self.receivers = self.receivers.with_one(&session, consumer);
-        lanes::take_where(&mut self.lanes, table, now, selector, session, consumer)
+        self.lanes
+            .take_where(table, now, selector, session, consumer)
     }
 
     /// Drops the waiting rows that are expired at that moment, also those that are not selected, and delivers the next row
@@ -390,8 +391,8 @@ impl Held {
         if self.is_empty() {
             return None;
         }
-        self.count = lanes::drop_expired(&mut self.lanes, table, now);
-        let row = lanes::remove_where(&mut self.lanes, table, now, selector)?;
+        self.count = self.lanes.drop_expired(table, now);
+        let row = self.lanes.remove_where(table, now, selector)?;
         self.count -= 1;
         let message = table.release(row.place);
         Some(Taken {
@@ -413,7 +414,7 @@ impl Held {
             return;
         }
         if self.receivers.include(which) {
-            self.count = lanes::settle(&mut self.lanes, table, &Outs::Of(*which));
+            self.count = self.lanes.settle(table, &Outs::Of(*which));
             self.receivers = self.receivers.without(which);
         }
     }
@@ -438,11 +439,9 @@ impl Held {
         if self.is_empty() {
             return;
         }
-        self.count = lanes::settle(
-            &mut self.lanes,
-            table,
-            &Outs::Through(session, consumer, place),
-        );
+        self.count = self
+            .lanes
+            .settle(table, &Outs::Through(session, consumer, place));
     }
 
     /// The rows that are out through one of those consumers wait again, at their places and with their counts. Where
@@ -456,7 +455,7 @@ impl Held {
             return;
         }
         if self.receivers.include(which) {
-            lanes::give_back(&mut self.lanes, &Outs::Of(*which));
+            self.lanes.give_back(&Outs::Of(*which));
             self.receivers = self.receivers.without(which);
         }
     }
@@ -473,7 +472,8 @@ impl Held {
         if self.is_empty() {
             return;
         }
-        lanes::give_back(&mut self.lanes, &Outs::Through(session, consumer, place));
+        self.lanes
+            .give_back(&Outs::Through(session, consumer, place));
     }
 
     /// All rows go. Takes no memory.
@@ -486,7 +486,7 @@ impl Held {
             self.receivers = Receivers::Nobody;
             return;
         }
-        lanes::clear(&mut self.lanes, table);
+        self.lanes.clear(table);
         self.count = 0;
         self.receivers = Receivers::Nobody;
     }

@@ -4,7 +4,7 @@ ghost use Rattle.std.specs.Prelude.{◌≡◌, ℕ, ◌+◌, ◌<◌, ◌≤◌,
 ghost use Rattle.jm_pending.specs.declared.row.Row.{Row};
 ghost use Rattle.jm_pending.specs.Rows.{IsRising, are_home, back, is_among, is_elsewhere, is_waiting, keeps, sent_at, stays};
 ghost use Rattle.jm_pending.specs.Rows as spec;
-ghost use Rattle.jm_pending.specs.Chosen.{StandsIn, is_better, is_ready_before};
+ghost use Rattle.jm_pending.specs.Chosen.{StandsIn, goes_before, is_better, is_ready_before, row_of};
 ghost use Rattle.jm_selector.specs.Selectors.{matches};
 ghost use Rattle.jm_dest.specs.Numbers.{long_end};
 ghost use Rattle.jm_pending.specs.Lanes.{IsCopied, IsPlaceFrom, IsSoonestOf, is_at, is_below};
@@ -218,6 +218,17 @@ impl Lane {
         ensures before { All (λ r. is_waiting r ≡ false) (take result self.now.rows) }
     {
         walks::first_waiting(&self.rows, self.low)
+    }
+
+    /// Whether no row of it goes before the best so far, as is known without a look at its rows: it has none, or that
+    /// is there and of a higher priority.
+    pub(crate) fn is_behind(&self, best: &Option<Spot>) -> bool
+        ensures { result ≡ true → All (λ r. goes_before (row_of best.now) r ≡ false) self.now.rows }
+    {
+        match best {
+            Some(best) => self.rows.is_empty() || self.priority < best.row.priority,
+            None => self.rows.is_empty(),
+        }
     }
 
     /// Where the first row stands that is ready and that goes before the best so far, where that is there; or how many

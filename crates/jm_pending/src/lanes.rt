@@ -5,11 +5,12 @@
 ghost use Rattle.std.specs.Prelude.{◌≡◌, ℕ, ◌+◌, ◌-◌, ◌^◌, ◌<◌, ◌≤◌, ◌++◌, List, [], length, All, IfOk, IfSome, find, filter, map, take, true, false, None, Some, Option, OnOk, MatchOption, slice_get, slice_index_or, slice_set};
 ghost use Rattle.jm_dest.specs.Numbers.{long_end};
 ghost use Rattle.jm_pending.specs.declared.row.Row.{Row};
+ghost use Rattle.jm_pending.specs.declared.span.Span.{Span};
 ghost use Rattle.jm_pending.specs.Rows.{IsRising, back, is_among, is_elsewhere, is_ready, keeps, sent_at, stays};
 ghost use Rattle.jm_pending.specs.Rows as spec;
 ghost use Rattle.jm_pending.specs.Chosen.{IsSpot, is_choice, row_of};
 ghost use Rattle.jm_selector.specs.Selectors.{matches};
-ghost use Rattle.jm_pending.specs.Lanes.{AreEmptyLanes, EachBecomes, IsApart, IsHeld, IsLaneOf, IsPlaceFrom, IsPushed, IsSoonestOf, Lane, all_rows, is_at, is_below, rows_of};
+ghost use Rattle.jm_pending.specs.Lanes.{AreEmptyLanes, EachBecomes, IsApart, IsHeld, IsLaneOf, IsPlaceFrom, IsPushed, IsSoonestOf, IsWithin, Lane, all_rows, is_at, is_below, rows_of};
 ghost use Rattle.jm_pending.specs.Holders.{Covers, Follows};
 
 use crate::lane::Lane;
@@ -126,6 +127,7 @@ fn empty_lanes(alloc: Global) -> Result<Vec<Lane>, AllocError>
 pub(crate) fn make(lanes: &mut Vec<Lane>) -> Result<(), AllocError>
     ensures there { OnOk result (0 < length lanes.new.items) }
     ensures held { (room : ℕ) → IsHeld lanes.old.items room → IsHeld lanes.new.items room }
+    ensures within { (span : Span) (room : ℕ) → IsWithin lanes.old.items span room → IsWithin lanes.new.items span room }
     ensures rows { rows_of lanes.new.items ≡ rows_of lanes.old.items }
 {
     if !lanes.is_empty() {
@@ -167,19 +169,21 @@ fn lane_for(lanes: &[Lane], row: &Row) -> usize
     last
 }
 
-/// Adds a row to a lane of its priority.
-pub(crate) fn push(lanes: &mut [Lane], row: Row)
+/// Adds a row to a lane of its priority. Returns the index of that lane.
+pub(crate) fn push(lanes: &mut [Lane], row: Row) -> usize
     requires number { length lanes.old ≡ 30 }
     requires priority { row.priority < 10 }
     requires priorities { (k : ℕ) (d : Lane) → k < length lanes.old → IsLaneOf k (slice_index_or lanes.old k d).priority }
     requires room { All (λ l. 0 < l.spare) lanes.old }
     requires above { All (λ (r : Row). r.place < row.place) (all_rows lanes.old) }
-    ensures { (at : ℕ) × (after : Lane) × (at < length lanes.old) × (lanes.new ≡ slice_set lanes.old at after) ×
-        IsPushed row (slice_index_or lanes.old at after) after }
+    ensures within { result < length lanes.old }
+    ensures pushed { (after : Lane) × (lanes.new ≡ slice_set lanes.old result after) ×
+        IsPushed row (slice_index_or lanes.old result after) after }
 {
     let at = lane_for(lanes, &row);
     let lane = &mut lanes[at];
     lane.push(row);
+    at
 }
 
 /// Of the best row so far, where one is there, and the rows of the lane at that index the one that goes first of those
@@ -192,6 +196,9 @@ fn sooner(lanes: &[Lane], at: usize, now: Moment, best: Option<Spot>) -> Option<
         IsSoonestOf (is_ready now) (rows ++ (slice_index_or lanes.now at d).rows) (row_of result) }
 {
     let lane = &lanes[at];
+    if lane.is_behind(&best) {
+        return best;
+    }
     let low = lane.first_waiting();
     let index = lane.first_ready(low, now, &spot::row_of(&best));
     match lane.get(index) {
@@ -241,6 +248,9 @@ fn better(
         IsSoonestOf (is_choice (matches selector.now) table.now now) (rows ++ (slice_index_or lanes.now at d).rows) (row_of result) }
 {
     let lane = &lanes[at];
+    if lane.is_behind(&best) {
+        return best;
+    }
     let low = lane.first_waiting();
     let index = lane.first_choice(low, table, now, selector, &spot::row_of(&best));
     match lane.get(index) {

@@ -6,8 +6,8 @@
 //!
 //! `Table` is seen as its messages by place with the number of their holders; a message goes with its last holder.
 //! `Held` is seen as the list of its rows by place, with limit, missed count and room; inside they stand in thirty
-//! lanes, made when room is first made for a row, of which nothing is said outside; where there are no rows, none is
-//! looked at.
+//! lanes, made when room is first made for a row, of which nothing is said outside. Where there are no rows, none is
+//! looked at, and else none but those between the first and the last that got a row since there were none.
 //!
 //! A row waits, or is out to a session through one of its consumers, and `add` takes it in either state, behind all
 //! others; rows in both states count at the limit, where a row is missed instead and counted. `add`, `take`,
@@ -40,8 +40,10 @@ mod lane;
 mod lanes;
 mod receivers;
 mod row;
+mod span;
 mod spot;
 mod table;
+mod used;
 mod walks;
 
 pub use held::{Held, Taken};

@@ -141,8 +141,8 @@ impl Table {
         }
     }
 
-    /// One holder less of the message at that place. The message is handed out where this was the
-    /// last one. Takes no memory.
+    /// One holder less of the message at that place, which is looked up once. The message is handed out where this
+    /// was the last one. Takes no memory.
     pub fn release(&mut self, place: u64) -> Option<Message>
         requires { 0 < holders_of self.old place }
         ensures result { result ≡ last_message self.old place }
@@ -150,12 +150,13 @@ impl Table {
         ensures messages { KeepsMessages self.old self.new }
         ensures room { self.old.spare ≤ self.new.spare }
     {
-        if self.holders(place) == 1 {
-            return self.take(place);
+        let (index, _, stored) = self.messages.get_full(&place)?;
+        if stored.holders == 1 {
+            let (_, last) = self.messages.swap_remove_index(index)?;
+            return Some(last.message);
         }
-        if let Some(stored) = self.messages.get_mut(&place) {
-            stored.holders -= 1;
-        }
+        let stored = self.messages.get_index_mut(index)?;
+        stored.holders -= 1;
         None
     }
 
@@ -166,19 +167,5 @@ impl Table {
         ensures messages { KeepsMessages self.old self.new }
     {
         let _ = self.release(place);
-    }
-
-    /// The message at that place, with all its holders.
-    fn take(&mut self, place: u64) -> Option<Message>
-        ensures result { result ≡ message_of self.old place }
-        ensures gone { message_of self.new place ≡ None }
-        ensures holders { (p : ℕ) → p ≢ place → holders_of self.new p ≡ holders_of self.old p }
-        ensures messages { KeepsMessages self.old self.new }
-        ensures room { self.old.spare ≤ self.new.spare }
-    {
-        match self.messages.swap_remove(&place) {
-            Some(stored) => Some(stored.message),
-            None => None,
-        }
     }
 }

@@ -98,13 +98,14 @@ pub(crate) fn first_ready(
         is_ready_before best.now now (slice_index_or rows.now.items result d) ≡ true }
 {
     for i in low..rows.len() {
-        if !rows[i].goes_before(best) {
+        let row = &rows[i];
+        if !row.goes_before(best) {
             return rows.len();
         }
-        if rows[i].holds_back_rest(now, in_turn) {
+        if row.holds_back_rest(now, in_turn) {
             return rows.len();
         }
-        if rows[i].is_ready(now) {
+        if row.is_ready(now) {
             return i;
         }
     }
@@ -150,13 +151,14 @@ pub(crate) fn first_choice(
         is_better best.now (matches selector.now) table.now now (slice_index_or rows.now.items result d) ≡ true }
 {
     for i in low..rows.len() {
-        if !rows[i].goes_before(best) {
+        let row = &rows[i];
+        if !row.goes_before(best) {
             return rows.len();
         }
-        if rows[i].holds_back_rest(now, in_turn) {
+        if row.holds_back_rest(now, in_turn) {
             return rows.len();
         }
-        if rows[i].is_choice(table, now, selector) {
+        if row.is_choice(table, now, selector) {
             return i;
         }
     }

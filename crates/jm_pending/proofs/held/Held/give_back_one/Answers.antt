@@ -5,18 +5,17 @@ use Rattle.jm_pending.specs.Rows.{is_among, back}
 use Rattle.jm_pending.specs.Lanes.{rows_of}
 use Rattle.jm_pending.proofs.Keeping.{held_map}
 use Rattle.jm_pending.proofs.Receiving.{known_back_same}
-use Rattle.jm_pending.proofs.Written.{written}
 use Rattle.std.proofs.lemmas.List.{length-map}
 use Rattle.jm_pending.proofs.held.Held.give_back_one.Goals as goal
 
 pub invariant_of-self : goal.invariant_of-self
 invariant_of-self c =
-    let kept = held_map _ (back_place _) (back_priority _) c.self.inside.lanes.items c.give_back.new.lanes c.self.inside.room c.self.invariant.0 (rw c.deref_mut.ensures.value at c.give_back.ensures) in
-    rw (written _ _ _ _ c.deref_mut.ensures.value c.deref_mut.ensures.len c.give_back.ensures.len) (kept.0, known_back_same (is_among (Through c.args.session c.args.consumer c.args.place)) c.self.inside.receivers (rows_of c.self.inside.lanes.items) (rows_of c.give_back.new.lanes) kept.1 c.self.invariant.1, c.self.invariant.2 ∙ sym (ap length kept.1 ∙ length-map (rows_of c.self.inside.lanes.items) (back (is_among (Through c.args.session c.args.consumer c.args.place)))))
+    let kept = held_map _ (back_place _) (back_priority _) c.self.inside.lanes c.give_back.new.self c.self.inside.room c.self.invariant.0 c.give_back.ensures in
+    (kept.0, known_back_same (is_among (Through c.args.session c.args.consumer c.args.place)) c.self.inside.receivers (rows_of c.self.inside.lanes) (rows_of c.give_back.new.self) kept.1 c.self.invariant.1, c.self.invariant.2 ∙ sym (ap length kept.1 ∙ length-map (rows_of c.self.inside.lanes) (back (is_among (Through c.args.session c.args.consumer c.args.place)))))
 
 pub returns : goal.returns
 returns c =
-    rw (← c.self.view_is, written _ _ _ _ c.deref_mut.ensures.value c.deref_mut.ensures.len c.give_back.ensures.len, (held_map _ (back_place _) (back_priority _) c.self.inside.lanes.items c.give_back.new.lanes c.self.inside.room c.self.invariant.0 (rw c.deref_mut.ensures.value at c.give_back.ensures)).1) refl
+    rw (← c.self.view_is, (held_map _ (back_place _) (back_priority _) c.self.inside.lanes c.give_back.new.self c.self.inside.room c.self.invariant.0 c.give_back.ensures).1) refl
 
 pub returns-then-is_empty : goal.returns-then-is_empty
 returns-then-is_empty c =

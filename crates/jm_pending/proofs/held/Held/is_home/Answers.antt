@@ -5,10 +5,10 @@ use Rattle.jm_pending.proofs.held.Held.is_home.Goals as goal
 
 pub returns-then-is_nobody : goal.returns-then-is_nobody
 returns-then-is_nobody c =
-    rw (← c.self.view_is) (c.if-is_nobody.true ∙ sym (home_known c.self.inside.receivers (rows_of c.self.inside.lanes.items) (c.is_nobody.ensures c.if-is_nobody.true) c.self.invariant.1))
+    rw (← c.self.view_is) (c.if-is_nobody.true ∙ sym (home_known c.self.inside.receivers (rows_of c.self.inside.lanes) (c.is_nobody.ensures c.if-is_nobody.true) c.self.invariant.1))
 
 pub returns-else-is_nobody : goal.returns-else-is_nobody
-returns-else-is_nobody c = rw (← c.self.view_is) ((rw c.deref.ensures.value at c.are_home.ensures) ∙ sym (home_shown c.self.inside.lanes.items))
+returns-else-is_nobody c = rw (← c.self.view_is) (c.are_home.ensures ∙ sym (home_shown c.self.inside.lanes))
 
 pub returns-then-is_empty : goal.returns-then-is_empty
 returns-then-is_empty c = rw (c.is_empty.ensures c.if-is_empty.true) refl

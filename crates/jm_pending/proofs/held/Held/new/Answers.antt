@@ -7,5 +7,5 @@ use Rattle.jm_pending.proofs.held.Held.new.Goals as goal
 
 pub invariant_of-result : goal.invariant_of-result
 invariant_of-result c =
-    let none = c.new.ensures.items in
+    let none = c.new.ensures in
     (rw none none_held, known_no_rows Nobody _ (ap rows_of none), rw none refl)

@@ -10,11 +10,11 @@ use Rattle.jm_pending.proofs.held.Held.out_from.Goals as goal
 
 pub returns-then-include-clause-place : goal.returns-then-include-clause-place
 returns-then-include-clause-place c =
-    rw (rw c.deref.ensures.value at c.out_from.ensures) (find_has (λ (r : Row). r.place < long_end) (out_from c.args.place (are_meant c.args.which.now)) (rows_of c.self.inside.lanes.items) (all_sorted (λ (r : Row). r.place < long_end) (all_rows c.self.inside.lanes.items) c.self.invariant.0.bounded))
+    rw c.out_from.ensures (find_has (λ (r : Row). r.place < long_end) (out_from c.args.place (are_meant c.args.which.now)) (rows_of c.self.inside.lanes) (all_sorted (λ (r : Row). r.place < long_end) (all_rows c.self.inside.lanes) c.self.invariant.0.bounded))
 
 pub returns-else-include-clause-row : goal.returns-else-include-clause-row
 returns-else-include-clause-row c =
-    rw (← c.self.view_is) (none_out (are_meant c.args.which.now) c.args.place c.self.inside.receivers (rows_of c.self.inside.lanes.items) (c.include.ensures c.if-include.false) c.self.invariant.1)
+    rw (← c.self.view_is) (none_out (are_meant c.args.which.now) c.args.place c.self.inside.receivers (rows_of c.self.inside.lanes) (c.include.ensures c.if-include.false) c.self.invariant.1)
 
 pub returns-then-is_empty-clause-row : goal.returns-then-is_empty-clause-row
 returns-then-is_empty-clause-row c =

@@ -1,7 +1,6 @@
 use Rattle.std.proofs.Common.{◌<◌, length, refl, ◌∙◌, arith, ap, sym}
 use Rattle.jm_pending.proofs.Keeping.{held_same, held_room}
 use Rattle.jm_pending.proofs.Receiving.{known_same}
-use Rattle.jm_pending.proofs.Written.{written}
 use Rattle.jm_pending.proofs.held.Held.reserve.Goals as goal
 
 pub invariant_of-self : goal.invariant_of-self
@@ -13,25 +12,25 @@ returns-in_err-make-clause-same c = rw (← c.self.view_is, c.make.ensures.rows)
 pub invariant_of-self-in_err-reserve : goal.invariant_of-self-in_err-reserve
 invariant_of-self-in_err-reserve c =
     let made = c.make.ensures.held c.self.inside.room c.self.invariant.0 in
-    let kept = held_same c.make.new.lanes.items c.reserve.new.lanes c.self.inside.room made (rw c.deref_mut.ensures.value at c.reserve.ensures.same) in
-    rw (written _ _ _ _ c.deref_mut.ensures.value c.deref_mut.ensures.len c.reserve.ensures.same.len) (kept.0, known_same _ _ _ (kept.1 ∙ c.make.ensures.rows) c.self.invariant.1, c.self.invariant.2 ∙ sym (ap length (kept.1 ∙ c.make.ensures.rows)))
+    let kept = held_same c.make.new.self c.reserve.new.self c.self.inside.room made c.reserve.ensures.same in
+    (kept.0, known_same _ _ _ (kept.1 ∙ c.make.ensures.rows) c.self.invariant.1, c.self.invariant.2 ∙ sym (ap length (kept.1 ∙ c.make.ensures.rows)))
 
 pub returns-in_err-reserve-clause-same : goal.returns-in_err-reserve-clause-same
 returns-in_err-reserve-clause-same c =
     let made = c.make.ensures.held c.self.inside.room c.self.invariant.0 in
-    let kept = held_same c.make.new.lanes.items c.reserve.new.lanes c.self.inside.room made (rw c.deref_mut.ensures.value at c.reserve.ensures.same) in
-    rw (← c.self.view_is, written _ _ _ _ c.deref_mut.ensures.value c.deref_mut.ensures.len c.reserve.ensures.same.len, kept.1, c.make.ensures.rows) refl
+    let kept = held_same c.make.new.self c.reserve.new.self c.self.inside.room made c.reserve.ensures.same in
+    rw (← c.self.view_is, kept.1, c.make.ensures.rows) refl
 
 pub invariant_of-self-2 : goal.invariant_of-self-2
 invariant_of-self-2 c =
     let made = c.make.ensures.held c.self.inside.room c.self.invariant.0 in
-    let same = rw c.deref_mut.ensures.value at c.reserve.ensures.same in
-    let kept = held_same c.make.new.lanes.items c.reserve.new.lanes c.self.inside.room made same in
-    let there : 0 < length c.reserve.new.lanes = omega (arith, same.len, c.in_ok-make.ensures.there) in
-    rw (written _ _ _ _ c.deref_mut.ensures.value c.deref_mut.ensures.len c.reserve.ensures.same.len) (held_room c.reserve.new.lanes c.self.inside.room c.args.additional kept.0 there c.in_ok-reserve.ensures.ok, known_same _ _ _ (kept.1 ∙ c.make.ensures.rows) c.self.invariant.1, c.self.invariant.2 ∙ sym (ap length (kept.1 ∙ c.make.ensures.rows)))
+    let same = c.reserve.ensures.same in
+    let kept = held_same c.make.new.self c.reserve.new.self c.self.inside.room made same in
+    let there : 0 < length c.reserve.new.self = omega (arith, same.len, c.in_ok-make.ensures.there) in
+    (held_room c.reserve.new.self c.self.inside.room c.args.additional kept.0 there c.in_ok-reserve.ensures.ok, known_same _ _ _ (kept.1 ∙ c.make.ensures.rows) c.self.invariant.1, c.self.invariant.2 ∙ sym (ap length (kept.1 ∙ c.make.ensures.rows)))
 
 pub returns-clause-same : goal.returns-clause-same
 returns-clause-same c =
     let made = c.make.ensures.held c.self.inside.room c.self.invariant.0 in
-    let kept = held_same c.make.new.lanes.items c.reserve.new.lanes c.self.inside.room made (rw c.deref_mut.ensures.value at c.reserve.ensures.same) in
-    rw (← c.self.view_is, written _ _ _ _ c.deref_mut.ensures.value c.deref_mut.ensures.len c.reserve.ensures.same.len, kept.1, c.make.ensures.rows) refl
+    let kept = held_same c.make.new.self c.reserve.new.self c.self.inside.room made c.reserve.ensures.same in
+    rw (← c.self.view_is, kept.1, c.make.ensures.rows) refl

@@ -8,7 +8,7 @@ use Rattle.jm_pending.proofs.held.Held.row_from.Goals as goal
 
 pub returns-clause-place : goal.returns-clause-place
 returns-clause-place c =
-    rw (rw c.deref.ensures.value at c.row_from.ensures) (find_has (λ (r : Row). r.place < long_end) (is_from c.args.place) (rows_of c.self.inside.lanes.items) (all_sorted (λ (r : Row). r.place < long_end) (all_rows c.self.inside.lanes.items) c.self.invariant.0.bounded))
+    rw c.row_from.ensures (find_has (λ (r : Row). r.place < long_end) (is_from c.args.place) (rows_of c.self.inside.lanes) (all_sorted (λ (r : Row). r.place < long_end) (all_rows c.self.inside.lanes) c.self.invariant.0.bounded))
 
 pub returns-then-is_empty-clause-row : goal.returns-then-is_empty-clause-row
 returns-then-is_empty-clause-row c =

@@ -6,7 +6,6 @@ use Rattle.jm_pending.specs.Lanes.{rows_of}
 use Rattle.jm_pending.proofs.Holding.{covers_all, follows_all}
 use Rattle.jm_pending.proofs.Keeping.{held_filter}
 use Rattle.jm_pending.proofs.Receiving.{known_left, none_go, follows_still, known_no_rows}
-use Rattle.jm_pending.proofs.Written.{written}
 use Rattle.jm_pending.proofs.Pushing.{few_rows}
 use Rattle.jm_pending.proofs.Shown.{length_shown}
 use Rattle.jm_pending.specs.declared.receivers.Receivers.TheVariants.{Nobody}
@@ -14,25 +13,25 @@ use Rattle.jm_pending.proofs.held.Held.settle.Goals as goal
 
 pub invariant_of-self-then-include : goal.invariant_of-self-then-include
 invariant_of-self-then-include c =
-    let kept = held_filter (keeps (Of c.args.which.now)) c.self.inside.lanes.items c.settle-self-inside.new.lanes c.self.inside.room c.self.invariant.0 (rw c.deref_mut.ensures.value at c.settle-self-inside.ensures.rows) in
-    rw (written _ _ _ _ c.deref_mut.ensures.value c.deref_mut.ensures.len c.settle-self-inside.ensures.rows.len) (kept.0, known_left (are_meant c.args.which.now) c.self.inside.receivers c.without-self-inside.result (rows_of c.self.inside.lanes.items) (rows_of c.settle-self-inside.new.lanes) kept.1 c.without-self-inside.ensures c.self.invariant.1, c.settle-self-inside.ensures.left ∙ sym (length_shown c.settle-self-inside.new.lanes))
+    let kept = held_filter (keeps (Of c.args.which.now)) c.self.inside.lanes c.settle-self-inside.new.self c.self.inside.room c.self.invariant.0 c.settle-self-inside.ensures.rows in
+    (kept.0, known_left (are_meant c.args.which.now) c.self.inside.receivers c.without-self-inside.result (rows_of c.self.inside.lanes) (rows_of c.settle-self-inside.new.self) kept.1 c.without-self-inside.ensures c.self.invariant.1, c.settle-self-inside.ensures.left ∙ sym (length_shown c.settle-self-inside.new.self))
 
 pub settle-self-inside-requires-clause-covered : goal.settle-self-inside-requires-clause-covered
-settle-self-inside-requires-clause-covered c = rw c.deref_mut.ensures.value (covers_all c.args.table.now c.self.inside.lanes.items (rw (← c.self.view_is) at c.requires))
+settle-self-inside-requires-clause-covered c = covers_all c.args.table.now c.self.inside.lanes (rw (← c.self.view_is) at c.requires)
 
 pub returns-then-include-clause-rows : goal.returns-then-include-clause-rows
 returns-then-include-clause-rows c =
-    rw (← c.self.view_is, written _ _ _ _ c.deref_mut.ensures.value c.deref_mut.ensures.len c.settle-self-inside.ensures.rows.len, (held_filter (keeps (Of c.args.which.now)) c.self.inside.lanes.items c.settle-self-inside.new.lanes c.self.inside.room c.self.invariant.0 (rw c.deref_mut.ensures.value at c.settle-self-inside.ensures.rows)).1) refl
+    rw (← c.self.view_is, (held_filter (keeps (Of c.args.which.now)) c.self.inside.lanes c.settle-self-inside.new.self c.self.inside.room c.self.invariant.0 c.settle-self-inside.ensures.rows).1) refl
 
 pub returns-then-include-clause-table : goal.returns-then-include-clause-table
-returns-then-include-clause-table c = rw (← c.self.view_is, written _ _ _ _ c.deref_mut.ensures.value c.deref_mut.ensures.len c.settle-self-inside.ensures.rows.len) (follows_all c.args.table.now c.settle-self-inside.new.table c.self.inside.lanes.items c.settle-self-inside.new.lanes (rw c.deref_mut.ensures.value at c.settle-self-inside.ensures.table))
+returns-then-include-clause-table c = rw (← c.self.view_is) (follows_all c.args.table.now c.settle-self-inside.new.table c.self.inside.lanes c.settle-self-inside.new.self c.settle-self-inside.ensures.table)
 
 pub returns-else-include-clause-rows : goal.returns-else-include-clause-rows
 returns-else-include-clause-rows c =
-    rw (← c.self.view_is, none_go (are_meant c.args.which.now) c.self.inside.receivers (rows_of c.self.inside.lanes.items) (c.include.ensures c.if-include.false) c.self.invariant.1) refl
+    rw (← c.self.view_is, none_go (are_meant c.args.which.now) c.self.inside.receivers (rows_of c.self.inside.lanes) (c.include.ensures c.if-include.false) c.self.invariant.1) refl
 
 pub settle-self-inside-requires-clause-few : goal.settle-self-inside-requires-clause-few
-settle-self-inside-requires-clause-few c = rw c.deref_mut.ensures.value (omega (arith, few_rows c.self.inside.lanes.items c.self.inside.room c.self.invariant.0))
+settle-self-inside-requires-clause-few c = omega (arith, few_rows c.self.inside.lanes c.self.inside.room c.self.invariant.0)
 
 pub returns-then-is_empty-clause-rows : goal.returns-then-is_empty-clause-rows
 returns-then-is_empty-clause-rows c =
@@ -45,4 +44,4 @@ returns-then-is_empty-clause-table c = rw (← c.self.view_is) (follows_still _ 
 pub invariant_of-self : goal.invariant_of-self
 invariant_of-self c =
     let none = rw (← c.self.view_is) at (c.is_empty.ensures c.if-is_empty.true) in
-    (c.self.invariant.0, known_no_rows Nobody (rows_of c.self.inside.lanes.items) none, c.self.invariant.2)
+    (c.self.invariant.0, known_no_rows Nobody (rows_of c.self.inside.lanes) none, c.self.invariant.2)

@@ -3,37 +3,35 @@ use Rattle.jm_pending.specs.Rows.{next}
 use Rattle.jm_pending.specs.Lanes.{rows_of}
 use Rattle.jm_pending.proofs.Holding.{covers_all, follows_taken}
 use Rattle.jm_pending.proofs.Taking.{dropped_apart, known_out, next_ready, sent_held}
-use Rattle.jm_pending.proofs.Written.{sent_lanes, written}
 use Rattle.jm_pending.proofs.Pushing.{few_rows}
 use Rattle.jm_pending.proofs.Receiving.{follows_still}
 use Rattle.jm_pending.proofs.Number.{sent_number}
 use Rattle.jm_pending.proofs.held.Held.take.Goals as goal
 
 pub take_first-requires : goal.take_first-requires
-take_first-requires c = rw (rw (written _ _ _ _ c.deref_mut.ensures.value c.deref_mut.ensures.len c.drop_expired-self-inside.ensures.rows.len) at c.deref_mut-2.ensures.value) (dropped_apart c.args.now c.self.inside.lanes.items c.drop_expired-self-inside.new.lanes c.self.inside.room c.self.invariant.0 (rw c.deref_mut.ensures.value at c.drop_expired-self-inside.ensures.rows))
+take_first-requires c = dropped_apart c.args.now c.self.inside.lanes c.drop_expired-self-inside.new.self c.self.inside.room c.self.invariant.0 c.drop_expired-self-inside.ensures.rows
 
 pub invariant_of-self : goal.invariant_of-self
-invariant_of-self c =
-    rw (written _ _ _ _ c.deref_mut.ensures.value c.deref_mut.ensures.len c.drop_expired-self-inside.ensures.rows.len, written _ _ _ _ (rw (written _ _ _ _ c.deref_mut.ensures.value c.deref_mut.ensures.len c.drop_expired-self-inside.ensures.rows.len) at c.deref_mut-2.ensures.value) c.deref_mut-2.ensures.len (sent_lanes _ _ _ _ _ _ c.take_first.ensures.2)) (
-      (sent_held c.args.now c.args.session c.args.consumer c.self.inside.lanes.items c.drop_expired-self-inside.new.lanes c.take_first.new.lanes c.self.inside.room c.take_first.result c.take_first.ensures.0 (λ rows. record { rows = rows; limit = c.self.inside.limit; missed = c.self.inside.missed; room = c.self.inside.room }) c.self.invariant.0 (rw c.deref_mut.ensures.value at c.drop_expired-self-inside.ensures.rows) (rw (rw (written _ _ _ _ c.deref_mut.ensures.value c.deref_mut.ensures.len c.drop_expired-self-inside.ensures.rows.len) at c.deref_mut-2.ensures.value) at c.take_first.ensures.2)).0,
-      known_out c.self.inside.receivers c.with_one-self-inside.result c.args.now c.args.session c.args.consumer c.self.inside.lanes.items c.drop_expired-self-inside.new.lanes c.take_first.new.lanes c.self.inside.room c.take_first.result c.take_first.ensures.0 c.self.invariant.0 c.self.invariant.1 c.with_one-self-inside.ensures.row c.with_one-self-inside.ensures.others (rw c.deref_mut.ensures.value at c.drop_expired-self-inside.ensures.rows) (rw (rw (written _ _ _ _ c.deref_mut.ensures.value c.deref_mut.ensures.len c.drop_expired-self-inside.ensures.rows.len) at c.deref_mut-2.ensures.value) at c.take_first.ensures.2),
-      c.drop_expired-self-inside.ensures.left ∙ sym (sent_number c.args.session c.args.consumer c.drop_expired-self-inside.new.lanes c.take_first.new.lanes c.take_first.result c.take_first.ensures.0 (rw (rw (written _ _ _ _ c.deref_mut.ensures.value c.deref_mut.ensures.len c.drop_expired-self-inside.ensures.rows.len) at c.deref_mut-2.ensures.value) at c.take_first.ensures.2)),
-    )
+invariant_of-self c = (
+  (sent_held c.args.now c.args.session c.args.consumer c.self.inside.lanes c.drop_expired-self-inside.new.self c.take_first.new.self c.self.inside.room c.take_first.result c.take_first.ensures.0 (λ rows. record { rows = rows; limit = c.self.inside.limit; missed = c.self.inside.missed; room = c.self.inside.room }) c.self.invariant.0 c.drop_expired-self-inside.ensures.rows c.take_first.ensures.2).0,
+  known_out c.self.inside.receivers c.with_one-self-inside.result c.args.now c.args.session c.args.consumer c.self.inside.lanes c.drop_expired-self-inside.new.self c.take_first.new.self c.self.inside.room c.take_first.result c.take_first.ensures.0 c.self.invariant.0 c.self.invariant.1 c.with_one-self-inside.ensures.row c.with_one-self-inside.ensures.others c.drop_expired-self-inside.ensures.rows c.take_first.ensures.2,
+  c.drop_expired-self-inside.ensures.left ∙ sym (sent_number c.args.session c.args.consumer c.drop_expired-self-inside.new.self c.take_first.new.self c.take_first.result c.take_first.ensures.0 c.take_first.ensures.2),
+)
 
 pub drop_expired-self-inside-requires-clause-covered : goal.drop_expired-self-inside-requires-clause-covered
-drop_expired-self-inside-requires-clause-covered c = rw c.deref_mut.ensures.value (covers_all c.args.table.now c.self.inside.lanes.items (rw (← c.self.view_is) at c.requires))
+drop_expired-self-inside-requires-clause-covered c = covers_all c.args.table.now c.self.inside.lanes (rw (← c.self.view_is) at c.requires)
 
 pub returns-clause-rows : goal.returns-clause-rows
 returns-clause-rows c =
-    let first : next c.args.now (rows_of c.self.inside.lanes.items) ≡ c.take_first.ensures.0 = next_ready c.args.now c.self.inside.lanes.items c.drop_expired-self-inside.new.lanes c.self.inside.room c.take_first.ensures.0 c.self.invariant.0 (rw c.deref_mut.ensures.value at c.drop_expired-self-inside.ensures.rows) (rw (rw (written _ _ _ _ c.deref_mut.ensures.value c.deref_mut.ensures.len c.drop_expired-self-inside.ensures.rows.len) at c.deref_mut-2.ensures.value) at c.take_first.ensures.1) in
-    rw (← c.self.view_is, written _ _ _ _ c.deref_mut.ensures.value c.deref_mut.ensures.len c.drop_expired-self-inside.ensures.rows.len, written _ _ _ _ (rw (written _ _ _ _ c.deref_mut.ensures.value c.deref_mut.ensures.len c.drop_expired-self-inside.ensures.rows.len) at c.deref_mut-2.ensures.value) c.deref_mut-2.ensures.len (sent_lanes _ _ _ _ _ _ c.take_first.ensures.2), first) (sent_held c.args.now c.args.session c.args.consumer c.self.inside.lanes.items c.drop_expired-self-inside.new.lanes c.take_first.new.lanes c.self.inside.room c.take_first.result c.take_first.ensures.0 (λ rows. record { rows = rows; limit = c.self.inside.limit; missed = c.self.inside.missed; room = c.self.inside.room }) c.self.invariant.0 (rw c.deref_mut.ensures.value at c.drop_expired-self-inside.ensures.rows) (rw (rw (written _ _ _ _ c.deref_mut.ensures.value c.deref_mut.ensures.len c.drop_expired-self-inside.ensures.rows.len) at c.deref_mut-2.ensures.value) at c.take_first.ensures.2)).1
+    let first : next c.args.now (rows_of c.self.inside.lanes) ≡ c.take_first.ensures.0 = next_ready c.args.now c.self.inside.lanes c.drop_expired-self-inside.new.self c.self.inside.room c.take_first.ensures.0 c.self.invariant.0 c.drop_expired-self-inside.ensures.rows c.take_first.ensures.1 in
+    rw (← c.self.view_is, first) (sent_held c.args.now c.args.session c.args.consumer c.self.inside.lanes c.drop_expired-self-inside.new.self c.take_first.new.self c.self.inside.room c.take_first.result c.take_first.ensures.0 (λ rows. record { rows = rows; limit = c.self.inside.limit; missed = c.self.inside.missed; room = c.self.inside.room }) c.self.invariant.0 c.drop_expired-self-inside.ensures.rows c.take_first.ensures.2).1
 
 pub returns-clause-table : goal.returns-clause-table
 returns-clause-table c =
-    rw (← c.self.view_is, written _ _ _ _ c.deref_mut.ensures.value c.deref_mut.ensures.len c.drop_expired-self-inside.ensures.rows.len, written _ _ _ _ (rw (written _ _ _ _ c.deref_mut.ensures.value c.deref_mut.ensures.len c.drop_expired-self-inside.ensures.rows.len) at c.deref_mut-2.ensures.value) c.deref_mut-2.ensures.len (sent_lanes _ _ _ _ _ _ c.take_first.ensures.2)) (follows_taken c.args.table.now c.drop_expired-self-inside.new.table c.args.session c.args.consumer c.self.inside.lanes.items c.drop_expired-self-inside.new.lanes c.take_first.new.lanes c.take_first.result c.take_first.ensures.0 (rw (rw (written _ _ _ _ c.deref_mut.ensures.value c.deref_mut.ensures.len c.drop_expired-self-inside.ensures.rows.len) at c.deref_mut-2.ensures.value) at c.take_first.ensures.2) (rw c.deref_mut.ensures.value at c.drop_expired-self-inside.ensures.table))
+    rw (← c.self.view_is) (follows_taken c.args.table.now c.drop_expired-self-inside.new.table c.args.session c.args.consumer c.self.inside.lanes c.drop_expired-self-inside.new.self c.take_first.new.self c.take_first.result c.take_first.ensures.0 c.take_first.ensures.2 c.drop_expired-self-inside.ensures.table)
 
 pub drop_expired-self-inside-requires-clause-few : goal.drop_expired-self-inside-requires-clause-few
-drop_expired-self-inside-requires-clause-few c = rw c.deref_mut.ensures.value (omega (arith, few_rows c.self.inside.lanes.items c.self.inside.room c.self.invariant.0))
+drop_expired-self-inside-requires-clause-few c = omega (arith, few_rows c.self.inside.lanes c.self.inside.room c.self.invariant.0)
 
 pub returns-then-is_empty-clause-rows : goal.returns-then-is_empty-clause-rows
 returns-then-is_empty-clause-rows c =

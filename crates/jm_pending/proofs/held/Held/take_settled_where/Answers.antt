@@ -10,80 +10,77 @@ use Rattle.jm_pending.proofs.Edited.{all_rows_each}
 use Rattle.jm_pending.proofs.Holding.{covers_all, covers_after, first_holder, first_message, first_settled, follows_all, follows_then, filter_count}
 use Rattle.jm_pending.proofs.Places.{apart_from_rising}
 use Rattle.jm_pending.proofs.Taking.{dropped, dropped_apart, known_left_over, left_all, next_chosen, none_taken, removed_held, some_taken, taken_out}
-use Rattle.jm_pending.proofs.Written.{removed_lanes, written}
 use Rattle.jm_pending.proofs.Pushing.{few_rows}
 use Rattle.jm_pending.proofs.Receiving.{follows_still}
 use Rattle.jm_pending.proofs.Number.{kept_number, removed_number}
 use Rattle.jm_pending.proofs.held.Held.take_settled_where.Goals as goal
 
 pub drop_expired-self-inside-requires-clause-covered : goal.drop_expired-self-inside-requires-clause-covered
-drop_expired-self-inside-requires-clause-covered c = rw c.deref_mut.ensures.value (covers_all c.args.table.now c.self.inside.lanes.items (rw (← c.self.view_is) at c.requires))
+drop_expired-self-inside-requires-clause-covered c = covers_all c.args.table.now c.self.inside.lanes (rw (← c.self.view_is) at c.requires)
 
 pub remove_where-requires : goal.remove_where-requires
-remove_where-requires c = rw (rw (written _ _ _ _ c.deref_mut.ensures.value c.deref_mut.ensures.len c.drop_expired-self-inside.ensures.rows.len) at c.deref_mut-2.ensures.value) (dropped_apart c.args.now c.self.inside.lanes.items c.drop_expired-self-inside.new.lanes c.self.inside.room c.self.invariant.0 (rw c.deref_mut.ensures.value at c.drop_expired-self-inside.ensures.rows))
+remove_where-requires c = dropped_apart c.args.now c.self.inside.lanes c.drop_expired-self-inside.new.self c.self.inside.room c.self.invariant.0 c.drop_expired-self-inside.ensures.rows
 
 pub invariant_of-self : goal.invariant_of-self
-invariant_of-self c =
-    rw (written _ _ _ _ c.deref_mut.ensures.value c.deref_mut.ensures.len c.drop_expired-self-inside.ensures.rows.len, written _ _ _ _ (rw (written _ _ _ _ c.deref_mut.ensures.value c.deref_mut.ensures.len c.drop_expired-self-inside.ensures.rows.len) at c.deref_mut-2.ensures.value) c.deref_mut-2.ensures.len (removed_lanes _ _ _ _ c.remove_where.ensures.2)) (
-      (removed_held c.args.now c.self.inside.lanes.items c.drop_expired-self-inside.new.lanes c.remove_where.new.lanes c.self.inside.room c.remove_where.result c.remove_where.ensures.0 c.self.invariant.0 (rw c.deref_mut.ensures.value at c.drop_expired-self-inside.ensures.rows) (rw (rw (written _ _ _ _ c.deref_mut.ensures.value c.deref_mut.ensures.len c.drop_expired-self-inside.ensures.rows.len) at c.deref_mut-2.ensures.value) at c.remove_where.ensures.2)).0,
-      known_left_over c.self.inside.receivers c.args.now c.self.inside.lanes.items c.drop_expired-self-inside.new.lanes c.remove_where.new.lanes c.self.inside.room c.remove_where.result c.remove_where.ensures.0 c.self.invariant.0 c.self.invariant.1 (rw c.deref_mut.ensures.value at c.drop_expired-self-inside.ensures.rows) (rw (rw (written _ _ _ _ c.deref_mut.ensures.value c.deref_mut.ensures.len c.drop_expired-self-inside.ensures.rows.len) at c.deref_mut-2.ensures.value) at c.remove_where.ensures.2),
-      c.drop_expired-self-inside.ensures.left ∙ sym (kept_number c.remove_where.result c.remove_where.ensures.0 c.drop_expired-self-inside.new.lanes c.remove_where.new.lanes (rw (rw (written _ _ _ _ c.deref_mut.ensures.value c.deref_mut.ensures.len c.drop_expired-self-inside.ensures.rows.len) at c.deref_mut-2.ensures.value) at c.remove_where.ensures.2) c.in_err-row.was),
-    )
+invariant_of-self c = (
+  (removed_held c.args.now c.self.inside.lanes c.drop_expired-self-inside.new.self c.remove_where.new.self c.self.inside.room c.remove_where.result c.remove_where.ensures.0 c.self.invariant.0 c.drop_expired-self-inside.ensures.rows c.remove_where.ensures.2).0,
+  known_left_over c.self.inside.receivers c.args.now c.self.inside.lanes c.drop_expired-self-inside.new.self c.remove_where.new.self c.self.inside.room c.remove_where.result c.remove_where.ensures.0 c.self.invariant.0 c.self.invariant.1 c.drop_expired-self-inside.ensures.rows c.remove_where.ensures.2,
+  c.drop_expired-self-inside.ensures.left ∙ sym (kept_number c.remove_where.result c.remove_where.ensures.0 c.drop_expired-self-inside.new.self c.remove_where.new.self c.remove_where.ensures.2 c.in_err-row.was),
+)
 
 pub invariant_of-self-2 : goal.invariant_of-self-2
-invariant_of-self-2 c =
-    rw (written _ _ _ _ c.deref_mut.ensures.value c.deref_mut.ensures.len c.drop_expired-self-inside.ensures.rows.len, written _ _ _ _ (rw (written _ _ _ _ c.deref_mut.ensures.value c.deref_mut.ensures.len c.drop_expired-self-inside.ensures.rows.len) at c.deref_mut-2.ensures.value) c.deref_mut-2.ensures.len (removed_lanes _ _ _ _ c.remove_where.ensures.2)) (
-      (removed_held c.args.now c.self.inside.lanes.items c.drop_expired-self-inside.new.lanes c.remove_where.new.lanes c.self.inside.room c.remove_where.result c.remove_where.ensures.0 c.self.invariant.0 (rw c.deref_mut.ensures.value at c.drop_expired-self-inside.ensures.rows) (rw (rw (written _ _ _ _ c.deref_mut.ensures.value c.deref_mut.ensures.len c.drop_expired-self-inside.ensures.rows.len) at c.deref_mut-2.ensures.value) at c.remove_where.ensures.2)).0,
-      known_left_over c.self.inside.receivers c.args.now c.self.inside.lanes.items c.drop_expired-self-inside.new.lanes c.remove_where.new.lanes c.self.inside.room c.remove_where.result c.remove_where.ensures.0 c.self.invariant.0 c.self.invariant.1 (rw c.deref_mut.ensures.value at c.drop_expired-self-inside.ensures.rows) (rw (rw (written _ _ _ _ c.deref_mut.ensures.value c.deref_mut.ensures.len c.drop_expired-self-inside.ensures.rows.len) at c.deref_mut-2.ensures.value) at c.remove_where.ensures.2),
-      omega (arith, c.drop_expired-self-inside.ensures.left, removed_number (is_choice (matches c.args.selector.now) c.drop_expired-self-inside.new.table c.args.now) c.remove_where.result c.in_ok-row.row c.drop_expired-self-inside.new.lanes c.remove_where.new.lanes (dropped_apart c.args.now c.self.inside.lanes.items c.drop_expired-self-inside.new.lanes c.self.inside.room c.self.invariant.0 (rw c.deref_mut.ensures.value at c.drop_expired-self-inside.ensures.rows)) (rw (rw (written _ _ _ _ c.deref_mut.ensures.value c.deref_mut.ensures.len c.drop_expired-self-inside.ensures.rows.len) at c.deref_mut-2.ensures.value) at c.remove_where.ensures) c.in_ok-row.was),
-    )
+invariant_of-self-2 c = (
+  (removed_held c.args.now c.self.inside.lanes c.drop_expired-self-inside.new.self c.remove_where.new.self c.self.inside.room c.remove_where.result c.remove_where.ensures.0 c.self.invariant.0 c.drop_expired-self-inside.ensures.rows c.remove_where.ensures.2).0,
+  known_left_over c.self.inside.receivers c.args.now c.self.inside.lanes c.drop_expired-self-inside.new.self c.remove_where.new.self c.self.inside.room c.remove_where.result c.remove_where.ensures.0 c.self.invariant.0 c.self.invariant.1 c.drop_expired-self-inside.ensures.rows c.remove_where.ensures.2,
+  omega (arith, c.drop_expired-self-inside.ensures.left, removed_number (is_choice (matches c.args.selector.now) c.drop_expired-self-inside.new.table c.args.now) c.remove_where.result c.in_ok-row.row c.drop_expired-self-inside.new.self c.remove_where.new.self (dropped_apart c.args.now c.self.inside.lanes c.drop_expired-self-inside.new.self c.self.inside.room c.self.invariant.0 c.drop_expired-self-inside.ensures.rows) c.remove_where.ensures c.in_ok-row.was),
+)
 
 pub returns-in_err-row-clause-rows : goal.returns-in_err-row-clause-rows
 returns-in_err-row-clause-rows c =
-    let first : next_where (matches c.args.selector.now) c.args.table.now c.args.now (rows_of c.self.inside.lanes.items) ≡ c.remove_where.ensures.0 = next_chosen (matches c.args.selector.now) c.args.table.now c.drop_expired-self-inside.new.table c.args.now c.self.inside.lanes.items c.drop_expired-self-inside.new.lanes c.self.inside.room c.remove_where.ensures.0 c.self.invariant.0 (covers_all c.args.table.now c.self.inside.lanes.items (rw (← c.self.view_is) at c.requires)) (rw c.deref_mut.ensures.value at c.drop_expired-self-inside.ensures.rows) (rw c.deref_mut.ensures.value at c.drop_expired-self-inside.ensures.table) (rw (rw (written _ _ _ _ c.deref_mut.ensures.value c.deref_mut.ensures.len c.drop_expired-self-inside.ensures.rows.len) at c.deref_mut-2.ensures.value) at c.remove_where.ensures.1) in
-    let s = (removed_held c.args.now c.self.inside.lanes.items c.drop_expired-self-inside.new.lanes c.remove_where.new.lanes c.self.inside.room c.remove_where.result c.remove_where.ensures.0 c.self.invariant.0 (rw c.deref_mut.ensures.value at c.drop_expired-self-inside.ensures.rows) (rw (rw (written _ _ _ _ c.deref_mut.ensures.value c.deref_mut.ensures.len c.drop_expired-self-inside.ensures.rows.len) at c.deref_mut-2.ensures.value) at c.remove_where.ensures.2)).1 in
-    rw (← c.self.view_is, written _ _ _ _ c.deref_mut.ensures.value c.deref_mut.ensures.len c.drop_expired-self-inside.ensures.rows.len, written _ _ _ _ (rw (written _ _ _ _ c.deref_mut.ensures.value c.deref_mut.ensures.len c.drop_expired-self-inside.ensures.rows.len) at c.deref_mut-2.ensures.value) c.deref_mut-2.ensures.len (removed_lanes _ _ _ _ c.remove_where.ensures.2), first) (none_taken c.remove_where.ensures.0 c.remove_where.result c.from_residual.result (rows_of c.remove_where.new.lanes) (filter (stays c.args.now) (rows_of c.self.inside.lanes.items)) (λ r. filter (is_elsewhere r.place) (filter (stays c.args.now) (rows_of c.self.inside.lanes.items))) (λ r. record { row = counted r; message = last_message c.args.table.now r.place }) (λ rows. record { rows = rows; limit = c.self.inside.limit; missed = c.self.inside.missed; room = c.self.inside.room }) s c.in_err-row.was c.from_residual.ensures)
+    let first : next_where (matches c.args.selector.now) c.args.table.now c.args.now (rows_of c.self.inside.lanes) ≡ c.remove_where.ensures.0 = next_chosen (matches c.args.selector.now) c.args.table.now c.drop_expired-self-inside.new.table c.args.now c.self.inside.lanes c.drop_expired-self-inside.new.self c.self.inside.room c.remove_where.ensures.0 c.self.invariant.0 (covers_all c.args.table.now c.self.inside.lanes (rw (← c.self.view_is) at c.requires)) c.drop_expired-self-inside.ensures.rows c.drop_expired-self-inside.ensures.table c.remove_where.ensures.1 in
+    let s = (removed_held c.args.now c.self.inside.lanes c.drop_expired-self-inside.new.self c.remove_where.new.self c.self.inside.room c.remove_where.result c.remove_where.ensures.0 c.self.invariant.0 c.drop_expired-self-inside.ensures.rows c.remove_where.ensures.2).1 in
+    rw (← c.self.view_is, first) (none_taken c.remove_where.ensures.0 c.remove_where.result c.from_residual.result (rows_of c.remove_where.new.self) (filter (stays c.args.now) (rows_of c.self.inside.lanes)) (λ r. filter (is_elsewhere r.place) (filter (stays c.args.now) (rows_of c.self.inside.lanes))) (λ r. record { row = counted r; message = last_message c.args.table.now r.place }) (λ rows. record { rows = rows; limit = c.self.inside.limit; missed = c.self.inside.missed; room = c.self.inside.room }) s c.in_err-row.was c.from_residual.ensures)
 
 pub returns-in_err-row-clause-table : goal.returns-in_err-row-clause-table
 returns-in_err-row-clause-table c =
-    let same = left_all c.remove_where.result c.remove_where.ensures.0 c.drop_expired-self-inside.new.lanes c.remove_where.new.lanes (rw (rw (written _ _ _ _ c.deref_mut.ensures.value c.deref_mut.ensures.len c.drop_expired-self-inside.ensures.rows.len) at c.deref_mut-2.ensures.value) at c.remove_where.ensures.2) c.in_err-row.was in
-    rw (← c.self.view_is, written _ _ _ _ c.deref_mut.ensures.value c.deref_mut.ensures.len c.drop_expired-self-inside.ensures.rows.len, written _ _ _ _ (rw (written _ _ _ _ c.deref_mut.ensures.value c.deref_mut.ensures.len c.drop_expired-self-inside.ensures.rows.len) at c.deref_mut-2.ensures.value) c.deref_mut-2.ensures.len (removed_lanes _ _ _ _ c.remove_where.ensures.2)) (follows_all c.args.table.now c.drop_expired-self-inside.new.table c.self.inside.lanes.items c.remove_where.new.lanes (rw same (rw c.deref_mut.ensures.value at c.drop_expired-self-inside.ensures.table)))
+    let same = left_all c.remove_where.result c.remove_where.ensures.0 c.drop_expired-self-inside.new.self c.remove_where.new.self c.remove_where.ensures.2 c.in_err-row.was in
+    rw (← c.self.view_is) (follows_all c.args.table.now c.drop_expired-self-inside.new.table c.self.inside.lanes c.remove_where.new.self (rw same c.drop_expired-self-inside.ensures.table))
 
 pub release-message-requires : goal.release-message-requires
 release-message-requires c =
-    let ys = all_rows c.drop_expired-self-inside.new.lanes in
-    let apart' = dropped_apart c.args.now c.self.inside.lanes.items c.drop_expired-self-inside.new.lanes c.self.inside.room c.self.invariant.0 (rw c.deref_mut.ensures.value at c.drop_expired-self-inside.ensures.rows) in
-    let out = taken_out (is_choice (matches c.args.selector.now) c.drop_expired-self-inside.new.table c.args.now) c.remove_where.result c.in_ok-row.row c.drop_expired-self-inside.new.lanes c.remove_where.new.lanes apart' (rw (rw (written _ _ _ _ c.deref_mut.ensures.value c.deref_mut.ensures.len c.drop_expired-self-inside.ensures.rows.len) at c.deref_mut-2.ensures.value) at c.remove_where.ensures) c.in_ok-row.was in
-    let covered = covers_after c.args.table.now c.drop_expired-self-inside.new.table (all_rows c.self.inside.lanes.items) ys (covers_all c.args.table.now c.self.inside.lanes.items (rw (← c.self.view_is) at c.requires)) (rw c.deref_mut.ensures.value at c.drop_expired-self-inside.ensures.table) in
+    let ys = all_rows c.drop_expired-self-inside.new.self in
+    let apart' = dropped_apart c.args.now c.self.inside.lanes c.drop_expired-self-inside.new.self c.self.inside.room c.self.invariant.0 c.drop_expired-self-inside.ensures.rows in
+    let out = taken_out (is_choice (matches c.args.selector.now) c.drop_expired-self-inside.new.table c.args.now) c.remove_where.result c.in_ok-row.row c.drop_expired-self-inside.new.self c.remove_where.new.self apart' c.remove_where.ensures c.in_ok-row.was in
+    let covered = covers_after c.args.table.now c.drop_expired-self-inside.new.table (all_rows c.self.inside.lanes) ys (covers_all c.args.table.now c.self.inside.lanes (rw (← c.self.view_is) at c.requires)) c.drop_expired-self-inside.ensures.table in
     first_holder (is_at c.in_ok-row.row.place) c.drop_expired-self-inside.new.table ys c.in_ok-row.row apart' out.0 covered
 
 pub returns-clause-rows : goal.returns-clause-rows
 returns-clause-rows c =
-    let xs = all_rows c.self.inside.lanes.items in
-    let ys = all_rows c.drop_expired-self-inside.new.lanes in
-    let is = dropped c.args.now c.self.inside.lanes.items c.drop_expired-self-inside.new.lanes (rw c.deref_mut.ensures.value at c.drop_expired-self-inside.ensures.rows) in
-    let apart' = dropped_apart c.args.now c.self.inside.lanes.items c.drop_expired-self-inside.new.lanes c.self.inside.room c.self.invariant.0 (rw c.deref_mut.ensures.value at c.drop_expired-self-inside.ensures.rows) in
-    let out = taken_out (is_choice (matches c.args.selector.now) c.drop_expired-self-inside.new.table c.args.now) c.remove_where.result c.in_ok-row.row c.drop_expired-self-inside.new.lanes c.remove_where.new.lanes apart' (rw (rw (written _ _ _ _ c.deref_mut.ensures.value c.deref_mut.ensures.len c.drop_expired-self-inside.ensures.rows.len) at c.deref_mut-2.ensures.value) at c.remove_where.ensures) c.in_ok-row.was in
+    let xs = all_rows c.self.inside.lanes in
+    let ys = all_rows c.drop_expired-self-inside.new.self in
+    let is = dropped c.args.now c.self.inside.lanes c.drop_expired-self-inside.new.self c.drop_expired-self-inside.ensures.rows in
+    let apart' = dropped_apart c.args.now c.self.inside.lanes c.drop_expired-self-inside.new.self c.self.inside.room c.self.invariant.0 c.drop_expired-self-inside.ensures.rows in
+    let out = taken_out (is_choice (matches c.args.selector.now) c.drop_expired-self-inside.new.table c.args.now) c.remove_where.result c.in_ok-row.row c.drop_expired-self-inside.new.self c.remove_where.new.self apart' c.remove_where.ensures c.in_ok-row.was in
     let message : c.release-message.result ≡ last_message c.args.table.now c.in_ok-row.row.place =
-    c.release-message.ensures.result ∙ first_message (is_at c.in_ok-row.row.place) c.args.table.now c.drop_expired-self-inside.new.table xs (stays c.args.now) c.in_ok-row.row (apart_from_rising xs c.self.invariant.0.rising) (rw (← is) apart') (rw (← is) out.0) (covers_all c.args.table.now c.self.inside.lanes.items (rw (← c.self.view_is) at c.requires)) (rw (← is) (rw c.deref_mut.ensures.value at c.drop_expired-self-inside.ensures.table)) in
-    let first : next_where (matches c.args.selector.now) c.args.table.now c.args.now (rows_of c.self.inside.lanes.items) ≡ c.remove_where.ensures.0 = next_chosen (matches c.args.selector.now) c.args.table.now c.drop_expired-self-inside.new.table c.args.now c.self.inside.lanes.items c.drop_expired-self-inside.new.lanes c.self.inside.room c.remove_where.ensures.0 c.self.invariant.0 (covers_all c.args.table.now c.self.inside.lanes.items (rw (← c.self.view_is) at c.requires)) (rw c.deref_mut.ensures.value at c.drop_expired-self-inside.ensures.rows) (rw c.deref_mut.ensures.value at c.drop_expired-self-inside.ensures.table) (rw (rw (written _ _ _ _ c.deref_mut.ensures.value c.deref_mut.ensures.len c.drop_expired-self-inside.ensures.rows.len) at c.deref_mut-2.ensures.value) at c.remove_where.ensures.1) in
-    let s = (removed_held c.args.now c.self.inside.lanes.items c.drop_expired-self-inside.new.lanes c.remove_where.new.lanes c.self.inside.room c.remove_where.result c.remove_where.ensures.0 c.self.invariant.0 (rw c.deref_mut.ensures.value at c.drop_expired-self-inside.ensures.rows) (rw (rw (written _ _ _ _ c.deref_mut.ensures.value c.deref_mut.ensures.len c.drop_expired-self-inside.ensures.rows.len) at c.deref_mut-2.ensures.value) at c.remove_where.ensures.2)).1 in
-    rw (← c.self.view_is, written _ _ _ _ c.deref_mut.ensures.value c.deref_mut.ensures.len c.drop_expired-self-inside.ensures.rows.len, written _ _ _ _ (rw (written _ _ _ _ c.deref_mut.ensures.value c.deref_mut.ensures.len c.drop_expired-self-inside.ensures.rows.len) at c.deref_mut-2.ensures.value) c.deref_mut-2.ensures.len (removed_lanes _ _ _ _ c.remove_where.ensures.2), first) (some_taken c.remove_where.ensures.0 c.remove_where.result c.in_ok-row.row (record { row = c.counted.result; message = c.release-message.result }) (rows_of c.remove_where.new.lanes) (filter (stays c.args.now) (rows_of c.self.inside.lanes.items)) (λ r. filter (is_elsewhere r.place) (filter (stays c.args.now) (rows_of c.self.inside.lanes.items))) (λ r. record { row = counted r; message = last_message c.args.table.now r.place }) (λ rows. record { rows = rows; limit = c.self.inside.limit; missed = c.self.inside.missed; room = c.self.inside.room }) s c.in_ok-row.was (rw (c.counted.ensures, message) refl))
+    c.release-message.ensures.result ∙ first_message (is_at c.in_ok-row.row.place) c.args.table.now c.drop_expired-self-inside.new.table xs (stays c.args.now) c.in_ok-row.row (apart_from_rising xs c.self.invariant.0.rising) (rw (← is) apart') (rw (← is) out.0) (covers_all c.args.table.now c.self.inside.lanes (rw (← c.self.view_is) at c.requires)) (rw (← is) c.drop_expired-self-inside.ensures.table) in
+    let first : next_where (matches c.args.selector.now) c.args.table.now c.args.now (rows_of c.self.inside.lanes) ≡ c.remove_where.ensures.0 = next_chosen (matches c.args.selector.now) c.args.table.now c.drop_expired-self-inside.new.table c.args.now c.self.inside.lanes c.drop_expired-self-inside.new.self c.self.inside.room c.remove_where.ensures.0 c.self.invariant.0 (covers_all c.args.table.now c.self.inside.lanes (rw (← c.self.view_is) at c.requires)) c.drop_expired-self-inside.ensures.rows c.drop_expired-self-inside.ensures.table c.remove_where.ensures.1 in
+    let s = (removed_held c.args.now c.self.inside.lanes c.drop_expired-self-inside.new.self c.remove_where.new.self c.self.inside.room c.remove_where.result c.remove_where.ensures.0 c.self.invariant.0 c.drop_expired-self-inside.ensures.rows c.remove_where.ensures.2).1 in
+    rw (← c.self.view_is, first) (some_taken c.remove_where.ensures.0 c.remove_where.result c.in_ok-row.row (record { row = c.counted.result; message = c.release-message.result }) (rows_of c.remove_where.new.self) (filter (stays c.args.now) (rows_of c.self.inside.lanes)) (λ r. filter (is_elsewhere r.place) (filter (stays c.args.now) (rows_of c.self.inside.lanes))) (λ r. record { row = counted r; message = last_message c.args.table.now r.place }) (λ rows. record { rows = rows; limit = c.self.inside.limit; missed = c.self.inside.missed; room = c.self.inside.room }) s c.in_ok-row.was (rw (c.counted.ensures, message) refl))
 
 pub returns-clause-table : goal.returns-clause-table
 returns-clause-table c =
-    let xs = all_rows c.self.inside.lanes.items in
-    let ys = all_rows c.drop_expired-self-inside.new.lanes in
-    let zs = all_rows c.remove_where.new.lanes in
+    let xs = all_rows c.self.inside.lanes in
+    let ys = all_rows c.drop_expired-self-inside.new.self in
+    let zs = all_rows c.remove_where.new.self in
     let row = c.in_ok-row.row in
-    let apart' = dropped_apart c.args.now c.self.inside.lanes.items c.drop_expired-self-inside.new.lanes c.self.inside.room c.self.invariant.0 (rw c.deref_mut.ensures.value at c.drop_expired-self-inside.ensures.rows) in
-    let out = taken_out (is_choice (matches c.args.selector.now) c.drop_expired-self-inside.new.table c.args.now) c.remove_where.result row c.drop_expired-self-inside.new.lanes c.remove_where.new.lanes apart' (rw (rw (written _ _ _ _ c.deref_mut.ensures.value c.deref_mut.ensures.len c.drop_expired-self-inside.ensures.rows.len) at c.deref_mut-2.ensures.value) at c.remove_where.ensures) c.in_ok-row.was in
-    let left : zs ≡ filter (is_elsewhere row.place) ys = all_rows_each (filter (is_elsewhere row.place)) refl (filter-append (is_elsewhere row.place)) c.drop_expired-self-inside.new.lanes c.remove_where.new.lanes out.1 in
+    let apart' = dropped_apart c.args.now c.self.inside.lanes c.drop_expired-self-inside.new.self c.self.inside.room c.self.invariant.0 c.drop_expired-self-inside.ensures.rows in
+    let out = taken_out (is_choice (matches c.args.selector.now) c.drop_expired-self-inside.new.table c.args.now) c.remove_where.result row c.drop_expired-self-inside.new.self c.remove_where.new.self apart' c.remove_where.ensures c.in_ok-row.was in
+    let left : zs ≡ filter (is_elsewhere row.place) ys = all_rows_each (filter (is_elsewhere row.place)) refl (filter-append (is_elsewhere row.place)) c.drop_expired-self-inside.new.self c.remove_where.new.self out.1 in
     let gone = first_settled (is_at row.place) c.drop_expired-self-inside.new.table c.release-message.new.self ys row apart' out.0 c.release-message.ensures.holders c.release-message.ensures.messages in
-    rw (← c.self.view_is, written _ _ _ _ c.deref_mut.ensures.value c.deref_mut.ensures.len c.drop_expired-self-inside.ensures.rows.len, written _ _ _ _ (rw (written _ _ _ _ c.deref_mut.ensures.value c.deref_mut.ensures.len c.drop_expired-self-inside.ensures.rows.len) at c.deref_mut-2.ensures.value) c.deref_mut-2.ensures.len (removed_lanes _ _ _ _ c.remove_where.ensures.2)) (follows_all c.args.table.now c.release-message.new.self c.self.inside.lanes.items c.remove_where.new.lanes (follows_then c.args.table.now c.drop_expired-self-inside.new.table c.release-message.new.self xs ys zs (λ p. rw left (filter_count (is_elsewhere row.place) p ys)) (rw c.deref_mut.ensures.value at c.drop_expired-self-inside.ensures.table) (rw left gone)))
+    rw (← c.self.view_is) (follows_all c.args.table.now c.release-message.new.self c.self.inside.lanes c.remove_where.new.self (follows_then c.args.table.now c.drop_expired-self-inside.new.table c.release-message.new.self xs ys zs (λ p. rw left (filter_count (is_elsewhere row.place) p ys)) c.drop_expired-self-inside.ensures.table (rw left gone)))
 
 pub drop_expired-self-inside-requires-clause-few : goal.drop_expired-self-inside-requires-clause-few
-drop_expired-self-inside-requires-clause-few c = rw c.deref_mut.ensures.value (omega (arith, few_rows c.self.inside.lanes.items c.self.inside.room c.self.invariant.0))
+drop_expired-self-inside-requires-clause-few c = omega (arith, few_rows c.self.inside.lanes c.self.inside.room c.self.invariant.0)
 
 pub returns-then-is_empty-clause-rows : goal.returns-then-is_empty-clause-rows
 returns-then-is_empty-clause-rows c =
@@ -94,4 +91,4 @@ pub returns-then-is_empty-clause-table : goal.returns-then-is_empty-clause-table
 returns-then-is_empty-clause-table c = follows_still _ _ _ refl
 
 pub overflow_sub-self : goal.overflow_sub-self
-overflow_sub-self c = omega (arith, c.drop_expired-self-inside.ensures.left, removed_number (is_choice (matches c.args.selector.now) c.drop_expired-self-inside.new.table c.args.now) c.remove_where.result c.in_ok-row.row c.drop_expired-self-inside.new.lanes c.remove_where.new.lanes (dropped_apart c.args.now c.self.inside.lanes.items c.drop_expired-self-inside.new.lanes c.self.inside.room c.self.invariant.0 (rw c.deref_mut.ensures.value at c.drop_expired-self-inside.ensures.rows)) (rw (rw (written _ _ _ _ c.deref_mut.ensures.value c.deref_mut.ensures.len c.drop_expired-self-inside.ensures.rows.len) at c.deref_mut-2.ensures.value) at c.remove_where.ensures) c.in_ok-row.was)
+overflow_sub-self c = omega (arith, c.drop_expired-self-inside.ensures.left, removed_number (is_choice (matches c.args.selector.now) c.drop_expired-self-inside.new.table c.args.now) c.remove_where.result c.in_ok-row.row c.drop_expired-self-inside.new.self c.remove_where.new.self (dropped_apart c.args.now c.self.inside.lanes c.drop_expired-self-inside.new.self c.self.inside.room c.self.invariant.0 c.drop_expired-self-inside.ensures.rows) c.remove_where.ensures c.in_ok-row.was)
