@@ -1,7 +1,6 @@
 -- What the items of an array spell.
-use Rattle.std.proofs.Common.{◌≡◌, ℕ, ◌<◌, ◌+◌, suc, List, [], ◌∷◌, ◌++◌, length, drop, get_or, Bool, true, false, if◌then◌else◌, Option, Some, None, option_map, refl, ap, sym, ◌∙◌, append_assoc, add-one, drop-cons}
-use Rattle.serde_json.specs.Data.{Data, Items, item}
-use Rattle.serde_json.specs.View.{view, items_view}
+use Rattle.std.proofs.Common.{◌≡◌, List, [], ◌∷◌, length, Bool, true, false, if◌then◌else◌, Option, None, refl}
+use Rattle.serde_json.specs.View.{items_view}
 use Rattle.serde_json.specs.declared.value.Value.{Value}
 use Rattle.jm_base.specs.declared.refusal.MessageFault.TheVariants.{BadName, Memory}
 use Rattle.jm_header.specs.declared.content.Settings.{Settings}
@@ -28,9 +27,3 @@ with_three-others (a ∷ b ∷ c ∷ d ∷ values) draft other = refl
 pub where_true-bad_name : (test : Bool) (value : Option Settings) → BadName ≡ (if test then Memory else BadName) → where_true test value ≡ None
 where_true-bad_name true value e = cc
 where_true-bad_name false value e = refl
-
--- the items from an index on
-pub items_view-drop : (values : List Value) (index : ℕ) (value : Value) → index < length values → value ≡ get_or values index value
-    → items_view (drop index values) ≡ item (view value) (items_view (drop (index + 1) values))
-items_view-drop values index value within e =
-    rw add-one (ap items_view (drop-cons values index value within) ∙ ap (λ v. item (view v) (items_view (drop (suc index) values))) (sym e))

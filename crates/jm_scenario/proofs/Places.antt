@@ -1,14 +1,10 @@
 -- Where a fork is open, and where items have their places.
-use Rattle.std.proofs.Common.{◌≡◌, ◌∙◌, ◌++◌, ◌⊎◌, ◌+◌, ◌<◌, ◌≤◌, ℕ, inl, inr, Bool, true, false, List, [], ◌∷◌, length, drop, get_or, Option, Some, None, option_map, option_and_then, Result, Ok, Err, append_assoc, append-nil, refl, ap, sym, subst, codes}
-use Rattle.std.proofs.lemmas.List.{drop_all}
-use Rattle.std.specs.Prelude.{◌&&◌, ◌||◌, ◌≢◌, not, map, IfErr, IsErr, IsErrAnd, IsUtf8, MatchResult}
+use Rattle.std.proofs.Common.{◌≡◌, ◌∙◌, ◌++◌, ◌⊎◌, ℕ, inl, inr, Bool, true, false, List, [], ◌∷◌, Option, Some, None, option_map, option_and_then, Result, Ok, Err, append_assoc, append-nil, refl, ap, sym, subst, codes}
+use Rattle.std.specs.Prelude.{◌&&◌, ◌||◌, ◌≢◌, not, map, MatchResult}
 use Rattle.serde_json.specs.Data.{Data, Items, no_items, item}
 use Rattle.serde_json.specs.Find.{as_array, get}
 use Rattle.serde_json.specs.Read.{read}
-use Rattle.serde_json.specs.View.{items_view, view}
-use Rattle.serde_json.specs.declared.value.Value.{Value}
 use Rattle.jm_machine.specs.declared.call.ClientCall.{ClientCall}
-use Rattle.jm_scenario.proofs.Items.{items_view-drop}
 use Rattle.jm_scenario.specs.Fields.{is_known}
 use Rattle.jm_scenario.specs.Values.{limit, optional}
 use Rattle.jm_scenario.specs.declared.field.Owner.TheVariants.{ForkOrJoin, Scenario as Outer}
@@ -155,7 +151,7 @@ pub record IsRead (spelled : Option (List Item)) (is_forked : Bool) (done : List
   pub in_order : in_order false done ≡ true
 
 -- with one more item, which has its place
-read_more : (spelled : Option (List Item)) (is_forked : Bool) (done : List Item) (value : Data) (values : Items) (one : Item) → IsRead spelled is_forked done (item value values) →
+pub read_more : (spelled : Option (List Item)) (is_forked : Bool) (done : List Item) (value : Data) (values : Items) (one : Item) → IsRead spelled is_forked done (item value values) →
     where_in_place is_forked (item_of value) ≡ Some one → IsRead spelled (is_forked_behind is_forked one) (done ++ one ∷ []) values
 read_more spelled is_forked done value values one read placed =
     let parts = placed_both is_forked (item_of value) one placed in
@@ -179,21 +175,9 @@ read_begin values = record { same = unchanged (items_of values); forked = refl; 
     unchanged None = refl
     unchanged (Some items) = refl
 
--- where none of the records is left, they are spelled
-pub read_end : (records : List Value) (index : ℕ) (is_forked : Bool) (done : List Item) → IsRead (items_of (items_view records)) is_forked done (items_view (drop index records)) →
-    length records ≤ index → AreSpelled (items_of (items_view records)) done
-read_end records index is_forked done read past =
-    (sym read.same ∙ ap (λ others. after done (items_of (items_view others))) (drop_all index records past) ∙ ap Some (append-nil done), well_forked done read.in_order)
-
--- one more of the records
-pub read_next : (records : List Value) (index : ℕ) (value : Value) (spelled : Option (List Item)) (before behind : Bool) (done more : List Item) (one : Item) →
-    IsRead spelled before done (items_view (drop index records)) → index < length records → value ≡ get_or records index value → where_in_place before (item_of (view value)) ≡ Some one →
-    behind ≡ is_forked_behind before one → more ≡ done ++ one ∷ [] → IsRead spelled behind more (items_view (drop (index + 1) records))
-read_next records index value spelled before behind done more one read within is placed forks pushed =
-    subst (λ items. IsRead spelled behind items (items_view (drop (index + 1) records))) (sym pushed)
-    (subst (λ f. IsRead spelled f (done ++ one ∷ []) (items_view (drop (index + 1) records))) (sym forks)
-    (read_more spelled before done (view value) (items_view (drop (index + 1) records)) one
-    (subst (IsRead spelled before done) (items_view-drop records index value within is) read) placed))
+-- where no value is left, they are spelled
+pub read_end : (spelled : Option (List Item)) (is_forked : Bool) (done : List Item) → IsRead spelled is_forked done no_items → AreSpelled spelled done
+read_end spelled is_forked done read = (sym read.same ∙ ap Some (append-nil done), well_forked done read.in_order)
 
 -- a call that has its place is an item that has
 where_in_place-call : (is_forked : Bool) (spelled : Option ClientCall) → where_in_place is_forked (option_map Call spelled) ≡ option_map Call (call_in_place is_forked spelled)
@@ -261,22 +245,17 @@ scenario_unspelled value values held is held_is known none =
     subst IsNoneSpelled (sym (scenario_read value values held is held_is known)) (none_of_items held (items_of values) none)
 
 -- a text spells what its value spells
-pub text_spells : (text : List ℕ) (value : Data) (one : Scenario) → read text ≡ Some value → IsSpelled (scenario value) one → Spells text one
+text_spells : (text : List ℕ) (value : Data) (one : Scenario) → read text ≡ Some value → IsSpelled (scenario value) one → Spells text one
 text_spells text value one is spelled = (ap (option_and_then scenario) is ∙ spelled.0, spelled.1)
 
 text_spells_none : (text : List ℕ) (value : Data) → read text ≡ Some value → IsNoneSpelled (scenario value) → SpellsNone text
 text_spells_none text value is none = subst IsNoneSpelled (sym (ap (option_and_then scenario) is)) none
 
-pub text_refused : (text : List ℕ) (value : Data) (told : Result Scenario ScenarioFault) → read text ≡ Some value →
-    MatchResult told (IsSpelled (scenario value)) (λ fault. fault ≢ Memory → IsNoneSpelled (scenario value)) → IfErr told (λ fault. fault ≢ Memory → IsUtf8 text → SpellsNone text)
-text_refused text value (Ok one) is told = tt
-text_refused text value (Err fault) is told = λ other utf8. text_spells_none text value is (told other)
+-- and so what is told of it
+pub text_told : (text : List ℕ) (value : Data) (told : Result Scenario ScenarioFault) → read text ≡ Some value →
+    MatchResult told (IsSpelled (scenario value)) (λ fault. fault ≢ Memory → IsNoneSpelled (scenario value)) → MatchResult told (Spells text) (λ fault. fault ≢ Memory → SpellsNone text)
+text_told text value (Ok one) is told = text_spells text value one is told
+text_told text value (Err fault) is told = λ other. text_spells_none text value is (told other)
 
 pub text_is_none : (text : List ℕ) → read text ≡ None → SpellsNone text
 text_is_none text is = none_spelled (scenario_of_text text) (ap (option_and_then scenario) is)
-
--- where memory is wanted, nothing more is said
-pub wanting : {T : Type 0} (told : Result T ScenarioFault) (P : T → Type 0) (Q : ScenarioFault → Type 0) → IsErr told × IsErrAnd told (λ fault. fault ≡ Memory) →
-    MatchResult told P (λ fault. fault ≢ Memory → Q fault)
-wanting (Ok t) P Q h = absurd h.1
-wanting (Err fault) P Q h = λ other. absurd (other h.1)

@@ -6,4 +6,5 @@ pub mod Values
 pub mod Drafts
 pub mod Items
 pub mod Calls
+pub mod Outer
 pub mod Key

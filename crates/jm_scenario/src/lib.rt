@@ -25,7 +25,10 @@ mod item;
 mod key;
 mod lines;
 mod misfit;
+mod outer;
 mod outline;
+mod parsed;
+mod records;
 mod scenario;
 mod value;
 

@@ -1,16 +1,24 @@
-ghost use Rattle.std.specs.Prelude.{◌≡◌, ◌≢◌, ◌↔◌, MatchResult, IfOk, IfErr, IsUtf8};
-ghost use Rattle.serde_json.specs.View.{view, items_view};
+ghost use Rattle.std.specs.Prelude.{◌≡◌, ◌≢◌, ◌↔◌, List, ◌∷◌, MatchResult, IfOk, IfErr, IsUtf8};
+ghost use Rattle.std.specs.Bool.{MatchBool};
+ghost use Rattle.json.specs.Token as token;
+ghost use Rattle.serde_json.specs.Data.{Members, object};
 ghost use Rattle.jm_scenario.specs.Calls as spec;
+ghost use Rattle.jm_scenario.specs.Outer.{Describes};
 
-use crate::field::{Field, FieldName, Owner, not_known, unknown};
-use crate::item::{Item, item_in_place};
+use crate::field::{Field, FieldName};
+use crate::item::Item;
 use crate::misfit::Misfit;
+use crate::outer::{Outer, read_outer};
+use crate::parsed::{next_value, value_of};
 use crate::value::held;
 use jm_base::List;
-use serde_json::{Category, Value};
+use json::{Invalid, Reader, Scratch, Token};
 use std::alloc::{AllocError, AllocFailed, Global};
-use std::fmt;
+use std::{fmt, str};
 use thiserror::Error;
+
+/// How deep a value in an array may nest that is the whole text.
+const VALUE_DEPTH: usize = 126;
 
 /// What a scenario asks for (ours).
 #[derive(PartialEq, Drop)]
@@ -76,8 +84,19 @@ impl<T: Drop> From<AllocFailed<T>> for ScenarioFault {
     }
 }
 
+impl From<Invalid> for ScenarioFault {
+    ghost use Rattle.std.specs.Prelude.{◌≡◌};
+    ghost use Rattle.jm_scenario.specs.declared.scenario.ScenarioFault.TheVariants.{Syntax};
+
+    ghost from_gives = { λ _ fault. fault ≡ Syntax };
+
+    fn from(_: Invalid) -> ScenarioFault {
+        ScenarioFault::Syntax
+    }
+}
+
 /// The fault of that step.
-fn fault_at(step: usize, misfit: Misfit) -> ScenarioFault
+pub(crate) fn fault_at(step: usize, misfit: Misfit) -> ScenarioFault
     ensures { (result ≡ ScenarioFault.Memory) ↔ (misfit ≡ Misfit.Memory) }
 {
     match misfit {
@@ -94,61 +113,91 @@ fn fault_at(step: usize, misfit: Misfit) -> ScenarioFault
     }
 }
 
-/// The items of the records, in order; or the fault of the first record that has one. One that has not its place behind the
-/// others is told at its operation.
-#[tactic(auto, using(crate::proofs::Places::read_begin))]
-fn items(alloc: Global, records: &[Value]) -> Result<Vec<Item>, ScenarioFault>
-    ensures { MatchResult result (λ items. spec.AreSpelled (spec.items_of (items_view records.now)) items.items)
-        (λ fault. fault ≢ ScenarioFault.Memory → spec.AreNoneSpelled (spec.items_of (items_view records.now))) }
+/// The scenario of the outer object.
+fn scenario_of(outer: Outer) -> Result<Scenario, ScenarioFault>
+    ensures { (found : Members) → Describes found outer → MatchResult result (spec.IsSpelled (spec.scenario (object found)))
+        (λ fault. fault ≢ ScenarioFault.Memory → spec.IsNoneSpelled (spec.scenario (object found))) }
 {
-    let mut items = Vec::new(alloc);
-    let mut is_forked = false;
-    for (index, record) in records.iter().enumerate() {
-        match item_in_place(alloc, record, is_forked) {
-            Ok(item) => {
-                is_forked = item.is_forked_behind(is_forked);
-                items.push(item)?;
-            }
-            Err(misfit) => return Err(fault_at(index + 1, misfit)),
-        }
-    }
-    Ok(items)
-}
-
-/// The scenario that the value spells.
-#[tactic(auto, using(crate::proofs::Places::none_spelled, crate::proofs::Places::scenario_spelled, crate::proofs::Places::scenario_unspelled))]
-fn scenario_of(alloc: Global, value: &Value) -> Result<Scenario, ScenarioFault>
-    ensures { MatchResult result (spec.IsSpelled (spec.scenario (view value.now)))
-        (λ fault. fault ≢ ScenarioFault.Memory → spec.IsNoneSpelled (spec.scenario (view value.now))) }
-{
-    let Some(records) = value.get("calls").and_then(Value::as_array) else {
+    let Outer {
+        held: limit,
+        unknown,
+        calls,
+    } = outer;
+    let Some(items) = calls else {
         return Err(fault_at(0, Misfit::Shape(Field::Calls)));
     };
-    let held = match held(value) {
+    let held = match held(&limit) {
         Ok(held) => held,
         Err(misfit) => return Err(fault_at(0, misfit)),
     };
-    if let Some(name) = unknown(value, Owner::Scenario) {
-        return Err(fault_at(0, not_known(alloc, name)));
+    if let Some(name) = unknown {
+        return Err(fault_at(0, Misfit::Unknown(name)));
     }
-    let items = List::new(items(alloc, records)?);
+    let items = List::new(items?);
     Ok(Scenario { held, items })
+}
+
+/// Passes the values of the array that the text is, and tells whether it is one. `Syntax` where it goes on otherwise than as one.
+fn passes_array(alloc: Global, text: &str) -> Result<bool, ScenarioFault> {
+    let mut scratch = Scratch::new(alloc);
+    let mut reader = Reader::new(text, &mut scratch)?;
+    let Some(Token::BeginArray) = reader.next() else {
+        return Ok(false);
+    };
+    'values: while !reader.take_end_array() {
+        drop(next_value(alloc, &mut reader, VALUE_DEPTH)?);
+    }
+    if reader.next().is_some() {
+        return Err(ScenarioFault::Syntax);
+    }
+    Ok(true)
+}
+
+/// The fault of a text that does not begin with an object: it is told at `calls` where it is JSON.
+fn without_object(alloc: Global, text: &str) -> ScenarioFault {
+    match passes_array(alloc, text) {
+        Ok(true) => fault_at(0, Misfit::Shape(Field::Calls)),
+        Ok(false) => match value_of(alloc, text.as_bytes()) {
+            Ok(_) => fault_at(0, Misfit::Shape(Field::Calls)),
+            Err(fault) => fault,
+        },
+        Err(fault) => fault,
+    }
+}
+
+/// Passes the brace that opens an object, and tells whether it stood there.
+fn takes_brace(reader: &mut Reader<'_>) -> bool
+    ensures { MatchBool result (reader.old ≡ token.begin_object ∷ reader.new) ((rest : List token.Token) → reader.old ≡ token.begin_object ∷ rest → ⊥) }
+{
+    matches!(reader.next(), Some(Token::BeginObject))
+}
+
+/// The scenario that the text spells, or why it spells none.
+fn read_text(alloc: Global, text: &str) -> Result<Scenario, ScenarioFault>
+    ensures { MatchResult result (spec.Spells text.now) (λ fault. fault ≢ ScenarioFault.Memory → spec.SpellsNone text.now) }
+{
+    let mut scratch = Scratch::new(alloc);
+    let mut reader = Reader::new(text, &mut scratch)?;
+    if !takes_brace(&mut reader) {
+        return Err(without_object(alloc, text));
+    }
+    let outer = read_outer(alloc, &mut reader)?;
+    if reader.next().is_some() {
+        return Err(ScenarioFault::Syntax);
+    }
+    scenario_of(outer)
 }
 
 /// The scenario that the bytes spell. `Syntax` where the bytes are no JSON; else the first fault of the outer object, else of
 /// the first item that has one, in the order of its fields; or `Memory` where a request for memory was refused. The fault of
 /// a fork, a join or a call that has not its place is that of its field `op`: a fork where one is open, a join where none is,
 /// a call by a connection where a fork is open.
-#[tactic(auto, using(crate::proofs::Places::text_spells, crate::proofs::Places::text_is_none))]
 pub fn read_scenario(alloc: Global, bytes: &[u8]) -> Result<Scenario, ScenarioFault>
     ensures ok { IfOk result (λ scenario. IsUtf8 bytes.now × spec.Spells bytes.now scenario) }
     ensures err { IfErr result (λ fault. fault ≢ ScenarioFault.Memory → IsUtf8 bytes.now → spec.SpellsNone bytes.now) }
 {
-    match Value::from_slice(alloc, bytes) {
-        Ok(value) => scenario_of(alloc, &value),
-        Err(error) => match error.classify() {
-            Category::Memory => Err(ScenarioFault::Memory),
-            _ => Err(ScenarioFault::Syntax),
-        },
+    match str::from_utf8(bytes) {
+        Ok(text) => read_text(alloc, text),
+        Err(_) => Err(ScenarioFault::Syntax),
     }
 }

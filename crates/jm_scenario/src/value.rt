@@ -295,10 +295,10 @@ fn limit(value: &Value) -> Result<u32, Misfit>
 }
 
 /// The limit of the field `held`, where it stands.
-pub(crate) fn held(object: &Value) -> Result<Option<u32>, Misfit>
-    ensures { ReadsExactly result (spec.optional spec.limit (codes "held") (view object.now)) }
+pub(crate) fn held(value: &Option<Value>) -> Result<Option<u32>, Misfit>
+    ensures { ReadsExactly result (spec.absent_or spec.limit (option_map view value.now)) }
 {
-    match optional(object, Field::Held) {
+    match value {
         Some(value) => Ok(Some(limit(value)?)),
         None => Ok(None),
     }
