@@ -1,7 +1,7 @@
 //! A provider under work: one session that receives, one that publishes with its half of a transaction, and what was
 //! received.
 
-use jm_base::{List, Mode, Refusal};
+use jm_base::{List, Mode, Refusal, Str};
 use jm_core::{Answer, Call, Core, Request, Step, Who};
 use jm_dest::{
     ClientId, ConnectionId, ConsumerId, Destination, Moment, Number, SessionId, SubscriptionName,
@@ -9,6 +9,7 @@ use jm_dest::{
 use jm_header::{Draft, Message, Sender};
 use jm_keep::Keep;
 use jm_kept::step;
+use jm_property::Property;
 use jm_tx::{Sent, SessionHalf};
 use std::alloc::Global;
 
@@ -17,6 +18,8 @@ use std::alloc::Global;
 pub(crate) struct Parcel {
     /// The number of its topic.
     pub topic: u32,
+    /// The number that its property `x` is, if it has one.
+    pub selected: Option<u32>,
     /// From 0 to 9.
     pub priority: u8,
     /// In milliseconds; 0 for no end.
@@ -62,6 +65,9 @@ fn subscription_name(alloc: Global, topic: u32) -> Result<SubscriptionName, Refu
 /// Sets what the message of the parcel has beside its destination.
 fn set(draft: &mut Draft, parcel: Parcel) -> Result<(), Refusal> {
     draft.set_text("work")?;
+    if let Some(number) = parcel.selected {
+        let _ = draft.set_property("x", Property::Long(i64::from(number)));
+    }
     draft.set_priority(parcel.priority)?;
     draft.set_time_to_live(parcel.time_to_live)?;
     draft.set_delivery_delay(parcel.delay)
@@ -168,6 +174,19 @@ impl<K: Keep + Drop> Provider<K> {
             consumer,
             destination,
             selector: None,
+            no_local: false,
+        };
+        self.ask(Who::Session(self.receiver), request)?;
+        Ok(())
+    }
+
+    /// Makes a consumer of that number on the topic of that number, which selects the messages whose property `x` is its number.
+    pub(crate) fn subscribe_selecting(&mut self, consumer: u32, topic: u32) -> Result<(), Refusal> {
+        let selector = format!(in self.alloc; "x = {consumer}")?;
+        let request = Request::CreateConsumer {
+            consumer: ConsumerId::new(consumer)?,
+            destination: destination(self.alloc, topic)?,
+            selector: Some(Str::new(selector)),
             no_local: false,
         };
         self.ask(Who::Session(self.receiver), request)?;

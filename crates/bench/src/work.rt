@@ -11,6 +11,8 @@ pub(crate) enum Kind {
     OneToOne,
     /// A message is sent, and received by each of its subscribers.
     FanOut,
+    /// A message is sent, and received by the next of its subscribers, each of which selects messages of its own.
+    Selectors,
     /// A message is sent to the next of many topics, and received there.
     Topics,
     /// As one to one, with priorities in turn.
@@ -64,6 +66,7 @@ pub(crate) fn kind_named(name: &str) -> Option<Kind> {
     match name {
         "one-to-one" => Some(Kind::OneToOne),
         "fan-out" => Some(Kind::FanOut),
+        "selectors" => Some(Kind::Selectors),
         "topics" => Some(Kind::Topics),
         "priorities" => Some(Kind::Priorities),
         "expiry" => Some(Kind::Expiry),
@@ -88,6 +91,10 @@ fn parcel(load: Load, round: u32) -> Parcel {
         Kind::Topics => round % load.subscribers.max(1),
         _ => 0,
     };
+    let selected = match load.kind {
+        Kind::Selectors => Some(round % load.subscribers.clamp(1, 1_000_000) + 1),
+        _ => None,
+    };
     let priority = match load.kind {
         Kind::Priorities => (round % 10) as u8,
         _ => 4,
@@ -98,6 +105,7 @@ fn parcel(load: Load, round: u32) -> Parcel {
     };
     Parcel {
         topic,
+        selected,
         priority,
         time_to_live,
         delay: 0,
@@ -176,6 +184,7 @@ fn subscribe<K: Keep + Drop>(
 ) -> Result<(), Refusal> {
     match kind {
         Kind::Durables => provider.subscribe_durably(consumer, topic),
+        Kind::Selectors => provider.subscribe_selecting(consumer, topic),
         Kind::Shared => provider.share(consumer, topic),
         _ => provider.subscribe(consumer, topic),
     }
@@ -198,7 +207,7 @@ pub(crate) fn fill<K: Keep + Drop>(provider: &mut Provider<K>, load: Load) -> Re
 fn receivers(load: Load, round: u32) -> (u32, u32) {
     match load.kind {
         Kind::FanOut => (0, load.subscribers.min(1_000_000)),
-        Kind::Topics | Kind::Shared => {
+        Kind::Topics | Kind::Shared | Kind::Selectors => {
             let at = round % load.subscribers.clamp(1, 1_000_000);
             (at, at + 1)
         }
