@@ -1,6 +1,7 @@
 """edits: reads the wrong bodies of a crate for tools/wrong-bodies, and makes copies of the crate with them."""
 from __future__ import annotations
 
+import copy
 import os
 import re
 import shutil
@@ -22,13 +23,28 @@ class Edit(NamedTuple):
     group: Optional[str]  # the function or its cycle of calls; none where any other text is changed
 
 
+def once(method: Any) -> Any:
+    """Returns a method of a crate that is asked once for each folder, where no text changes between."""
+    known: dict[str, Any] = {}
+
+    def asked(crate: Any) -> Any:
+        if crate.folder not in known:
+            known[crate.folder] = method(crate)
+        return copy.copy(known[crate.folder])
+
+    return asked
+
+
 def load_rt() -> Any:
-    """Returns rt as a module: the first on the path that stands beside its rtlib.py."""
+    """Returns rt as a module: the first on the path that stands beside its rtlib.py. (It asks what lies below a crate, and what its
+    files are, anew on each way down, which takes longer than the proofs where many crates stand on one another.)"""
     paths = [os.path.realpath(f"{it}/rt") for it in os.get_exec_path()]
     kits = [it for it in paths if os.path.isfile(f"{os.path.dirname(it)}/rtlib.py")]
     loader = machinery.SourceFileLoader("rt", kits[0] if kits else sys.exit("wrong-bodies: no rt on the path"))
     made = util.module_from_spec(util.spec_from_loader("rt", loader))
     loader.exec_module(made)
+    of_lib = made.rtlib.Crate
+    of_lib.below, of_lib.stamp = once(of_lib.below), once(of_lib.stamp)
     return made
 
 

@@ -191,7 +191,7 @@ class AlongsideTheChecker(unittest.TestCase):
 
 
 class AfterCi(unittest.TestCase):
-    """What rt ci proved, and what an earlier run saw refused."""
+    """What rt ci proved, and what an earlier run saw refused, where rt ci keeps anything."""
 
     runs: list[list[str]]
 
