@@ -5,6 +5,7 @@ import importlib
 import importlib.machinery
 import importlib.util
 import os
+import subprocess
 import sys
 import tempfile
 import time
@@ -188,6 +189,53 @@ class Proves(Tried):
         self.assertEqual(first, [(True, "turned.edit told"), (False, "open.edit told")])
         self.assertEqual(second, [(True, "turned.edit told (in an earlier run)"), (False, "open.edit told")])
         self.assertEqual(self.tried, [*paths, paths[1]])
+
+
+class OverTheChecker(unittest.TestCase):
+    """Three crates: a library, a program on it, and one that is not proved."""
+
+    FILES = {
+        "crates.txt": "low:\nhigh: low\nwrong:\n",
+        "HANDLES": "Handles allowed: none.\n",
+        "crates/low/src/lib.rt": "#![tactic(auto)]\n\npub fn low(a: u8) -> u8\n    ensures { result ≡ a }\n{\n    a\n}\n",
+        "crates/high/src/main.rt": "#![tactic(auto)]\n\nuse low::low;\n\nfn main() {\n    let _one = low(1);\n}\n",
+        "crates/wrong/src/lib.rt": "#![tactic(auto)]\n\npub fn wrong() -> u8\n    ensures { result ≡ 1 }\n{\n    2\n}\n",
+    }
+    runs: list[tuple[list[str], int, bool]]
+
+    @classmethod
+    def setUpClass(cls) -> None:
+        use = "\nghost use Rattle.std.specs.Prelude.{◌≡◌};\n"
+        with tempfile.TemporaryDirectory() as top, tempfile.TemporaryDirectory() as cache:
+            for path, text in cls.FILES.items():
+                write(f"{top}/{path}", text.replace("]\n", f"]\n{use}", 1) if "≡" in text else text)
+            os.mkdir(f"{top}/.git")
+            cls.runs = [cls.run_it(top, cache, it) for it in ("high", "high", "wrong")]
+
+    @staticmethod
+    def run_it(top: str, cache: str, name: str) -> tuple[list[str], int, bool]:
+        how = {"stdin": subprocess.DEVNULL, "stdout": subprocess.PIPE, "stderr": subprocess.DEVNULL}
+        env = {**os.environ, "XDG_CACHE_HOME": cache}
+        ran = subprocess.run([sys.executable, f"{HERE}/prove", name], cwd=top, env=env, **how)
+        made = f"{top}/crates/{name}/out/{name}"
+        is_made = os.path.isfile(made)
+        if is_made:
+            os.remove(made)
+        return ran.stdout.decode().splitlines(), ran.returncode, is_made
+
+    def test_what_is_named_is_proved_with_what_it_stands_on(self) -> None:
+        lines, status, is_made = self.runs[0]
+        self.assertEqual((lines[-1], status, is_made), ("2 passed, 0 failed", 0, True), lines)
+        self.assertFalse(any("earlier run" in it for it in lines))
+
+    def test_a_second_run_takes_what_the_first_saw(self) -> None:
+        lines, status, is_made = self.runs[1]
+        self.assertEqual((lines[-1], status, is_made), ("2 passed, 0 failed", 0, True), lines)
+        self.assertEqual(sum("an earlier run on this machine proved it" in it for it in lines), 2)
+
+    def test_what_is_wrong_fails(self) -> None:
+        lines, status, is_made = self.runs[2]
+        self.assertEqual((lines[-1], status, is_made), ("0 passed, 1 failed", 1, False), lines)
 
 
 if __name__ == "__main__":

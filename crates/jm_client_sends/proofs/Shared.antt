@@ -8,7 +8,6 @@ use denote.Param.Send.{IsSend, IsSync, sendable}
 use Rattle.std.proofs.Crossing.{crosses}
 use Rattle.jm_keep.specs.contracts.keep.NoKeep as NoKeep
 use Rattle.jm_keep.specs.declared.keep.Keep as Keep
-use Rattle.jm_core.specs.Provider.{Provider as Seen}
 use Rattle.jm_sends.proofs.Sent.{Core_send}
 use Rattle.jm_client.specs.declared.backend.Backend as Backend
 use Rattle.jm_client.specs.contracts.plain.Plain as Plain
@@ -31,14 +30,10 @@ Plain_send K g s = search (sendable, crosses, Core_send) depth 60 fits 20000
 pub NoKeep_send : IsSend NoKeep.the_row
 NoKeep_send = search (sendable, crosses) depth 60 fits 20000
 
--- a backend as its provider's row shows it: by its core. What a step does beside is in no row, and may be anything
-abbrev pub shown_by : {B : Type 0} → (B → Seen) → Backend.Ghosts B
-shown_by core = record { core_of = core; IsStep = λ old p r new. Unit {0} }
-
--- so threads may share a provider over these
-pub Plain_sync : (a : NamedLft) (R K : RattleType) (k : Keep.Ghosts K.Denot) → IsSync R → IsSend K → (core : (Plain.the_row K k).Denot → Seen) →
-    IsSync (Provider.the_row a R (Plain.the_row K k) (shown_by core))
-Plain_sync a R K k r s core = Provider_sync a R (Plain.the_row K k) (shown_by core) r (Plain_send K k s)
+-- so threads may share a provider over these. (Callers name the backend's ghosts, as a search for them takes long.)
+pub Plain_sync : (a : NamedLft) (R K : RattleType) (k : Keep.Ghosts K.Denot) → IsSync R → IsSend K → (g : Backend.Ghosts (Plain.the_row K k).Denot) →
+    IsSync (Provider.the_row a R (Plain.the_row K k) g)
+Plain_sync a R K k r s g = Provider_sync a R (Plain.the_row K k) g r (Plain_send K k s)
 
 -- a closure to which one value is lent may be handed over, where threads may share that
 pub Lent_send : (ν : List ℕ) (a : NamedLft) (T : RattleType) → IsSync T → IsSend (TupleAt ν (ShrRef a.mir a.lft T ∷ []))
