@@ -5,6 +5,7 @@ import importlib
 import importlib.machinery
 import importlib.util
 import os
+import re
 import subprocess
 import sys
 import tempfile
@@ -39,8 +40,12 @@ class Low:
 
     def ci(self, flags: list[str], tests: bool) -> int:
         self.proofs += 1
-        write(f"{self.folder}/out/{self.name}_tests" if tests else f"{self.rlib}/code", f"{self.name} {flags}")
+        self.jobs = flags[1]
+        write(f"{self.folder}/out/{self.name}_tests" if tests else f"{self.rlib}/code", self.name)
         return int("wrong" in self.text())
+
+    def count(self, what: bytes) -> int:
+        return len(re.findall(what, self.text().encode()))
 
     def text(self) -> str:
         with open(f"{self.folder}/src/lib.rt", encoding="utf-8") as it:
@@ -65,6 +70,7 @@ class Tried(unittest.TestCase):
         self.top = room.name
         self.crate = Low(self.top, "low", "fn low() {}")
         self.tried: list[str] = []
+        self.jobs: list[str] = []
         self.rt = self.kit("this kit")
 
     def kit(self, name: str) -> Any:
@@ -108,7 +114,7 @@ class Keys(Tried):
     def test_a_library_built_otherwise_gives_another(self) -> None:
         above = Low(self.top, "above", "fn above() {}")
         above.below_it = [self.crate]
-        self.crate.ci([], False)
+        self.crate.ci(["--jobs", "1"], False)
         before = self.store().key(above)
         self.assertEqual(before, self.store().key(above))
         write(f"{self.crate.rlib}/code", "built otherwise")
@@ -161,6 +167,7 @@ class Proves(Tried):
         self.status = crate.ci(["--jobs", "1"], tests)
         self.assertEqual(rt.need(crate), int(100 * self.prove.MEASURED))
         self.assertTrue(os.path.exists(f"{crate.folder}/out/low_tests" if tests else f"{crate.rlib}/code"))
+        self.jobs.append(getattr(crate, "jobs", ""))
         return crate.proofs
 
     def test_what_was_proved_is_taken(self) -> None:
@@ -168,6 +175,12 @@ class Proves(Tried):
 
     def test_a_proof_is_none_of_the_tests(self) -> None:
         self.assertEqual([self.run_ci(), self.run_ci(tests=True), self.run_ci(tests=True)], [1, 1, 0])
+
+    def test_a_large_crate_gets_more_jobs(self) -> None:
+        self.run_ci()
+        write(f"{self.crate.folder}/src/lib.rt", "\n" * (self.prove.LARGE + 1))
+        self.run_ci()
+        self.assertEqual([self.jobs[0], self.jobs[1]], ["1", str(self.prove.JOBS)])
 
     def test_anew_proves_again(self) -> None:
         self.assertEqual([self.run_ci(), self.run_ci(anew=True)], [1, 1])
