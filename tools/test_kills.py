@@ -87,6 +87,10 @@ def said(fault: str, kills: int, seed: int = 5) -> tuple[list[str], int]:
     return ran.stdout.decode().splitlines(), ran.returncode
 
 
+# How a fault of what is stored shows: after the kill, in what the second run says, or after that, as the moment of the kill has it.
+SEEN = "after none of the calls|and not|stands"
+
+
 class Kills(unittest.TestCase):
     def test_what_is_kept_passes(self) -> None:
         lines, status = said("", 6)
@@ -101,14 +105,14 @@ class Kills(unittest.TestCase):
         self.assertRegex(lines[0], why)
 
     def test_a_message_that_is_lost_is_seen(self) -> None:
-        self.assert_fails("base.execute('DELETE FROM held WHERE place % 2 = 0')", "after none of the calls")
+        self.assert_fails("base.execute('DELETE FROM held WHERE place % 2 = 0')", SEEN)
 
     def test_a_count_that_is_lost_is_seen(self) -> None:
-        self.assert_fails("base.execute('UPDATE held SET deliveries = 0')", "after none of the calls|and not")
+        self.assert_fails("base.execute('UPDATE held SET deliveries = 0')", SEEN)
 
     def test_a_call_in_two_transactions_is_seen(self) -> None:
         fault = "base.execute('DELETE FROM held'); base.execute('COMMIT'); base.execute('BEGIN'); store(base, provider)"
-        self.assert_fails(fault, "after none of the calls")
+        self.assert_fails(fault, SEEN)
 
     def test_rows_that_do_not_fit_together_are_seen(self) -> None:
         self.assert_fails("base.execute('DELETE FROM message WHERE place % 2 = 0')", "foreign_key_check")
