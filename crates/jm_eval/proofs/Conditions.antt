@@ -20,6 +20,10 @@ condition-value t.True = refl
 condition-value t.False = refl
 condition-value t.Unknown = refl
 
+-- the value of a condition is that of itself as a condition
+pub stays : (x : Truth) (v : Value) → v ≡ value_of x → value_of (condition_of v) ≡ v
+stays x v h = rw h (ap value_of (condition-value x))
+
 and_first : (x : Truth) → and_of t.True x ≡ x
 and_first t.True = refl
 and_first t.False = refl
@@ -38,7 +42,7 @@ either x y = rw (condition-value x, condition-value y, or_first x) refl
 
 -- ---- the value of each form
 
-compare-is : (view : List ℕ → Value) (op : Comparison) (left right : Tree) → value view (e.Compare op left right) ≡ value_of (comparison op (value view left) (value view right))
+pub compare-is : (view : List ℕ → Value) (op : Comparison) (left right : Tree) → value view (e.Compare op left right) ≡ value_of (comparison op (value view left) (value view right))
 unfolding value
 compare-is view op left right = ap (value view) (sym (rolls-Compare op left right)) ∙ fold-roll-Tree Value (node view) (Tree-F.Compare op left right)
 
@@ -49,31 +53,31 @@ equality-is view name text =
     let x : value view (e.Text text) ≡ Text text = ap (value view) (sym (rolls-Text text)) ∙ fold-roll-Tree Value (node view) (Tree-F.Text text) in
     compare-is view Equal (e.Name name) (e.Text text) ∙ ap (λ v. value_of (comparison Equal v (value view (e.Text text)))) n ∙ ap (λ v. value_of (comparison Equal (view name) v)) x
 
-between-is : (view : List ℕ → Value) (negated : Bool) (operand low high : Tree) → value view (e.Between negated operand low high) ≡ value_of (between negated (value view operand) (value view low) (value view high))
+pub between-is : (view : List ℕ → Value) (negated : Bool) (operand low high : Tree) → value view (e.Between negated operand low high) ≡ value_of (between negated (value view operand) (value view low) (value view high))
 unfolding value
 between-is view negated operand low high = ap (value view) (sym (rolls-Between negated operand low high)) ∙ fold-roll-Tree Value (node view) (Tree-F.Between negated operand low high)
 
-in-is : (view : List ℕ → Value) (negated : Bool) (name : List ℕ) (list : List (List ℕ)) → value view (e.In negated name list) ≡ value_of (negated_if negated (is_in (view name) list))
+pub in-is : (view : List ℕ → Value) (negated : Bool) (name : List ℕ) (list : List (List ℕ)) → value view (e.In negated name list) ≡ value_of (negated_if negated (is_in (view name) list))
 unfolding value
 in-is view negated name list = ap (value view) (sym (rolls-In negated name list)) ∙ fold-roll-Tree Value (node view) (Tree-F.In negated name list)
 
-like-is : (view : List ℕ → Value) (negated : Bool) (name pattern : List ℕ) (escape : Option ℕ) → value view (e.Like negated name pattern escape) ≡ value_of (negated_if negated (is_like (view name) pattern escape))
+pub like-is : (view : List ℕ → Value) (negated : Bool) (name pattern : List ℕ) (escape : Option ℕ) → value view (e.Like negated name pattern escape) ≡ value_of (negated_if negated (is_like (view name) pattern escape))
 unfolding value
 like-is view negated name pattern escape = ap (value view) (sym (rolls-Like negated name pattern escape)) ∙ fold-roll-Tree Value (node view) (Tree-F.Like negated name pattern escape)
 
-null-is : (view : List ℕ → Value) (negated : Bool) (name : List ℕ) → value view (e.IsNull negated name) ≡ value_of (negated_if negated (is_null (view name)))
+pub null-is : (view : List ℕ → Value) (negated : Bool) (name : List ℕ) → value view (e.IsNull negated name) ≡ value_of (negated_if negated (is_null (view name)))
 unfolding value
 null-is view negated name = ap (value view) (sym (rolls-IsNull negated name)) ∙ fold-roll-Tree Value (node view) (Tree-F.IsNull negated name)
 
-not-is : (view : List ℕ → Value) (operand : Tree) → value view (e.Not operand) ≡ value_of (not_of (condition_of (value view operand)))
+pub not-is : (view : List ℕ → Value) (operand : Tree) → value view (e.Not operand) ≡ value_of (not_of (condition_of (value view operand)))
 unfolding value
 not-is view operand = ap (value view) (sym (rolls-Not operand)) ∙ fold-roll-Tree Value (node view) (Tree-F.Not operand)
 
-all-is : (view : List ℕ → Value) (members : List Tree) → value view (e.All members) ≡ value_of (fold and_next t.True (map (value view) members))
+pub all-is : (view : List ℕ → Value) (members : List Tree) → value view (e.All members) ≡ value_of (fold and_next t.True (map (value view) members))
 unfolding value
 all-is view members = ap (value view) (sym (rolls-All members)) ∙ fold-roll-Tree Value (node view) (Tree-F.All members)
 
-any-is : (view : List ℕ → Value) (members : List Tree) → value view (e.AnyOf members) ≡ value_of (fold or_next t.False (map (value view) members))
+pub any-is : (view : List ℕ → Value) (members : List Tree) → value view (e.AnyOf members) ≡ value_of (fold or_next t.False (map (value view) members))
 unfolding value
 any-is view members = ap (value view) (sym (rolls-AnyOf members)) ∙ fold-roll-Tree Value (node view) (Tree-F.AnyOf members)
 

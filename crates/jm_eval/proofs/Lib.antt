@@ -10,3 +10,4 @@ pub mod Backwards
 pub mod Decided
 pub mod Names
 pub mod Found
+pub mod Chains

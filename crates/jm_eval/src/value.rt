@@ -5,6 +5,8 @@ ghost use Rattle.jm_tree.specs.Patterns as patterns;
 ghost use Rattle.jm_eval.specs.Patterns as fits;
 ghost use Rattle.jm_eval.specs.Same as same;
 ghost use Rattle.jm_eval.specs.Values as spec;
+ghost use Rattle.jm_eval.specs.Values.{Number, Text};
+ghost use Rattle.jm_header.specs.MessageIds.{message_id};
 ghost use Rattle.jm_eval.specs.Seen.{seen};
 
 use crate::arithmetic::{difference_of, negative_of, product_of, quotient_of, sum_of};
@@ -159,7 +161,7 @@ pub(crate) fn multiply<'a>(left: Value<'a>, op: Multiplicative, right: Value<'a>
     }
 }
 
-fn numbers_compare(op: Comparison, left: i64, right: i64) -> bool
+pub(crate) fn numbers_compare(op: Comparison, left: i64, right: i64) -> bool
     ensures { result ≡ spec.numbers_compare op left right }
 {
     match op {
@@ -183,10 +185,56 @@ fn equality_compares(op: Comparison, equal: bool) -> bool
 }
 
 /// Two texts by an operator; an ordering of them is FALSE.
-fn texts_compare(op: Comparison, left: &str, right: &str) -> Truth
+pub(crate) fn texts_compare(op: Comparison, left: &str, right: &str) -> Truth
     ensures { result ≡ spec.truth_of (spec.equality_compares op (names.texts_equal left.now right.now)) }
 {
     truth_of(equality_compares(op, left == right))
+}
+
+/// A comparison of a value with a number.
+#[inline(always)]
+pub(crate) fn number_comparison(op: Comparison, left: Value<'_>, right: i64) -> Truth
+    ensures { result ≡ spec.comparison op (seen left.entry) (Number right) }
+{
+    match left {
+        Value::Unknown => Truth::Unknown,
+        Value::Number(left) => truth_of(numbers_compare(op, left, right)),
+        _ => Truth::False,
+    }
+}
+
+/// A comparison of the text of a JMSMessageID with a text.
+#[cold]
+#[inline(never)]
+fn id_comparison(op: Comparison, left: &Message, right: &str) -> Truth
+    ensures { result ≡ spec.truth_of (spec.equality_compares op (names.texts_equal (message_id left.now) right.now)) }
+{
+    texts_compare(op, left.message_id().as_str(), right)
+}
+
+/// A comparison of a value with a text.
+#[inline(always)]
+pub(crate) fn text_comparison(op: Comparison, left: Value<'_>, right: &str) -> Truth
+    ensures { result ≡ spec.comparison op (seen left.entry) (Text right.now) }
+{
+    match left {
+        Value::Unknown => Truth::Unknown,
+        Value::Text(left) => texts_compare(op, left, right),
+        Value::MessageId(message) => id_comparison(op, message, right),
+        _ => Truth::False,
+    }
+}
+
+/// BETWEEN of a value and two numbers, or NOT BETWEEN where it is negated.
+#[inline(always)]
+pub(crate) fn number_between(negated: bool, operand: Value<'_>, low: i64, high: i64) -> Truth
+    ensures { result ≡ spec.between negated (seen operand.entry) (Number low) (Number high) }
+{
+    match operand {
+        Value::Unknown => Truth::Unknown,
+        Value::Number(number) => truth_of((low <= number && number <= high) != negated),
+        _ => Truth::False,
+    }
 }
 
 /// A comparison of two values.

@@ -4,6 +4,7 @@ ghost use Rattle.std.specs.Prelude.{◌≡◌, ℕ, ◌<◌, ◌≤◌, ◌++◌
 ghost use Rattle.jm_property.specs.Order.{IsIndex, IsOrder, IsPlaceOf, is_before, name_at};
 ghost use Rattle.jm_property.specs.Properties.{value_of};
 ghost use Rattle.jm_property.specs.Same.{names_of};
+ghost use Rattle.std.specs.Str.{bytes_eq};
 
 use crate::property::Property;
 use jm_shared::SharedStr;
@@ -15,11 +16,34 @@ pub(crate) type Entry = (SharedStr, Property);
 /// So many properties are looked through in turn, and more are found by the order of their names.
 const IN_TURN: usize = 16;
 
+#[inline(never)]
+fn are_equal(one: &str, other: &str) -> bool
+    ensures { result ≡ bytes_eq one.now other.now }
+{
+    one == other
+}
+
+/// Whether both texts are equal. All of them is looked at only where their lengths and their first bytes are equal.
+#[inline(always)]
+fn is_text(one: &str, other: &str) -> bool
+    ensures { result ≡ bytes_eq one.now other.now }
+{
+    let (first, second) = (one.as_bytes(), other.as_bytes());
+    if first.len() != second.len() {
+        return false;
+    }
+    if !first.is_empty() && first[0] != second[0] {
+        return false;
+    }
+    are_equal(one, other)
+}
+
+#[inline(always)]
 fn find_in_turn(entries: &[Entry], name: &str) -> Option<usize>
     ensures { IsPlaceOf entries.now name.now result }
 {
     for (place, entry) in entries.iter().enumerate() {
-        if entry.0.as_str() == name {
+        if is_text(entry.0.as_str(), name) {
             return Some(place);
         }
     }
@@ -59,6 +83,8 @@ fn count_before(entries: &[Entry], order: &[usize], name: &str) -> usize
     low
 }
 
+#[cold]
+#[inline(never)]
 fn find_in_order(entries: &[Entry], order: &[usize], name: &str) -> Option<usize>
     requires { IsOrder (names_of entries.now) order.now }
     ensures { IsPlaceOf entries.now name.now result }
@@ -76,6 +102,7 @@ fn find_in_order(entries: &[Entry], order: &[usize], name: &str) -> Option<usize
 }
 
 /// The place of the name, where it is one of theirs.
+#[inline(always)]
 pub(crate) fn find(entries: &[Entry], order: &[usize], name: &str) -> Option<usize>
     requires { IsIndex entries.now order.now }
     ensures { IsPlaceOf entries.now name.now result }

@@ -100,6 +100,7 @@ impl Properties {
     }
 
     /// The value of that name, where it is set. Takes no memory.
+    #[inline(always)]
     pub fn get(&self, name: &str) -> Option<&Property>
         ensures { option_copied result ≡ spec.value_of self.now name.now }
     {
@@ -107,6 +108,7 @@ impl Properties {
         Some(&self.entries[place].1)
     }
 
+    #[inline(always)]
     fn place_of(&self, name: &str) -> Option<usize>
         ensures { IsPlaceOf self.now name.now result }
     {

@@ -1,11 +1,13 @@
 ghost use Rattle.std.specs.Prelude.{◌≡◌, ◌≢◌, nat_eq, is_none, IfOk, IfErr, Ok, Some, None};
 ghost use Rattle.jm_base.specs.declared.refusal.Refusal.TheVariants.{Memory};
 ghost use Rattle.jm_selector.specs.Selectors as spec;
+ghost use Rattle.jm_selector.specs.Literals.{literal_of};
 ghost use Rattle.jm_selector.specs.Selectors.{matches, refused, selector_read, selector_refusal};
 ghost use Rattle.std.specs.Option.{option_copied, option_eq};
 ghost use Rattle.std.specs.Cmp.Lexicographic.{pointwise, nat_list_eq_equiv};
 ghost use Rattle.std.proofs.Common.{rules};
 
+use crate::literal::{self, Literal};
 use jm_base::{Cause, Refusal, Str};
 use jm_eval::selects;
 use jm_header::Message;
@@ -149,6 +151,18 @@ impl Selector {
         match &self.text {
             None => None,
             Some(text) => Some(text.as_str()),
+        }
+    }
+
+    /// The literal that it asks a value of a message to be equal to: that of an equality between a literal and a name,
+    /// which is a property's, JMSCorrelationID or JMSType, or of the first such equality that an AND joins. None of
+    /// every other selector. `AllocError` where a request for memory was refused, which is made for a text alone.
+    pub fn literal(&self) -> Result<Option<Literal>, AllocError>
+        ensures { IfOk result (λ literal. literal ≡ literal_of self.now) }
+    {
+        match &self.tree {
+            None => Ok(None),
+            Some(tree) => literal::literal_of(self.alloc, tree),
         }
     }
 

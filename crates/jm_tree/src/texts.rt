@@ -10,6 +10,9 @@ use std::collections::BTreeSet;
 use std::fmt;
 use std::marker::Model;
 
+/// So many texts are looked through in turn, and more are found in the set of them.
+const IN_TURN: usize = 8;
+
 /// The texts of an IN, beside the ordered set of them, which is made once. Contracts see the list.
 pub struct Texts {
     alloc: Global,
@@ -56,6 +59,36 @@ fn set_of(alloc: Global, texts: &[Str]) -> Result<BTreeSet<String>, AllocError>
     Ok(set)
 }
 
+#[inline(never)]
+fn are_equal(one: &str, other: &str) -> bool
+    ensures { result ≡ spec.texts_equal one.now other.now }
+{
+    one == other
+}
+
+/// Whether both texts are equal. All of them is looked at only where their lengths and their first bytes are equal.
+#[inline(always)]
+fn is_text(one: &str, other: &str) -> bool
+    ensures { result ≡ spec.texts_equal one.now other.now }
+{
+    let (first, second) = (one.as_bytes(), other.as_bytes());
+    if first.len() != second.len() {
+        return false;
+    }
+    if !first.is_empty() && first[0] != second[0] {
+        return false;
+    }
+    are_equal(one, other)
+}
+
+/// Whether the text is one of these, which are looked through in turn.
+#[tactic(auto, unfolding(crate::specs::Names::is_among))]
+fn is_among(texts: &[Str], text: &str) -> bool
+    ensures { result ≡ spec.is_among text.now texts.now }
+{
+    texts.iter().any(|member| is_text(text, member.as_str()))
+}
+
 impl Texts {
     /// The texts, moved in, with the set of them. `AllocError` where a request for memory was refused.
     pub fn new(alloc: Global, list: List<Str>) -> Result<Texts, AllocError>
@@ -72,11 +105,16 @@ impl Texts {
         self.list.as_slice()
     }
 
-    /// Whether the text is one of the list: a look-up, not a walk. Takes no memory.
+    /// Whether the text is one of the list: a walk over a few texts, and a look-up among more. Takes no memory.
     pub fn contains(&self, text: &str) -> bool
         ensures { result ≡ spec.is_among text.now self.now }
     {
-        self.set.contains(text)
+        let texts = self.as_slice();
+        if texts.len() > IN_TURN {
+            self.set.contains(text)
+        } else {
+            is_among(texts, text)
+        }
     }
 
     /// Equal texts. `AllocError` where a request for memory was refused.
