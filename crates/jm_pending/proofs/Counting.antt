@@ -5,13 +5,14 @@ use Rattle.std.proofs.lemmas.Bool.{eq-eqb}
 use Rattle.std.proofs.lemmas.List.{get_or-set_other, length-set}
 use Rattle.std.proofs.lemmas.List.Elements.{All-nil, All-cons, All-head, All-tail}
 use Rattle.std.proofs.lemmas.List.Sums.{sum_by-cons, sum_by-append, sum_by-set, get_or-le-sum_by}
-use Rattle.jm_pending.specs.declared.row.Row.{Row}
-use Rattle.jm_pending.specs.Rows.{IsRising}
-use Rattle.jm_pending.specs.Holders.{Messages, GainsHolder, LosesHolder, KeepsMessages, Follows, Covers, holders_of, message_of, rows_at}
+use Rattle.jm_lane.specs.declared.row.Row.{Row}
+use Rattle.jm_lane.specs.Rows.{IsRising}
+use Rattle.jm_lane.specs.Holders.{Messages, GainsHolder, LosesHolder, KeepsMessages, Follows, Covers, holders_of, message_of, rows_at}
 use Rattle.jm_pending.specs.Counts.{all_at, IsCounted, IsCountedBeside}
 use Rattle.jm_pending.specs.Placed.{all_placed, IsRowOf, AreRowsOf}
-pub use Rattle.jm_pending.proofs.Holding.{covers_after}
-use Rattle.jm_pending.proofs.Holding.{row_first, rising_once}
+pub use Rattle.jm_lane.proofs.Holding.{covers_after}
+use Rattle.jm_lane.proofs.Holding.{row_first}
+use Rattle.jm_lanes.proofs.Holding.{rising_once}
 
 -- a list of many has no more rows at a place than all
 pub part_of_all : (p : ℕ) (lists : List (List Row)) (k : ℕ) (d : List Row) → k < length lists → rows_at p (get_or lists k d) ≤ all_at p lists

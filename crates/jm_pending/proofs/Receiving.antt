@@ -1,18 +1,23 @@
 -- Whom rows are out to, through each call.
-use Rattle.std.proofs.Common.{◌≡◌, ℕ, ◌==◌, Bool, true, false, not, cond, List, [], ◌∷◌, ◌++◌, map, refl, ap, arith}
-use Rattle.std.specs.List.{filter}
-use Rattle.std.proofs.lemmas.List.Elements.{All-nil, All-cons, All-head, All-tail, All-filter, All-map, All-weaker, All-append}
+use Rattle.std.proofs.Common.{◌≡◌, ℕ, ◌++◌, Bool, true, false, not, cond, List, [], ◌∷◌, refl, ap, sym, ◌==◌, None, arith, map}
+use Rattle.std.proofs.lemmas.List.Elements.{All-weaker, All-nil, All-cons, All-append, All-head, All-tail, All-filter, All-map}
+use Rattle.std.proofs.lemmas.List.Folds.{list_any_none}
 use Rattle.jm_machine.specs.declared.state.RowState.{RowState}
 use Rattle.jm_machine.specs.declared.state.RowState.TheVariants.{Waiting, Out}
-use Rattle.jm_dest.specs.declared.session.SessionId.{SessionId}
 use Rattle.jm_machine.specs.Rows.{goes_out}
-use Rattle.jm_pending.specs.declared.row.Row.{Row}
+use Rattle.jm_lane.specs.declared.row.Row.{Row}
 use Rattle.jm_pending.specs.declared.receivers.Receivers.{Receivers}
-use Rattle.jm_pending.specs.declared.receivers.Receivers.TheVariants.{Nobody, One, Any}
-use Rattle.jm_pending.specs.Rows.{back, is_out, sent, sent_at}
+use Rattle.jm_lane.specs.Rows.{are_home, is_out, is_from, back, sent, sent_at}
 use Rattle.jm_pending.specs.Receivers.{is_known, AreKnown}
-use Rattle.jm_pending.specs.Holders.{Messages, Follows}
-use Rattle.jm_pending.proofs.Rolling.{filter_none}
+use Rattle.std.specs.List.{filter, find}
+use Rattle.jm_dest.specs.declared.session.SessionId.{SessionId}
+use Rattle.jm_lane.specs.Cursors.{out_from}
+use Rattle.jm_lane.proofs.Rising.{find_none}
+use Rattle.jm_pending.specs.declared.receivers.Receivers.TheVariants.{Nobody, One, Any}
+use Rattle.jm_lane.specs.Holders.{Messages, Follows}
+use Rattle.jm_lane.proofs.Rolling.{filter_none}
+use Rattle.jm_lane.proofs.Home.{is_away}
+use Rattle.jm_lane.proofs.Lowest.{fails_second}
 
 -- whatever is known, a row may wait
 known_waiting : (k : Receivers) → is_known k Waiting ≡ true
@@ -116,3 +121,13 @@ known_back_same passes k rows left e known =
 
 pub known_no_rows : (k : Receivers) (rows : List Row) → rows ≡ [] → AreKnown k rows
 known_no_rows k rows e = rw e (All-nil (λ (r : Row). is_known k r.state ≡ true))
+
+-- where it is known that each row waits, none is out
+pub home_known : (k : Receivers) (rows : List Row) → ((state : RowState) → is_known k state ≡ true → state ≡ Waiting) → AreKnown k rows → are_home rows ≡ true
+home_known k rows none known =
+    ap not (list_any_none is_away rows (All-weaker (λ (r : Row). is_known k r.state ≡ true) (λ r. is_away r ≡ false) (λ r h. ap (goes_out (λ s c. true)) (none r.state h)) rows known))
+
+-- where no row that is known may be out through those, none is
+pub none_out : (w : SessionId → ℕ → Bool) (place : ℕ) (receivers : Receivers) (rows : List Row) → ((state : RowState) → is_known receivers state ≡ true → goes_out w state ≡ false) → AreKnown receivers rows → None ≡ find (out_from place w) rows
+none_out w place receivers rows none known =
+    sym (find_none (out_from place w) rows (All-weaker (λ (r : Row). is_known receivers r.state ≡ true) (λ r. out_from place w r ≡ false) (λ r h. fails_second (is_from place r) (is_out w r) (none r.state h)) rows known))

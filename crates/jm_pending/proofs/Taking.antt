@@ -10,28 +10,26 @@ use Rattle.jm_machine.specs.declared.state.RowState.{RowState}
 use Rattle.jm_machine.specs.declared.state.RowState.TheVariants.{Out}
 use Rattle.jm_pending.specs.declared.held.Taken.{Taken}
 use Rattle.jm_pending.specs.declared.receivers.Receivers.{Receivers}
-use Rattle.jm_pending.specs.declared.row.Row.{Row}
-use Rattle.jm_pending.specs.Chosen.{is_choice, is_passed, passes, next_where}
-use Rattle.jm_pending.specs.Holders.{Messages, Covers, Follows, holders_of}
-use Rattle.jm_pending.specs.Lanes.{Lane, all_rows, rows_of, IsHeld, IsApart, IsSoonestOf, EachBecomes, is_at, is_sooner}
+use Rattle.jm_lane.specs.declared.row.Row.{Row}
+use Rattle.jm_lane.specs.Chosen.{is_choice, is_passed, passes}
+use Rattle.jm_pending.specs.Chosen.{next_where}
+use Rattle.jm_lane.specs.Holders.{Messages, Covers, Follows, holders_of}
+use Rattle.jm_lane.specs.Lanes.{Lane, IsSoonestOf, is_at, is_sooner}
+use Rattle.jm_lanes.specs.Lanes.{all_rows, rows_of, IsHeld, IsApart, EachBecomes}
 use Rattle.jm_pending.specs.Receivers.{is_known, AreKnown}
-use Rattle.jm_pending.specs.Rows.{Held, stays, is_ready, is_waiting, is_expired, is_held_back, is_elsewhere, next, sent, sent_at}
-use Rattle.jm_pending.proofs.Choice.{left_true, next_choice}
-use Rattle.jm_pending.proofs.Edited.{all_rows_each}
-use Rattle.jm_pending.proofs.Holding.{covers_after, holder_there}
-use Rattle.jm_pending.proofs.Keeping.{held_filter, held_map, held_same}
-use Rattle.jm_pending.proofs.Places.{apart_from_rising}
+use Rattle.jm_lane.specs.Rows.{stays, is_ready, is_waiting, is_expired, is_held_back, is_elsewhere, sent, sent_at}
+use Rattle.jm_pending.specs.Rows.{Held, next}
+use Rattle.jm_lane.proofs.Choice.{left_true}
+use Rattle.jm_pending.proofs.Soonest.{next_choice, next_soonest}
+use Rattle.jm_lanes.proofs.Edited.{all_rows_each}
+use Rattle.jm_lane.proofs.Holding.{covers_after, holder_there}
+use Rattle.jm_lanes.proofs.Keeping.{held_filter, held_map, held_same}
+use Rattle.jm_lanes.proofs.Places.{apart_from_rising}
 use Rattle.jm_pending.proofs.Receiving.{known_filter, known_more, known_same, known_sent}
-use Rattle.jm_pending.proofs.Soonest.{all_that_pass, found_there, next_soonest}
-use Rattle.jm_pending.proofs.Steps.{sent_at_place, sent_at_priority}
-
--- what a sending does to the lanes, where that row goes first
-abbrev pub Sends : SessionId → ℕ → List Lane → List Lane → Option Row → Option Row → Type 0
-Sends s c ys zs res o = MatchOption o ((res ≡ None) × EachBecomes (λ rs. rs) ys zs) (λ r. (res ≡ Some (sent s c r)) × EachBecomes (map (sent_at r.place s c)) ys zs)
-
--- and what a removal does
-abbrev pub Removes : List Lane → List Lane → Option Row → Option Row → Type 0
-Removes ys zs res o = MatchOption o ((res ≡ None) × EachBecomes (λ rs. rs) ys zs) (λ r. (res ≡ Some r) × EachBecomes (filter (is_elsewhere r.place)) ys zs)
+use Rattle.jm_lane.proofs.Soonest.{all_that_pass}
+use Rattle.jm_lanes.proofs.Soonest.{found_there}
+use Rattle.jm_lane.proofs.Steps.{sent_at_place, sent_at_priority}
+use Rattle.jm_lanes.proofs.Taking.{Removes, Sends}
 
 -- what is left of the rows that are not dropped
 pub dropped : (now : ℕ) (xs ys : List Lane) → EachBecomes (filter (stays now)) xs ys → all_rows ys ≡ filter (stays now) (all_rows xs)

@@ -1,7 +1,7 @@
 -- Many lists of rows over one table.
 use Rattle.std.specs.Prelude.{◌≡◌, ℕ, ◌+◌, ◌==◌, if◌then◌else◌, List, sum_by}
-use Rattle.jm_pending.specs.declared.row.Row.{Row}
-use Rattle.jm_pending.specs.Holders.{Messages, holders_of, rows_at}
+use Rattle.jm_lane.specs.declared.row.Row.{Row}
+use Rattle.jm_lane.specs.Holders.{Messages, holders_of, rows_at}
 
 -- how many rows of all lists are at a place
 abbrev pub all_at : ℕ → List (List Row) → ℕ

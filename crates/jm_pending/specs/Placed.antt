@@ -5,9 +5,9 @@ use Rattle.jm_header.specs.declared.body.Body.TheVariants.{None as no_body}
 use Rattle.jm_header.specs.declared.content.Content.{Content}
 use Rattle.jm_header.specs.declared.content.DeliveryMode.TheVariants.{Persistent}
 use Rattle.jm_machine.specs.declared.state.PlacedRow.{PlacedRow}
-use Rattle.jm_pending.specs.declared.row.Row.{Row}
-use Rattle.jm_pending.specs.Holders.{Messages, message_of}
-use Rattle.jm_pending.specs.Rows.{due_of}
+use Rattle.jm_lane.specs.declared.row.Row.{Row}
+use Rattle.jm_lane.specs.Holders.{Messages, message_of}
+use Rattle.jm_lane.specs.Rows.{due_of}
 
 -- what stands for a message where there is none; no row that has its holder is read so
 abbrev pub no_message : Content

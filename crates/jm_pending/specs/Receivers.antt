@@ -3,7 +3,7 @@ use Rattle.std.specs.Prelude.{◌≡◌, Bool, true, ◌||◌, List, All}
 use Rattle.jm_machine.specs.declared.state.RowState.{RowState}
 use Rattle.jm_machine.specs.Rows.{waits, goes_out}
 use Rattle.jm_machine.specs.Machine.{of_number}
-use Rattle.jm_pending.specs.declared.row.Row.{Row}
+use Rattle.jm_lane.specs.declared.row.Row.{Row}
 use Rattle.jm_pending.specs.declared.receivers.Receivers.{Receivers}
 use Rattle.jm_pending.specs.declared.receivers.Receivers.TheVariants.{Nobody, One, Any}
 

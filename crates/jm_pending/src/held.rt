@@ -1,22 +1,22 @@
 //! The rows of one subscription.
 
-ghost use Rattle.std.specs.Prelude.{◌≡◌, ℕ, ◌+◌, ◌-◌, ◌^◌, ◌<◌, ◌≤◌, [], ◌∷◌, ◌++◌, length, slice_get, All, find, filter, map, min, not, true, false, None, Some, IfSome, IfOk, OnOk, MatchOption};
+ghost use Rattle.std.specs.Prelude.{◌≡◌, ◌+◌, ◌-◌, ◌^◌, ◌<◌, ◌≤◌, [], ◌∷◌, ◌++◌, length, slice_get, All, find, filter, map, not, true, false, None, Some, IfSome, IfOk, OnOk, MatchOption};
 ghost use Rattle.jm_dest.specs.Numbers.{long_end};
 ghost use Rattle.jm_machine.specs.Machine.{are_meant, one_missed};
-ghost use Rattle.jm_pending.specs.declared.row.Row.{Row};
-ghost use Rattle.jm_pending.specs.Rows as spec;
+ghost use Rattle.jm_lane.specs.declared.row.Row.{Row};
+ghost use Rattle.jm_lane.specs.Rows as spec;
+ghost use Rattle.jm_pending.specs.Rows.{is_at_limit, next};
 ghost use Rattle.jm_pending.specs.Chosen.{next_where};
 ghost use Rattle.jm_selector.specs.Selectors.{matches};
-ghost use Rattle.jm_pending.specs.Holders.{Covers, Follows, holders_of, last_message};
-ghost use Rattle.jm_pending.specs.Lanes.{is_at};
-ghost use Rattle.jm_pending.specs.Cursors as cursor;
+ghost use Rattle.jm_lane.specs.Holders.{Covers, Follows, holders_of, last_message};
+ghost use Rattle.jm_lane.specs.Lanes.{is_at};
+ghost use Rattle.jm_lane.specs.Cursors as cursor;
 
 use crate::receivers::Receivers;
-use crate::row::{Outs, Row};
-use crate::table::Table;
-use crate::used::UsedLanes;
 use jm_dest::{ConsumerId, Moment, SessionId};
 use jm_header::Message;
+use jm_lane::{Outs, Row, Table};
+use jm_lanes::UsedLanes;
 use jm_machine::Consumers;
 use jm_selector::Selector;
 use std::alloc::{AllocError, Global};
@@ -57,7 +57,7 @@ impl Drop for Held {
 
 impl Model for Held {
     ghost use Rattle.std.specs.Prelude.{◌≡◌, length};
-    ghost use Rattle.jm_pending.specs.Lanes.{IsHeld, rows_of};
+    ghost use Rattle.jm_lanes.specs.Lanes.{IsHeld, rows_of};
     ghost use Rattle.jm_pending.specs.Receivers.{AreKnown};
     ghost use Rattle.jm_pending.specs.Rows.{Held as HeldShown};
 
@@ -146,7 +146,7 @@ impl Held {
     }
 
     /// The row at that place, where there is one. Looks for it by halves in each lane that may have rows.
-    #[tactic(auto, using(crate::proofs::Ranks::at_sorted))]
+    #[tactic(auto, using(jm_lanes::proofs::Ranks::at_sorted))]
     pub fn row_of(&self, place: u64) -> Option<Row>
         ensures { result ≡ find (is_at place) self.now.rows }
     {
@@ -193,7 +193,7 @@ impl Held {
 
     /// Whether one more publication would be missed.
     pub fn is_at_limit(&self) -> bool
-        ensures { result ≡ spec.is_at_limit self.now.limit (length self.now.rows) }
+        ensures { result ≡ is_at_limit self.now.limit (length self.now.rows) }
     {
         match self.limit {
             Some(limit) => limit as usize <= self.count,
@@ -238,9 +238,9 @@ impl Held {
         requires above { All (λ (r : Row). r.place < row.place) self.old.rows }
         requires there { 0 < holders_of table.old row.place }
         requires fits { holders_of table.old row.place < 2 ^ 64 - 1 }
-        ensures missed { spec.is_at_limit self.old.limit (length self.old.rows) ≡ true →
+        ensures missed { is_at_limit self.old.limit (length self.old.rows) ≡ true →
             self.new ≡ record self.old { missed = one_missed self.old.missed } }
-        ensures added { spec.is_at_limit self.old.limit (length self.old.rows) ≡ false →
+        ensures added { is_at_limit self.old.limit (length self.old.rows) ≡ false →
             self.new ≡ record self.old { rows = self.old.rows ++ row ∷ []; room = self.old.room - 1 } }
         ensures table { Follows table.old table.new self.old.rows self.new.rows }
     {
@@ -259,7 +259,7 @@ impl Held {
     /// one of highest priority, then of least place.
     #[tactic(auto, using(crate::proofs::Soonest::next_soonest))]
     pub fn next(&self, now: Moment) -> Option<Row>
-        ensures next { result ≡ spec.next now self.now.rows }
+        ensures next { result ≡ next now self.now.rows }
         ensures rising { spec.IsRising self.now.rows }
     {
         if self.is_empty() {
@@ -271,7 +271,7 @@ impl Held {
     /// The row that a delivery at that moment would take of those whose messages the selector selects: of those that wait,
     /// and are not expired and not held back, the one of highest priority, then of least place. A row of which the table has no message is
     /// not selected. Looks at the rows that wait, from the first on, up to that row, and at none of lower priority.
-    #[tactic(auto, using(crate::proofs::Choice::next_choice))]
+    #[tactic(auto, using(crate::proofs::Soonest::next_choice))]
     pub fn next_where(&self, table: &Table, now: Moment, selector: &Selector) -> Option<Row>
         ensures next { result ≡ next_where (matches selector.now) table.now now self.now.rows }
         ensures rising { spec.IsRising self.now.rows }
@@ -292,7 +292,7 @@ impl Held {
         consumer: ConsumerId,
     ) -> Option<Row>
         requires { Covers table.old self.old.rows }
-        ensures rows { MatchOption (spec.next now self.old.rows)
+        ensures rows { MatchOption (next now self.old.rows)
             ((result ≡ None) × (self.new ≡ record self.old { rows = filter (spec.stays now) self.old.rows }))
             (λ r. (result ≡ Some (spec.sent session consumer r)) ×
             (self.new ≡ record self.old {
@@ -315,7 +315,7 @@ impl Held {
     /// table. Takes no memory.
     pub fn take_settled(&mut self, table: &mut Table, now: Moment) -> Option<Taken>
         requires { Covers table.old self.old.rows }
-        ensures rows { MatchOption (spec.next now self.old.rows)
+        ensures rows { MatchOption (next now self.old.rows)
             ((result ≡ None) × (self.new ≡ record self.old { rows = filter (spec.stays now) self.old.rows }))
             (λ r. (result ≡ Some (record { row = spec.counted r; message = last_message table.old r.place })) ×
             (self.new ≡ record self.old {

@@ -4,10 +4,11 @@
 //!
 //! # Contract
 //!
-//! `Table` is seen as its messages by place with the number of their holders; a message goes with its last holder.
-//! `Held` is seen as the list of its rows by place, with limit, missed count and room; inside they stand in thirty
-//! lanes, made when room is first made for a row, of which nothing is said outside. Where there are no rows, none is
-//! looked at, and else none but those between the first and the last that got a row since there were none.
+//! `Table` and `Row` are those of `jm_lane`: a table is seen as its messages by place with the number of their holders; a
+//! message goes with its last holder. `Held` is seen as the list of its rows by place, with limit, missed count and room;
+//! inside they stand in the lanes of `jm_lanes`, made when room is first made for a row, of which nothing is said outside.
+//! Where there are no rows, none is looked at, and else none but those between the first and the last that got a row since
+//! there were none.
 //!
 //! A row waits, or is out to a session through one of its consumers, and `add` takes it in either state, behind all
 //! others; rows in both states count at the limit, where a row is missed instead and counted. `add`, `take`,
@@ -34,18 +35,8 @@
 //! `copy` of either is equal but for the room. Only the `reserve`s and the copies take memory.
 #![tactic(auto)]
 
-mod cursors;
 mod held;
-mod lane;
-mod lanes;
 mod receivers;
-mod row;
-mod span;
-mod spot;
-mod table;
-mod used;
-mod walks;
 
 pub use held::{Held, Taken};
-pub use row::Row;
-pub use table::Table;
+pub use jm_lane::{Row, Table};

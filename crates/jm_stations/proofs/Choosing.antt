@@ -11,14 +11,16 @@ use Rattle.jm_machine.specs.declared.state.PlacedRow.{PlacedRow}
 use Rattle.jm_machine.specs.Rows as machine
 use Rattle.jm_machine.specs.Rows.{has_lapsed, live, bare, chosen, live_placed, deliver_chosen, is_next_chosen}
 use Rattle.jm_machine.specs.Wants as wants
-use Rattle.jm_pending.specs.declared.row.Row.{Row}
-use Rattle.jm_pending.specs.declared.table.Stored.{Stored}
-use Rattle.jm_pending.specs.Chosen.{is_passed, passes, next_where}
-use Rattle.jm_pending.specs.Rows.{Held, IsRising, is_next, stays}
-use Rattle.jm_pending.specs.Holders.{Messages, Covers, holders_in, holders_of, message_in}
+use Rattle.jm_lane.specs.declared.row.Row.{Row}
+use Rattle.jm_lane.specs.declared.table.Stored.{Stored}
+use Rattle.jm_lane.specs.Chosen.{is_passed, passes}
+use Rattle.jm_pending.specs.Chosen.{next_where}
+use Rattle.jm_lane.specs.Rows.{IsRising, stays}
+use Rattle.jm_pending.specs.Rows.{Held, is_next}
+use Rattle.jm_lane.specs.Holders.{Messages, Covers, holders_in, holders_of, message_in}
 use Rattle.jm_pending.specs.Placed.{placed, all_placed, content_of, message_or_none, IsRowOf}
-use Rattle.jm_pending.proofs.Holding.{holder_there}
-use Rattle.jm_pending.proofs.Places.{find_has}
+use Rattle.jm_lane.proofs.Holding.{holder_there}
+use Rattle.jm_lanes.proofs.Places.{find_has}
 use Rattle.jm_stations.specs.Backlogs.{gone, out_row}
 use Rattle.jm_stations.specs.Kept.{settled_where, is_left, sent_if, sent_off_where}
 use Rattle.jm_stations.proofs.Delivery.{row_at, is_next_same, next_stays, settled_by, sent_by, found_by, next_row_same}

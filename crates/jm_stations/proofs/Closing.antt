@@ -6,7 +6,7 @@ use Rattle.std.proofs.lemmas.List.Elements.{All-nil, All-cons, All-head, All-tai
 use Rattle.std.proofs.lemmas.List.Sums.{sum_by-cons}
 use Rattle.jm_dest.specs.declared.key.Key.{Key}
 use Rattle.jm_pending.specs.Rows.{Held}
-use Rattle.jm_pending.specs.Holders.{Messages, KeepsMessages, Follows, rows_at}
+use Rattle.jm_lane.specs.Holders.{Messages, KeepsMessages, Follows, rows_at}
 use Rattle.jm_pending.specs.Counts.{all_at, IsCounted}
 use Rattle.jm_stations.specs.Backlogs.{Backlog, kept_under}
 use Rattle.jm_stations.specs.Kept.{all_rows, shown, all_shown, cleared, cleared_under, lists_under, IsBacklog, IsKept, IsTaken}

@@ -8,15 +8,17 @@ use Rattle.std.proofs.lemmas.List.Elements.{All-map, All-weaker}
 use Rattle.jm_dest.specs.declared.key.Key.{Key}
 use Rattle.jm_dest.specs.Keys.{key_eq}
 use Rattle.jm_machine.specs.declared.state.PlacedRow.{PlacedRow}
-use Rattle.jm_pending.specs.declared.row.Row.{Row}
-use Rattle.jm_pending.specs.Rows.{Held, IsRising, is_from}
-use Rattle.jm_pending.specs.Lanes.{is_below}
+use Rattle.jm_lane.specs.declared.row.Row.{Row}
+use Rattle.jm_lane.specs.Rows.{IsRising, is_from}
+use Rattle.jm_pending.specs.Rows.{Held}
+use Rattle.jm_lane.specs.Lanes.{is_below}
 use Rattle.jm_dest.specs.Numbers.{long_end}
-use Rattle.jm_pending.proofs.Places.{find_has}
-use Rattle.jm_pending.proofs.From.{below_all, below_more}
-use Rattle.jm_pending.specs.Holders.{Messages, Covers, holders_of}
+use Rattle.jm_lanes.proofs.Places.{find_has}
+use Rattle.jm_lane.proofs.From.{below_all}
+use Rattle.jm_lanes.proofs.From.{below_more}
+use Rattle.jm_lane.specs.Holders.{Messages, Covers, holders_of}
 use Rattle.jm_pending.specs.Placed.{placed, all_placed}
-use Rattle.jm_pending.proofs.Holding.{holder_there}
+use Rattle.jm_lane.proofs.Holding.{holder_there}
 use Rattle.std.proofs.lemmas.List.{get_or_default}
 use Rattle.jm_stations.specs.Backlogs as spec
 use Rattle.jm_stations.specs.Kept.{all_rows, all_shown, without_room, IsBacklog, IsKept}

@@ -11,13 +11,14 @@ use Rattle.jm_machine.specs.declared.state.Row.{Row as MachineRow}
 use Rattle.jm_machine.specs.declared.state.PlacedRow.{PlacedRow}
 use Rattle.jm_machine.specs.Rows as machine
 use Rattle.jm_machine.specs.Rows.{is_next as machine_is_next, has_lapsed, live, bare, live_placed, change_placed, deliver_placed}
-use Rattle.jm_pending.specs.declared.row.Row.{Row}
-use Rattle.jm_pending.specs.Rows.{Held, IsRising, is_waiting, is_expired, is_held_back, is_ready, is_next, is_elsewhere, next, stays, counted, sent, sent_at}
-use Rattle.jm_pending.specs.Holders.{Messages, last_message}
+use Rattle.jm_lane.specs.declared.row.Row.{Row}
+use Rattle.jm_lane.specs.Rows.{IsRising, is_waiting, is_expired, is_held_back, is_ready, is_elsewhere, stays, counted, sent, sent_at}
+use Rattle.jm_pending.specs.Rows.{Held, is_next, next}
+use Rattle.jm_lane.specs.Holders.{Messages, last_message}
 use Rattle.jm_pending.specs.declared.held.Taken.{Taken}
 use Rattle.jm_pending.specs.Placed.{placed, all_placed, IsRowOf}
-use Rattle.jm_pending.proofs.Places.{find_has}
-use Rattle.jm_pending.proofs.Rising.{rising-filter, filter_elsewhere, map_elsewhere, sent_here, sent_elsewhere}
+use Rattle.jm_lanes.proofs.Places.{find_has}
+use Rattle.jm_lane.proofs.Rising.{rising-filter, filter_elsewhere, map_elsewhere, sent_here, sent_elsewhere}
 use Rattle.jm_stations.specs.Backlogs.{gone, out_row}
 use Rattle.jm_stations.specs.Kept.{is_left, settled, sent_if, sent_off, taken}
 

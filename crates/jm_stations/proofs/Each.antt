@@ -9,12 +9,13 @@ use Rattle.jm_dest.specs.declared.session.SessionId.{SessionId}
 use Rattle.jm_machine.specs.declared.state.RowState.TheVariants.{Waiting}
 use Rattle.jm_machine.specs.Rows.{goes_out}
 use Rattle.jm_machine.specs.Machine.{returned_row, returned_rows, settled_rows}
-use Rattle.jm_pending.specs.declared.row.Row.{Row}
-use Rattle.jm_pending.specs.Rows.{Held, back, is_out}
-use Rattle.jm_pending.specs.Holders.{Messages, KeepsMessages, Follows, rows_at}
+use Rattle.jm_lane.specs.declared.row.Row.{Row}
+use Rattle.jm_lane.specs.Rows.{back, is_out}
+use Rattle.jm_pending.specs.Rows.{Held}
+use Rattle.jm_lane.specs.Holders.{Messages, KeepsMessages, Follows, rows_at}
 use Rattle.jm_pending.specs.Placed.{placed, all_placed, content_of}
 use Rattle.jm_pending.specs.Counts.{all_at, IsCounted}
-use Rattle.jm_pending.proofs.Holding.{filter_count, map_count}
+use Rattle.jm_lane.proofs.Holding.{filter_count, map_count}
 use Rattle.jm_stations.specs.Backlogs as spec
 use Rattle.jm_stations.specs.Backlogs.{Backlog, changed_at}
 use Rattle.jm_stations.specs.Kept.{all_rows, shown, all_shown, settled_out, given_back, IsBacklog, IsKept}

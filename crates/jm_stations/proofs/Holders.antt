@@ -3,12 +3,12 @@ use Rattle.std.proofs.Common.{◌≡◌, ℕ, ◌+◌, ◌<◌, ◌≤◌, ◌==
 use Rattle.std.proofs.lemmas.Bool.{eqb-true}
 use Rattle.std.proofs.lemmas.Bool.Decides.{nat_tests}
 use Rattle.std.proofs.lemmas.List.{map-set, get_or-map}
-use Rattle.jm_pending.specs.declared.row.Row.{Row}
+use Rattle.jm_lane.specs.declared.row.Row.{Row}
 use Rattle.jm_pending.specs.Rows.{Held, is_at_limit}
-use Rattle.jm_pending.specs.Holders.{Messages, LosesHolder, KeepsMessages, Follows, Covers, holders_of, rows_at}
+use Rattle.jm_lane.specs.Holders.{Messages, LosesHolder, KeepsMessages, Follows, Covers, holders_of, rows_at}
 use Rattle.jm_pending.specs.Counts.{all_at, IsCounted, IsCountedBeside}
 use Rattle.jm_pending.proofs.Counting.{all_set, covers_each}
-use Rattle.jm_pending.proofs.Holding.{row_first, rows_both}
+use Rattle.jm_lane.proofs.Holding.{row_first, rows_both}
 use Rattle.jm_stations.specs.Kept.{all_rows, with_row, FollowsAll}
 
 -- the rows of one list are the rows of the lists at its index

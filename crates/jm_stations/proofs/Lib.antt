@@ -15,3 +15,6 @@ mod Closing
 mod Own
 mod StoredRows
 mod Readers
+mod Rising
+mod Homes
+mod Sweeping

@@ -7,12 +7,13 @@ use Rattle.std.proofs.lemmas.List.{get_or-map, length-map, map-append, same_list
 use Rattle.std.proofs.lemmas.List.Elements.{All-nil, All-head, All-tail, All-push, All-weaker}
 use Rattle.std.proofs.lemmas.List.Sums.{sum_by-cons}
 use Rattle.jm_machine.specs.declared.state.Row.{Row as MachineRow}
-use Rattle.jm_pending.specs.declared.row.Row.{Row}
-use Rattle.jm_pending.specs.Rows.{Held, row_of}
-use Rattle.jm_pending.specs.Holders.{Messages, GainsHolder, LosesHolder, KeepsMessages, holders_of, message_of, rows_at}
+use Rattle.jm_lane.specs.declared.row.Row.{Row}
+use Rattle.jm_lane.specs.Rows.{row_of}
+use Rattle.jm_pending.specs.Rows.{Held}
+use Rattle.jm_lane.specs.Holders.{Messages, GainsHolder, LosesHolder, KeepsMessages, holders_of, message_of, rows_at}
 use Rattle.jm_pending.specs.Counts.{all_at, IsCounted}
 use Rattle.jm_pending.proofs.Counting.{beside_put, counted_released, counted_more}
-use Rattle.jm_pending.proofs.Holding.{row_first}
+use Rattle.jm_lane.proofs.Holding.{row_first}
 use Rattle.jm_stations.specs.Backlogs.{Backlog, HasCome, joined, changed_at, empty}
 use Rattle.jm_stations.specs.Kept.{all_rows, shown, all_shown, AreBelow, IsBacklog, IsKept, IsOffered, FollowsAll}
 use Rattle.jm_stations.proofs.Holders.{beside_all, keeps_released, covers_one}

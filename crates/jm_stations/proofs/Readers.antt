@@ -7,14 +7,14 @@ use Rattle.std.proofs.lemmas.List.Elements.{All-head, All-tail, All-weaker}
 use Rattle.jm_dest.specs.declared.session.SessionId.{SessionId}
 use Rattle.jm_machine.specs.declared.state.PlacedRow.{PlacedRow}
 use Rattle.jm_machine.specs.Rows as machine
-use Rattle.jm_pending.specs.declared.row.Row.{Row}
-use Rattle.jm_pending.specs.Rows as here
+use Rattle.jm_lane.specs.declared.row.Row.{Row}
+use Rattle.jm_lane.specs.Rows as here
 use Rattle.jm_pending.specs.Rows.{Held}
-use Rattle.jm_pending.specs.Lanes as lane
-use Rattle.jm_pending.specs.Cursors as cursor
-use Rattle.jm_pending.specs.Holders.{Messages, Covers, holders_of}
+use Rattle.jm_lane.specs.Lanes as lane
+use Rattle.jm_lane.specs.Cursors as cursor
+use Rattle.jm_lane.specs.Holders.{Messages, Covers, holders_of}
 use Rattle.jm_pending.specs.Placed.{placed, all_placed, IsRowOf, AreRowsOf}
-use Rattle.jm_pending.proofs.Places.{find_has}
+use Rattle.jm_lanes.proofs.Places.{find_has}
 use Rattle.jm_stations.specs.Backlogs.{Backlog}
 use Rattle.jm_stations.specs.Kept.{shown, all_shown, IsKept}
 use Rattle.jm_stations.specs.Standing.{is_at, is_from, lapsed_from, out_from, holds, has_row, IsFirst, IsFirstOf}

@@ -9,16 +9,17 @@ use Rattle.jm_header.specs.declared.content.Content.{Content}
 use Rattle.jm_machine.specs.declared.state.PlacedRow.{PlacedRow}
 use Rattle.jm_machine.specs.Machine.{delivery}
 use Rattle.jm_machine.specs.Rows as machine
-use Rattle.jm_pending.specs.declared.row.Row.{Row}
-use Rattle.jm_pending.specs.declared.table.Stored.{Stored}
+use Rattle.jm_lane.specs.declared.row.Row.{Row}
+use Rattle.jm_lane.specs.declared.table.Stored.{Stored}
 use Rattle.jm_pending.specs.declared.held.Taken.{Taken}
-use Rattle.jm_pending.specs.Rows.{Held, IsRising, next, is_next, counted, sent}
+use Rattle.jm_lane.specs.Rows.{IsRising, counted, sent}
+use Rattle.jm_pending.specs.Rows.{Held, next, is_next}
 use Rattle.jm_pending.specs.Chosen.{next_where}
-use Rattle.jm_pending.specs.Holders.{Messages, Follows, Covers, holders_of, holders_in, message_of, message_in, last_message, rows_at}
+use Rattle.jm_lane.specs.Holders.{Messages, Follows, Covers, holders_of, holders_in, message_of, message_in, last_message, rows_at}
 use Rattle.jm_pending.specs.Placed.{placed, all_placed, content_of, message_or_none}
 use Rattle.jm_pending.specs.Counts.{all_at, IsCounted}
-use Rattle.jm_pending.proofs.Holding.{row_first}
-use Rattle.jm_pending.proofs.Places.{find_has}
+use Rattle.jm_lane.proofs.Holding.{row_first}
+use Rattle.jm_lanes.proofs.Places.{find_has}
 use Rattle.jm_stations.specs.Backlogs.{Backlog, changed_at, placed_at, holders_at, kept_message, copy_wanted, copy_wanted_where, handed_out, handed_over, handed_copy}
 use Rattle.jm_stations.specs.Kept.{all_rows, shown, all_shown, taken, IsKept}
 use Rattle.jm_stations.proofs.Holders.{counted_one, covers_one}

@@ -5,7 +5,7 @@ use Rattle.std.proofs.lemmas.List.Elements.{All-take, All-drop, All-append}
 use Rattle.std.proofs.lemmas.List.Sums.{sum_by-remove}
 use Rattle.indexmap.proofs.SetLemmas.{map-remove}
 use Rattle.jm_pending.specs.Rows.{Held}
-use Rattle.jm_pending.specs.Holders.{Messages, Follows, rows_at}
+use Rattle.jm_lane.specs.Holders.{Messages, Follows, rows_at}
 use Rattle.jm_pending.specs.Counts.{IsCounted}
 use Rattle.jm_stations.specs.Kept.{all_rows, shown, all_shown, IsBacklog, IsKept}
 use Rattle.jm_stations.proofs.Holders.{rows_get, rows_length}

@@ -5,9 +5,9 @@ use Rattle.std.specs.List.{All}
 use Rattle.std.specs.declared.result.Result.{Result}
 use Rattle.std.specs.declared.result.Result.TheVariants.{Ok, Err}
 use Rattle.std.proofs.lemmas.List.{length-map, get_or-map, same_lists}
-use Rattle.jm_pending.specs.declared.row.Row.{Row}
+use Rattle.jm_lane.specs.declared.row.Row.{Row}
 use Rattle.jm_pending.specs.Rows.{Held}
-use Rattle.jm_pending.specs.Holders.{Messages}
+use Rattle.jm_lane.specs.Holders.{Messages}
 use Rattle.jm_pending.specs.Counts.{IsCounted}
 use Rattle.jm_stations.specs.Backlogs as spec
 use Rattle.jm_stations.specs.Backlogs.{Backlog}

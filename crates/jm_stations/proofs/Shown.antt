@@ -8,10 +8,11 @@ use Rattle.jm_header.specs.declared.content.Content.{Content}
 use Rattle.jm_machine.specs.declared.state.Row.{Row as MachineRow}
 use Rattle.jm_machine.specs.declared.state.RowState.{RowState}
 use Rattle.jm_machine.specs.declared.state.PlacedRow.{PlacedRow}
-use Rattle.jm_pending.specs.declared.row.Row.{Row}
-use Rattle.jm_pending.specs.Rows.{Held, IsRising, is_at_limit, due_of, row_of, stays, next, sent}
+use Rattle.jm_lane.specs.declared.row.Row.{Row}
+use Rattle.jm_lane.specs.Rows.{IsRising, due_of, row_of, stays, sent}
+use Rattle.jm_pending.specs.Rows.{Held, is_at_limit, next}
 use Rattle.jm_pending.specs.Chosen.{next_where}
-use Rattle.jm_pending.specs.Holders.{Messages, KeepsMessages, Covers, message_of}
+use Rattle.jm_lane.specs.Holders.{Messages, KeepsMessages, Covers, message_of}
 use Rattle.jm_pending.specs.Placed.{placed, all_placed, message_or_none, IsRowOf}
 use Rattle.jm_pending.specs.Counts.{IsCounted}
 use Rattle.jm_pending.proofs.Counting.{placed_same, rows_same}

@@ -7,9 +7,10 @@ use Rattle.std.proofs.lemmas.Bool.Decides.{eqb_tells}
 use Rattle.std.proofs.lemmas.List.{get_or-map, length-map, length-set, get_or-set_same, get_or-set_other}
 use Rattle.jm_header.specs.declared.content.Content.{Content}
 use Rattle.jm_machine.specs.declared.state.RowState.TheVariants.{Waiting}
-use Rattle.jm_pending.specs.declared.row.Row.{Row}
-use Rattle.jm_pending.specs.Holders.{Messages, GainsHolder, LosesHolder, KeepsMessages, message_of}
-use Rattle.jm_pending.specs.Rows.{Held, row_of}
+use Rattle.jm_lane.specs.declared.row.Row.{Row}
+use Rattle.jm_lane.specs.Holders.{Messages, GainsHolder, LosesHolder, KeepsMessages, message_of}
+use Rattle.jm_lane.specs.Rows.{row_of}
+use Rattle.jm_pending.specs.Rows.{Held}
 use Rattle.jm_pending.proofs.Counting.{beside_put, counted_released}
 use Rattle.jm_pending.specs.Counts.{IsCounted}
 use Rattle.jm_stations.specs.declared.loading.StoredRow.{StoredRow}

@@ -3,10 +3,10 @@ use Rattle.std.proofs.Common.{◌≡◌, ℕ, ◌<◌, List, length, get_or, Opt
 use Rattle.std.specs.Map.{lookup}
 use Rattle.std.specs.Option.{IfSome}
 use Rattle.jm_header.specs.declared.content.Content.{Content}
-use Rattle.jm_pending.specs.declared.row.Row.{Row}
+use Rattle.jm_lane.specs.declared.row.Row.{Row}
 use Rattle.jm_pending.specs.Rows.{Held, next}
 use Rattle.jm_pending.specs.Chosen.{next_where}
-use Rattle.jm_pending.specs.Holders.{Messages, holders_of, message_of}
+use Rattle.jm_lane.specs.Holders.{Messages, holders_of, message_of}
 use Rattle.jm_pending.specs.Placed.{placed, all_placed, content_of}
 use Rattle.jm_stations.specs.Backlogs.{holders_at, kept_message, copy_wanted, copy_wanted_where}
 use Rattle.jm_stations.specs.Kept.{all_shown, copied, IsKept}

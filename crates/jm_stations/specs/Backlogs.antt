@@ -13,7 +13,7 @@ use Rattle.jm_machine.specs.Machine.{delivery, one_missed, settled_rows, returne
 use Rattle.jm_machine.specs.Rows.{protected, fresh, is_out, sent_out, live, is_next, next, bare, chosen, deliver_placed, deliver_chosen, live_placed}
 use Rattle.jm_machine.specs.Wants.{next_chosen}
 use Rattle.jm_pending.specs.declared.held.Taken.{Taken}
-use Rattle.jm_pending.specs.declared.row.Row.{Row as RowHere}
+use Rattle.jm_lane.specs.declared.row.Row.{Row as RowHere}
 use Rattle.jm_pending.specs.Rows.{is_at_limit}
 
 -- what is held under a key: rows with their messages, by place, the limit of their number, how many publications

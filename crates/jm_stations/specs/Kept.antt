@@ -5,10 +5,11 @@ use Rattle.jm_dest.specs.declared.key.Key.{Key}
 use Rattle.jm_dest.specs.declared.session.SessionId.{SessionId}
 use Rattle.jm_header.specs.declared.content.Content.{Content}
 use Rattle.jm_machine.specs.Machine.{one_missed}
-use Rattle.jm_pending.specs.declared.row.Row.{Row}
+use Rattle.jm_lane.specs.declared.row.Row.{Row}
 use Rattle.jm_pending.specs.declared.held.Taken.{Taken}
-use Rattle.jm_pending.specs.Rows.{Held, is_at_limit, is_elsewhere, is_out, next, stays, back, counted, sent_at}
-use Rattle.jm_pending.specs.Holders.{Messages, KeepsMessages, holders_of, message_of, last_message}
+use Rattle.jm_lane.specs.Rows.{is_elsewhere, is_out, stays, back, counted, sent_at}
+use Rattle.jm_pending.specs.Rows.{Held, is_at_limit, next}
+use Rattle.jm_lane.specs.Holders.{Messages, KeepsMessages, holders_of, message_of, last_message}
 use Rattle.jm_pending.specs.Chosen.{next_where}
 use Rattle.jm_pending.specs.Counts.{IsCounted, all_at}
 use Rattle.jm_pending.specs.Placed.{all_placed, AreRowsOf}

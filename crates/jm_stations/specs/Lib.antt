@@ -3,3 +3,4 @@ pub mod Kept
 pub mod Standing
 pub mod Stations
 pub mod Loading
+pub mod Outstanding

@@ -3,7 +3,7 @@ use Rattle.std.specs.Prelude.{◌≡◌, ◌<◌, ◌==◌, ℕ, List, find, len
 use Rattle.jm_header.specs.declared.content.Content.{Content}
 use Rattle.jm_machine.specs.declared.state.Row.{Row}
 use Rattle.jm_machine.specs.declared.state.RowState.TheVariants.{Waiting}
-use Rattle.jm_pending.specs.declared.row.Row.{Row as RowHere}
+use Rattle.jm_lane.specs.declared.row.Row.{Row as RowHere}
 use Rattle.jm_pending.specs.Rows.{Held}
 use Rattle.jm_stations.specs.declared.loading.StoredRow.{StoredRow}
 use Rattle.jm_stations.specs.Backlogs.{Backlog, joined}

@@ -4,7 +4,7 @@ use Rattle.jm_dest.specs.declared.session.SessionId.{SessionId}
 use Rattle.jm_machine.specs.declared.state.PlacedRow.{PlacedRow}
 use Rattle.jm_machine.specs.Rows.{has_lapsed, is_out}
 use Rattle.jm_pending.specs.Rows.{Held}
-use Rattle.jm_pending.specs.Lanes.{is_at as is_at_here}
+use Rattle.jm_lane.specs.Lanes.{is_at as is_at_here}
 use Rattle.jm_stations.specs.declared.standing.Standing.{Standing}
 use Rattle.jm_stations.specs.Backlogs.{Backlog}
 

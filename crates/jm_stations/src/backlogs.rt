@@ -14,8 +14,10 @@ ghost use Rattle.jm_machine.specs.Wants.{next_chosen};
 ghost use Rattle.jm_stations.specs.Standing as standing;
 
 use crate::loading::{self, StoredRow};
+use crate::outstanding::Outstanding;
 use crate::standing::{self, Standing};
 use crate::{copies, lists};
+use jm_base::Boxed;
 use jm_dest::{ConsumerId, Key, Moment, SessionId};
 use jm_header::Message;
 use jm_machine::{Answer, Attached, Consumers, Delivery, PlacedRow, Row as MachineRow, RowState};
@@ -32,6 +34,7 @@ pub(crate) struct Backlogs {
     lists: Vec<Held>,
     table: Table,
     next_place: u64,
+    outstanding: Outstanding,
 }
 
 impl Drop for Backlogs {
@@ -41,14 +44,16 @@ impl Drop for Backlogs {
             lists: _lists,
             table: _table,
             next_place: _,
+            outstanding: _outstanding,
         } = self;
     }
 }
 
 impl Model for Backlogs {
-    ghost use Rattle.std.specs.Prelude.{◌-◌, vec_capacity, vec_len};
+    ghost use Rattle.std.specs.Prelude.{◌≡◌, ◌-◌, length, min, vec_capacity, vec_len};
     ghost use Rattle.jm_stations.specs.Backlogs.{Backlogs as BacklogsShown};
     ghost use Rattle.jm_stations.specs.Kept.{IsKept, all_shown};
+    ghost use Rattle.jm_stations.specs.Outstanding.{AreHomeBut};
 
     ghost Value = { BacklogsShown };
 
@@ -56,51 +61,60 @@ impl Model for Backlogs {
       list = all_shown s.table s.lists.items;
       next_place = s.next_place;
       message_room = s.table.spare;
-      list_room = vec_capacity s.lists - vec_len s.lists;
+      list_room = min (vec_capacity s.lists - vec_len s.lists) s.outstanding.room;
     } };
 
-    ghost invariant = { λ s. IsKept s.table s.lists.items s.next_place };
+    ghost invariant = { λ s. IsKept s.table s.lists.items s.next_place × (s.outstanding.number ≡ length s.lists.items) × AreHomeBut s.outstanding.indexes s.lists.items };
 }
 
-/// What is handed out of a row that was taken: its message, or the copy where the message stays held.
-fn delivered(taken: Taken, copy: Option<Message>) -> Answer
-    ensures { result ≡ spec.handed_out taken copy }
+/// What is handed out of a message that was delivered so often.
+fn delivered(mut message: Message, count: u32) -> Answer
+    ensures { result ≡ spec.told count (Some message) }
 {
-    let Taken { row, message } = taken;
-    match message.or(copy) {
-        None => Answer::Nothing,
-        Some(mut message) => {
-            message.protect();
-            Answer::Delivered(Delivery {
-                message,
-                count: row.count,
-            })
-        }
-    }
+    message.protect();
+    Answer::Delivered(Delivery { message, count })
 }
 
-/// The same of a row that may have been taken.
-fn handed_out(taken: Option<Taken>, copy: Option<Message>) -> Answer
+/// What is handed out of a row that was delivered so often, by the copy of its message, where one is there.
+fn told(count: u32, copy: Option<Boxed<Message>>) -> Answer
+    ensures { result ≡ spec.told count copy }
+{
+    let Some(copy) = copy else {
+        return Answer::Nothing;
+    };
+    delivered(copy.into_inner(), count)
+}
+
+/// What is handed out of a row that may have been taken: its message, or the copy where the message stays held.
+fn handed_out(taken: Option<Taken>, copy: Option<Boxed<Message>>) -> Answer
     ensures { result ≡ spec.handed_over taken copy }
 {
-    match taken {
-        None => Answer::Nothing,
-        Some(taken) => delivered(taken, copy),
-    }
+    let Some(Taken { row, message }) = taken else {
+        return Answer::Nothing;
+    };
+    let Some(message) = message else {
+        return told(row.count, copy);
+    };
+    delivered(message, row.count)
 }
 
 /// What is handed out of a row that went out, where there is one: the copy stands for its message.
-fn sent_out(row: Option<Row>, copy: Option<Message>) -> Answer
+fn sent_out(row: Option<Row>, copy: Option<Boxed<Message>>) -> Answer
     ensures { result ≡ spec.handed_copy row copy }
 {
-    match row {
-        None => Answer::Nothing,
-        Some(row) => delivered(Taken { row, message: None }, copy),
-    }
+    let Some(row) = row else {
+        return Answer::Nothing;
+    };
+    told(row.count, copy)
 }
 
 /// A copy of the row's message, where it is not settled at once, or some other row holds it too.
-fn copy_of(table: &Table, row: Option<Row>, settles: bool) -> Result<Option<Message>, AllocError>
+fn copy_of(
+    alloc: Global,
+    table: &Table,
+    row: Option<Row>,
+    settles: bool,
+) -> Result<Option<Boxed<Message>>, AllocError>
     ensures copy { IfOk result (λ copy. copy ≡ kept.copied settles table.now row) }
     ensures err { OnErr result (is_some (kept.copied settles table.now row) ≡ true) }
 {
@@ -112,7 +126,7 @@ fn copy_of(table: &Table, row: Option<Row>, settles: bool) -> Result<Option<Mess
     }
     match table.get(row.place) {
         None => Ok(None),
-        Some(message) => Ok(Some(message.copy()?)),
+        Some(message) => Ok(Some(Boxed::new(alloc, message.copy()?)?)),
     }
 }
 
@@ -127,6 +141,7 @@ impl Backlogs {
             lists: Vec::new(alloc),
             table: Table::new(alloc),
             next_place: 1,
+            outstanding: Outstanding::new(alloc),
         }
     }
 
@@ -163,11 +178,13 @@ impl Backlogs {
     {
         let table = self.table.copy()?;
         let lists = copies::copy_lists(self.alloc, self.lists.as_slice())?;
+        let outstanding = self.outstanding.copy(self.alloc)?;
         Ok(Backlogs {
             alloc: self.alloc,
             lists,
             table,
             next_place: self.next_place,
+            outstanding,
         })
     }
 
@@ -195,6 +212,7 @@ impl Backlogs {
         ensures room { self.old.list_room ≤ self.new.list_room }
         ensures ok { OnOk result (0 < self.new.list_room) }
     {
+        self.outstanding.reserve()?;
         self.lists.reserve(1)
     }
 
@@ -205,6 +223,7 @@ impl Backlogs {
         ensures { self.new ≡ record self.old { list = self.old.list ++ spec.empty limit ∷ []; list_room = self.old.list_room - 1 } }
     {
         self.lists.push_reserved(Held::new(self.alloc, limit));
+        self.outstanding.add_list();
     }
 
     /// The list with that index goes with its rows, and each message that no other list holds with them. Takes no
@@ -220,6 +239,7 @@ impl Backlogs {
     {
         let mut held = self.lists.remove(index);
         held.clear(&mut self.table);
+        self.outstanding.remove_list(index);
     }
 
     /// The lists whose keys end with those consumers go with their rows, and each message that no other list holds with
@@ -232,6 +252,7 @@ impl Backlogs {
         ensures list_room { self.old.list_room ≤ self.new.list_room }
     {
         lists::close_each(&mut self.lists, &mut self.table, keys, which, attached);
+        self.outstanding.look_at(self.lists.as_slice());
     }
 
     /// Makes room for that many more messages, and for as many more rows in each list with one of those indexes.
@@ -333,6 +354,7 @@ impl Backlogs {
         self.table.put(place, message);
         lists::offer_each(&mut self.lists, &mut self.table, &row, indexes);
         let _ = self.table.release(place);
+        self.outstanding.add_each(indexes, &state);
         self.next_place = place + 1;
     }
 
@@ -344,17 +366,22 @@ impl Backlogs {
         index: usize,
         now: Moment,
         settles: bool,
-    ) -> Result<Option<Message>, AllocError>
+    ) -> Result<Option<Boxed<Message>>, AllocError>
         requires within { index < length self.now.list }
         ensures copy { (d : Backlog) → IfOk result (λ copy. copy ≡ spec.copy_wanted settles now self.now.list (slice_index_or self.now.list index d).rows) }
         ensures err { (d : Backlog) → OnErr result (is_some (spec.copy_wanted settles now self.now.list (slice_index_or self.now.list index d).rows) ≡ true) }
     {
-        copy_of(&self.table, self.lists[index].next(now), settles)
+        copy_of(
+            self.alloc,
+            &self.table,
+            self.lists[index].next(now),
+            settles,
+        )
     }
 
     /// Drops the waiting rows of the list that are expired at that moment, and delivers the next one, which is settled. Its
     /// message is moved out where no other row holds it, and else the copy stands for it. Takes no memory.
-    pub fn receive(&mut self, index: usize, now: Moment, copy: Option<Message>) -> Answer
+    pub fn receive(&mut self, index: usize, now: Moment, copy: Option<Boxed<Message>>) -> Answer
         requires within { index < length self.old.list }
         requires copy { (d : Backlog) → copy ≡ spec.copy_wanted true now self.old.list (slice_index_or self.old.list index d).rows }
         ensures answer { (d : Backlog) → result ≡ spec.answered now (slice_index_or self.old.list index d).rows }
@@ -372,7 +399,7 @@ impl Backlogs {
         &mut self,
         index: usize,
         now: Moment,
-        copy: Option<Message>,
+        copy: Option<Boxed<Message>>,
         session: SessionId,
         consumer: ConsumerId,
     ) -> Answer
@@ -391,6 +418,7 @@ impl Backlogs {
             session,
             consumer,
         );
+        self.outstanding.add_where(index, row.is_some());
         sent_out(row, copy)
     }
 
@@ -403,13 +431,13 @@ impl Backlogs {
         now: Moment,
         settles: bool,
         selector: &Selector,
-    ) -> Result<Option<Message>, AllocError>
+    ) -> Result<Option<Boxed<Message>>, AllocError>
         requires within { index < length self.now.list }
         ensures copy { (d : Backlog) → IfOk result (λ copy. copy ≡ spec.copy_wanted_where (matches selector.now) settles now self.now.list (slice_index_or self.now.list index d).rows) }
         ensures err { (d : Backlog) → OnErr result (is_some (spec.copy_wanted_where (matches selector.now) settles now self.now.list (slice_index_or self.now.list index d).rows) ≡ true) }
     {
         let row = self.lists[index].next_where(&self.table, now, selector);
-        copy_of(&self.table, row, settles)
+        copy_of(self.alloc, &self.table, row, settles)
     }
 
     /// Drops the waiting rows of the list that are expired at that moment, also those that are not selected, and delivers
@@ -420,7 +448,7 @@ impl Backlogs {
         index: usize,
         now: Moment,
         selector: &Selector,
-        copy: Option<Message>,
+        copy: Option<Boxed<Message>>,
     ) -> Answer
         requires within { index < length self.old.list }
         requires copy { (d : Backlog) → copy ≡ spec.copy_wanted_where (matches selector.now) true now self.old.list (slice_index_or self.old.list index d).rows }
@@ -441,7 +469,7 @@ impl Backlogs {
         index: usize,
         now: Moment,
         selector: &Selector,
-        copy: Option<Message>,
+        copy: Option<Boxed<Message>>,
         session: SessionId,
         consumer: ConsumerId,
     ) -> Answer
@@ -461,6 +489,7 @@ impl Backlogs {
             session,
             consumer,
         );
+        self.outstanding.add_where(index, row.is_some());
         sent_out(row, copy)
     }
 
@@ -471,7 +500,8 @@ impl Backlogs {
         ensures next_place { self.new.next_place ≡ self.old.next_place }
         ensures room { self.old.message_room ≤ self.new.message_room }
     {
-        lists::settle_each(&mut self.lists, &mut self.table, which);
+        self.outstanding
+            .settle(&mut self.lists, &mut self.table, which);
     }
 
     /// The rows that are out through one of those consumers wait again, in all lists, at their places and with their
@@ -481,7 +511,7 @@ impl Backlogs {
         ensures next_place { self.new.next_place ≡ self.old.next_place }
         ensures room { self.old.message_room ≤ self.new.message_room }
     {
-        lists::give_back_each(&mut self.lists, which);
+        self.outstanding.give_back(&mut self.lists, which);
     }
 
     /// The rows of the list with that index that are out through one of those consumers go, and each message that no
@@ -493,6 +523,8 @@ impl Backlogs {
         ensures room { self.old.message_room ≤ self.new.message_room }
     {
         lists::settle_at(&mut self.lists, &mut self.table, index, which);
+        let is_home = self.lists[index].is_home();
+        self.outstanding.remove_where(index, is_home);
     }
 
     /// The rows of the list with that index that are out through one of those consumers wait again, at their places and
@@ -504,6 +536,8 @@ impl Backlogs {
         ensures room { self.old.message_room ≤ self.new.message_room }
     {
         lists::give_back_at(&mut self.lists, index, which);
+        let is_home = self.lists[index].is_home();
+        self.outstanding.remove_where(index, is_home);
     }
 
     /// The row of the list with that index that stands at that place, with its message, which is not copied.

@@ -1,7 +1,7 @@
 //! Copies of keys and of what is held under them.
 
 ghost use Rattle.std.specs.Prelude.{◌≡◌, ◌<◌, map, option_map, IfSome, IfOk};
-ghost use Rattle.jm_pending.specs.Holders.{Covers, holders_of};
+ghost use Rattle.jm_lane.specs.Holders.{Covers, holders_of};
 ghost use Rattle.jm_pending.specs.Placed as placed;
 ghost use Rattle.jm_stations.specs.Kept as kept;
 

@@ -51,6 +51,7 @@ mod backlogs;
 mod copies;
 mod lists;
 mod loading;
+mod outstanding;
 mod standing;
 mod stations;
 

@@ -6,8 +6,9 @@ ghost use Rattle.jm_dest.specs.Numbers.{long_end};
 ghost use Rattle.jm_machine.specs.Attached.{ended};
 ghost use Rattle.jm_machine.specs.Machine.{are_meant};
 ghost use Rattle.jm_pending.specs.Counts.{IsCounted};
-ghost use Rattle.jm_pending.specs.Rows.{Held, IsRising, next, sent};
-ghost use Rattle.jm_pending.specs.Holders.{Covers, Follows, KeepsMessages, holders_of};
+ghost use Rattle.jm_lane.specs.Rows.{IsRising, sent};
+ghost use Rattle.jm_pending.specs.Rows.{Held, next};
+ghost use Rattle.jm_lane.specs.Holders.{Covers, Follows, KeepsMessages, holders_of};
 ghost use Rattle.jm_pending.specs.Chosen.{next_where};
 ghost use Rattle.jm_selector.specs.Selectors.{matches};
 ghost use Rattle.jm_stations.specs.Backlogs.{changed_at};
@@ -118,29 +119,6 @@ pub(crate) fn send_where(
     held.take_where(table, now, selector, session, consumer)
 }
 
-/// The rows of all lists that are out through one of those consumers go.
-pub(crate) fn settle_each(lists: &mut Vec<Held>, table: &mut Table, which: &Consumers)
-    requires { IsCounted table.old (kept.all_rows lists.old.items) }
-    ensures lists { lists.new.items ≡ map (kept.settled_out (are_meant which.now)) lists.old.items }
-    ensures counted { IsCounted table.new (kept.all_rows lists.new.items) }
-    ensures messages { KeepsMessages table.old table.new }
-{
-    for index in 0..lists.len() {
-        let held = &mut lists[index];
-        held.settle(table, which);
-    }
-}
-
-/// The rows of all lists that are out through one of those consumers wait again.
-pub(crate) fn give_back_each(lists: &mut Vec<Held>, which: &Consumers)
-    ensures { lists.new.items ≡ map (kept.given_back (are_meant which.now)) lists.old.items }
-{
-    for index in 0..lists.len() {
-        let held = &mut lists[index];
-        held.give_back(which);
-    }
-}
-
 /// The rows of the list with that index that are out through one of those consumers go.
 pub(crate) fn settle_at(lists: &mut Vec<Held>, table: &mut Table, index: usize, which: &Consumers)
     requires within { index < length lists.old.items }
@@ -221,6 +199,7 @@ pub(crate) fn close_each(
     ensures lists { lists.new.items ≡ kept.lists_under (λ k. not (ended which.now attached.now k)) keys.now lists.old.items }
     ensures counted { IsCounted table.new (kept.all_rows lists.new.items) }
     ensures messages { KeepsMessages table.old table.new }
+    ensures len { vec_len lists.new ≤ vec_len lists.old }
     ensures room { vec_capacity lists.old - vec_len lists.old ≤ vec_capacity lists.new - vec_len lists.new }
 {
     clear_each(lists, table, keys, which, attached);

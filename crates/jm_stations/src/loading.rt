@@ -3,7 +3,7 @@
 ghost use Rattle.std.specs.Prelude.{◌≡◌, ◌<◌, ◌≤◌, nat_eq, All, length, map, slice_index_or};
 ghost use Rattle.std.specs.List.{IsDistinct};
 ghost use Rattle.jm_dest.specs.Numbers.{long_end};
-ghost use Rattle.jm_pending.specs.Holders.{holders_of};
+ghost use Rattle.jm_lane.specs.Holders.{holders_of};
 ghost use Rattle.jm_pending.specs.Rows.{Held};
 ghost use Rattle.jm_stations.specs.Kept as kept;
 ghost use Rattle.jm_stations.specs.Loading.{AreOffered};

@@ -5,7 +5,7 @@ ghost use Rattle.jm_dest.specs.Numbers.{long_end};
 ghost use Rattle.jm_machine.specs.Machine.{are_meant};
 ghost use Rattle.jm_machine.specs.Wants.{next_chosen};
 ghost use Rattle.jm_selector.specs.Selectors.{matches};
-ghost use Rattle.jm_pending.specs.Holders.{Covers, holders_of};
+ghost use Rattle.jm_lane.specs.Holders.{Covers, holders_of};
 ghost use Rattle.jm_pending.specs.Placed.{AreRowsOf, all_placed, placed};
 ghost use Rattle.jm_stations.specs.Backlogs.{next_placed};
 ghost use Rattle.jm_stations.specs.Standing as spec;

@@ -20,6 +20,7 @@ use crate::backlogs::Backlogs;
 use crate::copies;
 use crate::loading::StoredRow;
 use crate::standing::Standing;
+use jm_base::Boxed;
 use jm_dest::{ConsumerId, Key, Moment, SessionId};
 use jm_header::Message;
 use jm_keyed::{Choice, KeySet};
@@ -387,7 +388,7 @@ impl Stations {
         index: usize,
         now: Moment,
         settles: bool,
-    ) -> Result<Option<Message>, AllocError>
+    ) -> Result<Option<Boxed<Message>>, AllocError>
         requires within { index < length self.now.list }
         ensures copy { (d : Backlog) → IfOk result (λ copy. copy ≡ spec.copy_wanted settles now self.now.list (slice_index_or self.now.list index d).rows) }
         ensures err { (d : Backlog) → OnErr result (is_some (spec.copy_wanted settles now self.now.list (slice_index_or self.now.list index d).rows) ≡ true) }
@@ -399,7 +400,7 @@ impl Stations {
     /// which is settled. Its message is moved out where no other row holds it, and else the copy stands for it.
     /// Takes no memory.
     #[tactic(auto, using(crate::proofs::Indexes::as_many_changed))]
-    pub fn receive(&mut self, index: usize, now: Moment, copy: Option<Message>) -> Answer
+    pub fn receive(&mut self, index: usize, now: Moment, copy: Option<Boxed<Message>>) -> Answer
         requires within { index < length self.old.list }
         requires copy { (d : Backlog) → copy ≡ spec.copy_wanted true now self.old.list (slice_index_or self.old.list index d).rows }
         ensures answer { (d : Backlog) → result ≡ spec.answered now (slice_index_or self.old.list index d).rows }
@@ -419,7 +420,7 @@ impl Stations {
         &mut self,
         index: usize,
         now: Moment,
-        copy: Option<Message>,
+        copy: Option<Boxed<Message>>,
         session: SessionId,
         consumer: ConsumerId,
     ) -> Answer
@@ -443,7 +444,7 @@ impl Stations {
         now: Moment,
         settles: bool,
         selector: &Selector,
-    ) -> Result<Option<Message>, AllocError>
+    ) -> Result<Option<Boxed<Message>>, AllocError>
         requires within { index < length self.now.list }
         ensures copy { (d : Backlog) → IfOk result (λ copy. copy ≡ spec.copy_wanted_where (matches selector.now) settles now self.now.list (slice_index_or self.now.list index d).rows) }
         ensures err { (d : Backlog) → OnErr result (is_some (spec.copy_wanted_where (matches selector.now) settles now self.now.list (slice_index_or self.now.list index d).rows) ≡ true) }
@@ -460,7 +461,7 @@ impl Stations {
         index: usize,
         now: Moment,
         selector: &Selector,
-        copy: Option<Message>,
+        copy: Option<Boxed<Message>>,
     ) -> Answer
         requires within { index < length self.old.list }
         requires copy { (d : Backlog) → copy ≡ spec.copy_wanted_where (matches selector.now) true now self.old.list (slice_index_or self.old.list index d).rows }
@@ -483,7 +484,7 @@ impl Stations {
         index: usize,
         now: Moment,
         selector: &Selector,
-        copy: Option<Message>,
+        copy: Option<Boxed<Message>>,
         session: SessionId,
         consumer: ConsumerId,
     ) -> Answer
@@ -500,7 +501,7 @@ impl Stations {
     }
 
     /// The rows that are out through one of those consumers go, and each message that no other row holds with them.
-    /// Goes over all keys; of a key under which no row was ever out, no row is looked at. Takes no memory.
+    /// Looks at no key but those under which rows are out, and where none is out through them at no row. Takes no memory.
     #[tactic(auto, using(crate::proofs::Indexes::as_many_mapped))]
     pub fn settle(&mut self, which: &Consumers)
         ensures keys { self.new.keys ≡ self.old.keys }
@@ -511,8 +512,8 @@ impl Stations {
         self.backlogs.settle(which);
     }
 
-    /// The rows that are out through one of those consumers wait again, at their places and with their counts. Goes over
-    /// all keys; of a key under which no row was ever out, no row is looked at. Takes no memory.
+    /// The rows that are out through one of those consumers wait again, at their places and with their counts. Looks at no
+    /// key but those under which rows are out, and where none is out through them at no row. Takes no memory.
     #[tactic(auto, using(crate::proofs::Indexes::as_many_mapped))]
     pub fn give_back(&mut self, which: &Consumers)
         ensures keys { self.new.keys ≡ self.old.keys }

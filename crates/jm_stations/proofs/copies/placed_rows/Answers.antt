@@ -1,7 +1,7 @@
 use Rattle.std.proofs.Common.{◌++◌, ◌∷◌, [], ◌∙◌, ap, sym, List, arith, option_map}
 use Rattle.jm_machine.specs.declared.state.PlacedRow.{PlacedRow}
 use Rattle.jm_pending.specs.Placed.{placed, all_placed}
-use Rattle.jm_pending.proofs.From.{below_none}
+use Rattle.jm_lane.proofs.From.{below_none}
 use Rattle.jm_stations.proofs.Copied.{row_held, row_more, rows_all}
 use Rattle.jm_stations.proofs.copies.placed_rows.Goals as goal
 

@@ -1,7 +1,7 @@
 use Rattle.std.proofs.Common.{◌≡◌, ◌≤◌, ◌-◌, length}
 use Rattle.std.specs.List.{filter}
 use Rattle.jm_dest.specs.Numbers.{long_end}
-use Rattle.jm_pending.specs.Lanes.{is_below}
+use Rattle.jm_lane.specs.Lanes.{is_below}
 use Rattle.jm_pending.specs.Placed.{all_placed}
 use Rattle.jm_stations.proofs.copies.placed_rows.Given as goal
 

@@ -4,7 +4,7 @@ use Rattle.std.proofs.lemmas.List.{take_all, length-set}
 use Rattle.jm_dest.specs.declared.key.Key.{Key}
 use Rattle.jm_machine.specs.Attached.{ended}
 use Rattle.jm_pending.specs.Rows.{Held}
-use Rattle.jm_pending.specs.Holders.{Covers, Follows}
+use Rattle.jm_lane.specs.Holders.{Covers, Follows}
 use Rattle.jm_stations.specs.Kept.{cleared, cleared_under}
 use Rattle.jm_stations.proofs.Holders.{covers_one, counted_one}
 use Rattle.jm_stations.proofs.Each.{keeps_all}

@@ -2,7 +2,7 @@ use Rattle.std.proofs.Common.{◌≡◌, length, take}
 use Rattle.std.specs.Vec.{vec_capacity}
 use Rattle.jm_machine.specs.Attached.{ended}
 use Rattle.jm_pending.specs.Counts.{IsCounted}
-use Rattle.jm_pending.specs.Holders.{KeepsMessages}
+use Rattle.jm_lane.specs.Holders.{KeepsMessages}
 use Rattle.jm_stations.specs.Kept.{all_rows, cleared_under}
 use Rattle.jm_stations.proofs.lists.clear_each.Given as goal
 

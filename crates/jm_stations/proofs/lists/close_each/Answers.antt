@@ -15,3 +15,8 @@ pub returns-clause-room : goal.returns-clause-room
 returns-clause-room c =
     let number : length c.clear_each.new.lists.items ≡ length c.args.lists.now.items = ap length c.clear_each.ensures.lists ∙ length-cleared (ended c.args.which.now c.args.attached.now) c.args.keys.now c.args.lists.now.items in
     omega (arith, number, c.clear_each.new.lists.ok.0, c.args.lists.now.ok.0, c.clear_each.ensures.capacity, c.keep_each.ensures.capacity, c.keep_each.ensures.len)
+
+pub returns-clause-len : goal.returns-clause-len
+returns-clause-len c =
+    let number : length c.clear_each.new.lists.items ≡ length c.args.lists.now.items = ap length c.clear_each.ensures.lists ∙ length-cleared (ended c.args.which.now c.args.attached.now) c.args.keys.now c.args.lists.now.items in
+    omega (arith, number, c.clear_each.new.lists.ok.0, c.args.lists.now.ok.0, c.keep_each.ensures.len)

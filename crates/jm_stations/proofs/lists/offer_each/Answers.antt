@@ -1,7 +1,7 @@
 use Rattle.std.proofs.Common.{◌≡◌, ◌<◌, ◌+◌, ◌++◌, ◌∷◌, [], ℕ, List, ◌∙◌, ap, sym, subst, get_or, set, take, length, arith}
 use Rattle.std.proofs.lemmas.List.{take_more}
 use Rattle.jm_pending.specs.Rows.{Held}
-use Rattle.jm_pending.specs.Holders.{Follows}
+use Rattle.jm_lane.specs.Holders.{Follows}
 use Rattle.jm_stations.specs.Kept.{all_rows, with_row, AreBelow, IsOffered}
 use Rattle.jm_stations.proofs.Holders.{IsFollowed, followed_more}
 use Rattle.jm_stations.proofs.Offers.{offered_other, offered_more, first_named, added_is}

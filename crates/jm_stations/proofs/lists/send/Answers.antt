@@ -1,7 +1,7 @@
 use Rattle.std.proofs.Common.{◌≡◌, ◌∙◌, ap, subst, get_or, set}
 use Rattle.std.proofs.lemmas.List.{get_or_default}
 use Rattle.jm_pending.specs.Rows.{Held, next}
-use Rattle.jm_pending.specs.Holders.{Follows}
+use Rattle.jm_lane.specs.Holders.{Follows}
 use Rattle.jm_stations.specs.Kept.{sent_off}
 use Rattle.jm_stations.proofs.Delivery.{taken_sent}
 use Rattle.jm_stations.proofs.Shown.{changed_is_set}

@@ -2,7 +2,7 @@ use Rattle.std.proofs.Common.{◌≡◌, ◌∙◌, ap, subst, get_or, set}
 use Rattle.std.proofs.lemmas.List.{get_or_default}
 use Rattle.jm_machine.specs.Machine.{are_meant}
 use Rattle.jm_pending.specs.Rows.{Held}
-use Rattle.jm_pending.specs.Holders.{Follows}
+use Rattle.jm_lane.specs.Holders.{Follows}
 use Rattle.jm_stations.specs.Kept.{settled_out}
 use Rattle.jm_stations.proofs.Shown.{changed_is_set}
 use Rattle.jm_stations.proofs.lists.settle_at.Goals as goal

@@ -3,7 +3,7 @@ use Rattle.std.proofs.lemmas.List.{get_or_default}
 use Rattle.jm_pending.specs.Chosen.{next_where}
 use Rattle.jm_pending.specs.Rows.{Held}
 use Rattle.jm_selector.specs.Selectors.{matches}
-use Rattle.jm_pending.specs.Holders.{Follows}
+use Rattle.jm_lane.specs.Holders.{Follows}
 use Rattle.jm_stations.specs.Kept.{settled_where}
 use Rattle.jm_stations.proofs.Delivery.{taken_settled}
 use Rattle.jm_stations.proofs.Shown.{changed_is_set}

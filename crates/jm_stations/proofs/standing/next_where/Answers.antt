@@ -1,9 +1,9 @@
 use Rattle.std.proofs.Common.{◌≡◌, ◌∙◌, ap, sym, option_map}
 use Rattle.jm_selector.specs.Selectors.{matches}
 use Rattle.std.specs.Option.{IfSome}
-use Rattle.jm_pending.specs.Holders.{holders_of}
+use Rattle.jm_lane.specs.Holders.{holders_of}
 use Rattle.std.proofs.Common.{Option, subst, ◌<◌}
-use Rattle.jm_pending.specs.declared.row.Row.{Row}
+use Rattle.jm_lane.specs.declared.row.Row.{Row}
 use Rattle.jm_pending.specs.Placed.{placed}
 use Rattle.jm_stations.proofs.Choosing.{next_where_same, where_held}
 use Rattle.jm_stations.proofs.standing.next_where.Goals as goal

@@ -1,10 +1,11 @@
 use Rattle.std.proofs.Common.{arith, length, ◌≡◌, ◌<◌, ◌-◌, ◌^◌, ℕ, refl, set, get_or, ◌++◌, ◌∷◌, [], List, ap, ◌∙◌}
 use Rattle.std.specs.List.{All}
-use Rattle.jm_pending.specs.declared.row.Row.{Row}
-use Rattle.jm_pending.specs.Lanes.{Lane, all_rows, rows_of, IsHeld, IsPushed}
-use Rattle.jm_pending.proofs.Places.{all_unsorted}
-use Rattle.jm_pending.proofs.Holding.{follows_held}
-use Rattle.jm_pending.proofs.Pushing.{held_push, few_rows}
+use Rattle.jm_lane.specs.declared.row.Row.{Row}
+use Rattle.jm_lane.specs.Lanes.{Lane}
+use Rattle.jm_lanes.specs.Lanes.{all_rows, rows_of, IsHeld, IsPushed}
+use Rattle.jm_lanes.proofs.Places.{all_unsorted}
+use Rattle.jm_lane.proofs.Holding.{follows_held}
+use Rattle.jm_lanes.proofs.Pushing.{held_push, few_rows}
 use Rattle.jm_pending.proofs.Receiving.{known_added}
 use Rattle.std.proofs.lemmas.List.{length-append}
 use Rattle.jm_pending.proofs.Shown.{length_shown}

@@ -1,9 +1,9 @@
 use Rattle.std.proofs.Common.{false, refl}
-use Rattle.jm_pending.proofs.Keeping.{held_filter}
+use Rattle.jm_lanes.proofs.Keeping.{held_filter}
 use Rattle.jm_pending.specs.declared.receivers.Receivers.TheVariants.{Nobody}
-use Rattle.jm_pending.specs.Lanes.{rows_of}
+use Rattle.jm_lanes.specs.Lanes.{rows_of}
 use Rattle.jm_pending.proofs.Receiving.{known_none, follows_still, known_no_rows}
-use Rattle.jm_pending.proofs.Holding.{covers_all, follows_all}
+use Rattle.jm_lanes.proofs.Holding.{covers_all, follows_all}
 use Rattle.jm_pending.proofs.held.Held.clear.Goals as goal
 
 pub invariant_of-self-2 : goal.invariant_of-self-2

@@ -1,5 +1,5 @@
 use Rattle.std.proofs.Common.{refl, ◌∙◌, ap, length, sym}
-use Rattle.jm_pending.proofs.Keeping.{held_copied}
+use Rattle.jm_lanes.proofs.Keeping.{held_copied}
 use Rattle.jm_pending.proofs.Receiving.{known_same}
 use Rattle.jm_pending.proofs.held.Held.copy.Goals as goal
 

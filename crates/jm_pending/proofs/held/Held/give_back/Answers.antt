@@ -1,9 +1,9 @@
 use Rattle.std.proofs.Common.{refl, ◌∙◌, ap, length, sym}
 use Rattle.jm_machine.specs.Machine.{are_meant}
-use Rattle.jm_pending.specs.Rows.{back, is_out}
-use Rattle.jm_pending.specs.Lanes.{rows_of}
-use Rattle.jm_pending.proofs.Steps.{back_place, back_priority}
-use Rattle.jm_pending.proofs.Keeping.{held_map}
+use Rattle.jm_lane.specs.Rows.{back, is_out}
+use Rattle.jm_lanes.specs.Lanes.{rows_of}
+use Rattle.jm_lane.proofs.Steps.{back_place, back_priority}
+use Rattle.jm_lanes.proofs.Keeping.{held_map}
 use Rattle.jm_pending.proofs.Receiving.{known_back, none_back, known_no_rows}
 use Rattle.std.proofs.lemmas.List.{length-map}
 use Rattle.jm_pending.specs.declared.receivers.Receivers.TheVariants.{Nobody}

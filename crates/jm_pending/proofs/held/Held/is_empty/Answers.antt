@@ -1,4 +1,4 @@
-use Rattle.jm_pending.specs.Lanes.{rows_of}
+use Rattle.jm_lanes.specs.Lanes.{rows_of}
 use Rattle.jm_pending.proofs.Number.{none_there}
 use Rattle.jm_pending.proofs.held.Held.is_empty.Goals as goal
 

@@ -1,6 +1,7 @@
 use Rattle.std.proofs.Common.{◌∙◌, sym, refl}
-use Rattle.jm_pending.specs.Lanes.{rows_of}
-use Rattle.jm_pending.proofs.Home.{home_known, home_shown}
+use Rattle.jm_lanes.specs.Lanes.{rows_of}
+use Rattle.jm_lanes.proofs.Home.{home_shown}
+use Rattle.jm_pending.proofs.Receiving.{home_known}
 use Rattle.jm_pending.proofs.held.Held.is_home.Goals as goal
 
 pub returns-then-is_nobody : goal.returns-then-is_nobody

@@ -1,9 +1,9 @@
 use Rattle.std.proofs.Common.{◌<◌, refl}
 use Rattle.jm_dest.specs.Numbers.{long_end}
-use Rattle.jm_pending.specs.declared.row.Row.{Row}
-use Rattle.jm_pending.specs.Cursors.{lapsed_from}
-use Rattle.jm_pending.specs.Lanes.{all_rows, rows_of}
-use Rattle.jm_pending.proofs.Places.{all_sorted, find_has}
+use Rattle.jm_lane.specs.declared.row.Row.{Row}
+use Rattle.jm_lane.specs.Cursors.{lapsed_from}
+use Rattle.jm_lanes.specs.Lanes.{all_rows, rows_of}
+use Rattle.jm_lanes.proofs.Places.{all_sorted, find_has}
 use Rattle.jm_pending.proofs.held.Held.lapsed_from.Goals as goal
 
 pub returns-clause-place : goal.returns-clause-place

@@ -1,7 +1,7 @@
 use Rattle.std.proofs.Common.{ap, refl}
 use Rattle.jm_pending.specs.declared.receivers.Receivers.TheVariants.{Nobody}
-use Rattle.jm_pending.specs.Lanes.{rows_of}
-use Rattle.jm_pending.proofs.Making.{none_held}
+use Rattle.jm_lanes.specs.Lanes.{rows_of}
+use Rattle.jm_lanes.proofs.Making.{none_held}
 use Rattle.jm_pending.proofs.Receiving.{known_no_rows}
 use Rattle.jm_pending.proofs.held.Held.new.Goals as goal
 

@@ -1,11 +1,11 @@
 use Rattle.std.proofs.Common.{◌<◌, refl}
 use Rattle.jm_dest.specs.Numbers.{long_end}
 use Rattle.jm_machine.specs.Machine.{are_meant}
-use Rattle.jm_pending.specs.declared.row.Row.{Row}
-use Rattle.jm_pending.specs.Cursors.{out_from}
-use Rattle.jm_pending.specs.Lanes.{all_rows, rows_of}
-use Rattle.jm_pending.proofs.Places.{all_sorted, find_has}
-use Rattle.jm_pending.proofs.Lowest.{none_out}
+use Rattle.jm_lane.specs.declared.row.Row.{Row}
+use Rattle.jm_lane.specs.Cursors.{out_from}
+use Rattle.jm_lanes.specs.Lanes.{all_rows, rows_of}
+use Rattle.jm_lanes.proofs.Places.{all_sorted, find_has}
+use Rattle.jm_pending.proofs.Receiving.{none_out}
 use Rattle.jm_pending.proofs.held.Held.out_from.Goals as goal
 
 pub returns-then-include-clause-place : goal.returns-then-include-clause-place

@@ -1,5 +1,5 @@
 use Rattle.std.proofs.Common.{◌<◌, length, refl, ◌∙◌, arith, ap, sym}
-use Rattle.jm_pending.proofs.Keeping.{held_same, held_room}
+use Rattle.jm_lanes.proofs.Keeping.{held_same, held_room}
 use Rattle.jm_pending.proofs.Receiving.{known_same}
 use Rattle.jm_pending.proofs.held.Held.reserve.Goals as goal
 

@@ -1,7 +1,7 @@
 use Rattle.std.proofs.Common.{arith, sym}
 use Rattle.std.proofs.lemmas.Option.{slice_get_past}
-use Rattle.jm_pending.specs.Lanes.{rows_of}
-use Rattle.jm_pending.proofs.Pushing.{few_rows}
+use Rattle.jm_lanes.specs.Lanes.{rows_of}
+use Rattle.jm_lanes.proofs.Pushing.{few_rows}
 use Rattle.jm_pending.proofs.Shown.{length_shown}
 use Rattle.jm_pending.proofs.held.Held.row_at.Goals as goal
 

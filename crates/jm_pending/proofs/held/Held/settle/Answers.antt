@@ -1,12 +1,12 @@
 use Rattle.std.proofs.Common.{refl, ◌∙◌, arith, sym}
 use Rattle.jm_machine.specs.Machine.{are_meant}
-use Rattle.jm_pending.specs.declared.row.Outs.TheVariants.{Of}
-use Rattle.jm_pending.specs.Rows.{keeps}
-use Rattle.jm_pending.specs.Lanes.{rows_of}
-use Rattle.jm_pending.proofs.Holding.{covers_all, follows_all}
-use Rattle.jm_pending.proofs.Keeping.{held_filter}
+use Rattle.jm_lane.specs.declared.row.Outs.TheVariants.{Of}
+use Rattle.jm_lane.specs.Rows.{keeps}
+use Rattle.jm_lanes.specs.Lanes.{rows_of}
+use Rattle.jm_lanes.proofs.Holding.{covers_all, follows_all}
+use Rattle.jm_lanes.proofs.Keeping.{held_filter}
 use Rattle.jm_pending.proofs.Receiving.{known_left, none_go, follows_still, known_no_rows}
-use Rattle.jm_pending.proofs.Pushing.{few_rows}
+use Rattle.jm_lanes.proofs.Pushing.{few_rows}
 use Rattle.jm_pending.proofs.Shown.{length_shown}
 use Rattle.jm_pending.specs.declared.receivers.Receivers.TheVariants.{Nobody}
 use Rattle.jm_pending.proofs.held.Held.settle.Goals as goal

@@ -1,8 +1,8 @@
 use Rattle.std.proofs.Common.{refl, ◌∙◌, arith, sym}
-use Rattle.jm_pending.proofs.Holding.{covers_all, follows_all}
-use Rattle.jm_pending.proofs.Keeping.{held_filter}
+use Rattle.jm_lanes.proofs.Holding.{covers_all, follows_all}
+use Rattle.jm_lanes.proofs.Keeping.{held_filter}
 use Rattle.jm_pending.proofs.Receiving.{known_filter, follows_still}
-use Rattle.jm_pending.proofs.Pushing.{few_rows}
+use Rattle.jm_lanes.proofs.Pushing.{few_rows}
 use Rattle.jm_pending.proofs.Shown.{length_shown}
 use Rattle.jm_pending.proofs.held.Held.settle_one.Goals as goal
 

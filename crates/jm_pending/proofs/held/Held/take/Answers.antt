@@ -1,9 +1,9 @@
 use Rattle.std.proofs.Common.{◌≡◌, ◌∙◌, arith, refl, sym}
 use Rattle.jm_pending.specs.Rows.{next}
-use Rattle.jm_pending.specs.Lanes.{rows_of}
-use Rattle.jm_pending.proofs.Holding.{covers_all, follows_taken}
+use Rattle.jm_lanes.specs.Lanes.{rows_of}
+use Rattle.jm_lanes.proofs.Holding.{covers_all, follows_taken}
 use Rattle.jm_pending.proofs.Taking.{dropped_apart, known_out, next_ready, sent_held}
-use Rattle.jm_pending.proofs.Pushing.{few_rows}
+use Rattle.jm_lanes.proofs.Pushing.{few_rows}
 use Rattle.jm_pending.proofs.Receiving.{follows_still}
 use Rattle.jm_pending.proofs.Number.{sent_number}
 use Rattle.jm_pending.proofs.held.Held.take.Goals as goal

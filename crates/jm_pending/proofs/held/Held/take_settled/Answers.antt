@@ -1,14 +1,17 @@
 use Rattle.std.proofs.Common.{◌≡◌, ◌∙◌, refl, arith, sym}
 use Rattle.std.specs.List.{filter}
 use Rattle.std.proofs.lemmas.List.Elements.{filter-append}
-use Rattle.jm_pending.specs.Rows.{stays, is_ready, is_elsewhere, next, counted}
-use Rattle.jm_pending.specs.Holders.{last_message}
-use Rattle.jm_pending.specs.Lanes.{all_rows, rows_of, is_at}
-use Rattle.jm_pending.proofs.Edited.{all_rows_each}
-use Rattle.jm_pending.proofs.Holding.{covers_all, covers_after, first_holder, first_message, first_settled, follows_all, follows_then, filter_count}
-use Rattle.jm_pending.proofs.Places.{apart_from_rising}
+use Rattle.jm_lane.specs.Rows.{stays, is_ready, is_elsewhere, counted}
+use Rattle.jm_pending.specs.Rows.{next}
+use Rattle.jm_lane.specs.Holders.{last_message}
+use Rattle.jm_lane.specs.Lanes.{is_at}
+use Rattle.jm_lanes.specs.Lanes.{all_rows, rows_of}
+use Rattle.jm_lanes.proofs.Edited.{all_rows_each}
+use Rattle.jm_lane.proofs.Holding.{covers_after, follows_then, filter_count}
+use Rattle.jm_lanes.proofs.Holding.{covers_all, first_holder, first_message, first_settled, follows_all}
+use Rattle.jm_lanes.proofs.Places.{apart_from_rising}
 use Rattle.jm_pending.proofs.Taking.{dropped, dropped_apart, known_left_over, left_all, next_ready, none_taken, removed_held, some_taken, taken_out}
-use Rattle.jm_pending.proofs.Pushing.{few_rows}
+use Rattle.jm_lanes.proofs.Pushing.{few_rows}
 use Rattle.jm_pending.proofs.Receiving.{follows_still}
 use Rattle.jm_pending.proofs.Number.{kept_number, removed_number}
 use Rattle.jm_pending.proofs.held.Held.take_settled.Goals as goal

@@ -1,8 +1,11 @@
-use Rattle.std.proofs.Common.{◌≡◌, ◌∙◌, ap, map, refl}
+use Rattle.std.proofs.Common.{◌≡◌, ◌∙◌, ap, map, refl, sym, length}
 use Rattle.jm_stations.specs.Backlogs as spec
 use Rattle.jm_stations.specs.Kept.{all_shown, without_room}
 use Rattle.jm_stations.proofs.Room.{table_kept, table_shown}
 use Rattle.jm_stations.proofs.Copied.{copied_kept, copied_shown}
+use Rattle.jm_stations.specs.Outstanding.{Outstanding}
+use Rattle.std.proofs.lemmas.List.{length-map}
+use Rattle.jm_stations.proofs.Homes.{but_copied}
 use Rattle.jm_stations.proofs.backlogs.Backlogs.copy.Goals as goal
 
 pub invariant_of-result : goal.invariant_of-result
@@ -10,8 +13,11 @@ invariant_of-result c =
     let t = c.self.inside.table in
     let t' = c.in_ok-table.table in
     let lists = c.self.inside.lists.items in
-    let copied : c.in_ok-lists.lists.items ≡ map without_room lists = c.in_ok-lists.ensures ∙ ap (map without_room) c.as_slice.ensures.value in
-    rw copied (table_kept t t' c.self.inside.next_place (map without_room lists) c.in_ok-table.ensures (copied_kept t c.self.inside.next_place lists c.self.invariant))
+    let copied : c.in_ok-lists.lists.items ≡ map without_room lists = c.in_ok-lists.ensures ∙ ap (map without_room) c.as_slice.ensures.value in (
+      rw copied (table_kept t t' c.self.inside.next_place (map without_room lists) c.in_ok-table.ensures (copied_kept t c.self.inside.next_place lists c.self.invariant.0)),
+      ap (λ (o : Outstanding). o.number) c.in_ok-outstanding.ensures ∙ c.self.invariant.1 ∙ sym (ap length copied ∙ length-map lists without_room),
+      rw (ap (λ (o : Outstanding). o.indexes) c.in_ok-outstanding.ensures, copied) (but_copied c.self.inside.outstanding.indexes lists c.self.invariant.2),
+    )
 
 pub returns : goal.returns
 returns c =

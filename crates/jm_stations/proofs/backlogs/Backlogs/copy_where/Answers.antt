@@ -2,11 +2,11 @@ use Rattle.std.proofs.Common.{◌≡◌, ◌∙◌, ◌<◌, ℕ, List, length, 
 use Rattle.std.specs.Prelude.{IfOk, OnErr, is_some}
 use Rattle.std.proofs.lemmas.List.{get_or-map, get_or_default}
 use Rattle.jm_header.specs.declared.content.Content.{Content}
-use Rattle.jm_pending.specs.declared.row.Row.{Row}
+use Rattle.jm_lane.specs.declared.row.Row.{Row}
 use Rattle.jm_pending.specs.Chosen.{next_where}
 use Rattle.jm_pending.specs.Rows.{Held}
 use Rattle.jm_selector.specs.Selectors.{matches}
-use Rattle.jm_pending.specs.Holders.{Messages}
+use Rattle.jm_lane.specs.Holders.{Messages}
 use Rattle.jm_stations.specs.Backlogs.{Backlog, copy_wanted_where}
 use Rattle.jm_stations.specs.Kept.{shown, all_shown, copied, IsKept}
 use Rattle.jm_stations.proofs.Wanted.{copied_where_is}
@@ -23,10 +23,10 @@ wanted p settles t place now k lists h next_row d within at taken kept =
 
 pub returns-clause-copy : goal.returns-clause-copy
 returns-clause-copy c = λ d.
-    let same = wanted (matches c.args.selector.now) c.args.settles c.self.inside.table c.self.inside.next_place c.args.now c.args.index c.self.inside.lists.items c.index.result.now c.next_where-row.result d (rw (← c.self.view_is) at c.requires.within) c.index.ensures c.next_where-row.ensures.next c.self.invariant in
+    let same = wanted (matches c.args.selector.now) c.args.settles c.self.inside.table c.self.inside.next_place c.args.now c.args.index c.self.inside.lists.items c.index.result.now c.next_where-row.result d (rw (← c.self.view_is) at c.requires.within) c.index.ensures c.next_where-row.ensures.next c.self.invariant.0 in
     rw (← c.self.view_is) (subst (λ (o : Option Content). IfOk c.copy_of.result (λ copy. copy ≡ o)) same c.copy_of.ensures.copy)
 
 pub returns-clause-err : goal.returns-clause-err
 returns-clause-err c = λ d.
-    let same = wanted (matches c.args.selector.now) c.args.settles c.self.inside.table c.self.inside.next_place c.args.now c.args.index c.self.inside.lists.items c.index.result.now c.next_where-row.result d (rw (← c.self.view_is) at c.requires.within) c.index.ensures c.next_where-row.ensures.next c.self.invariant in
+    let same = wanted (matches c.args.selector.now) c.args.settles c.self.inside.table c.self.inside.next_place c.args.now c.args.index c.self.inside.lists.items c.index.result.now c.next_where-row.result d (rw (← c.self.view_is) at c.requires.within) c.index.ensures c.next_where-row.ensures.next c.self.invariant.0 in
     rw (← c.self.view_is) (subst (λ (o : Option Content). OnErr c.copy_of.result (is_some o ≡ true)) same c.copy_of.ensures.err)

@@ -4,4 +4,4 @@ use Rattle.jm_stations.proofs.backlogs.Backlogs.holders_of.Goals as goal
 
 pub returns : goal.returns
 returns c =
-    rw (← c.self.view_is) (c.holders.ensures ∙ c.self.invariant.counted.each c.args.place ∙ sym (shown_count c.self.inside.table c.args.place c.self.inside.lists.items))
+    rw (← c.self.view_is) (c.holders.ensures ∙ c.self.invariant.0.counted.each c.args.place ∙ sym (shown_count c.self.inside.table c.args.place c.self.inside.lists.items))

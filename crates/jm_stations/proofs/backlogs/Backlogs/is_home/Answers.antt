@@ -4,10 +4,10 @@ use Rattle.std.proofs.lemmas.List.{get_or-map, get_or_default}
 use Rattle.jm_machine.specs.declared.state.Row.{Row as MachineRow}
 use Rattle.jm_machine.specs.Rows as machine
 use Rattle.jm_machine.specs.Rows.{bare}
-use Rattle.jm_pending.specs.declared.row.Row.{Row}
-use Rattle.jm_pending.specs.Rows as rows_here
+use Rattle.jm_lane.specs.declared.row.Row.{Row}
+use Rattle.jm_lane.specs.Rows as rows_here
 use Rattle.jm_pending.specs.Rows.{Held}
-use Rattle.jm_pending.specs.Holders.{Messages}
+use Rattle.jm_lane.specs.Holders.{Messages}
 use Rattle.jm_pending.specs.Placed.{all_placed}
 use Rattle.jm_stations.specs.Backlogs.{Backlog, are_home}
 use Rattle.jm_stations.specs.Kept.{shown}

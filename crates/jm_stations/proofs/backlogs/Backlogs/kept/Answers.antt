@@ -8,6 +8,6 @@ returns c =
     rw (← c.self.view_is) (record {
       places = c.len.ensures.places;
       once = c.len.ensures.once;
-      each = λ p. rw (shown_count t p lists, ← c.self.invariant.counted.each p) (c.len.ensures.each p);
+      each = λ p. rw (shown_count t p lists, ← c.self.invariant.0.counted.each p) (c.len.ensures.each p);
       number = c.len.ensures.number;
     })

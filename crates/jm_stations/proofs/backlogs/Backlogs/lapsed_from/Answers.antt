@@ -9,10 +9,10 @@ use Rattle.jm_stations.proofs.Readers.{covers_at, own_at, rows_seen}
 use Rattle.jm_stations.proofs.backlogs.Backlogs.lapsed_from.Goals as goal
 
 pub lapsed_from-requires-clause-covers : goal.lapsed_from-requires-clause-covers
-lapsed_from-requires-clause-covers c = covers_at c.self.inside.table c.self.inside.lists.items c.self.inside.next_place c.args.index c.index.result.now (rw (← c.self.view_is) at c.requires) c.index.ensures c.self.invariant
+lapsed_from-requires-clause-covers c = covers_at c.self.inside.table c.self.inside.lists.items c.self.inside.next_place c.args.index c.index.result.now (rw (← c.self.view_is) at c.requires) c.index.ensures c.self.invariant.0
 
 pub lapsed_from-requires-clause-own : goal.lapsed_from-requires-clause-own
-lapsed_from-requires-clause-own c = own_at c.self.inside.table c.self.inside.lists.items c.self.inside.next_place c.args.index c.index.result.now (rw (← c.self.view_is) at c.requires) c.index.ensures c.self.invariant
+lapsed_from-requires-clause-own c = own_at c.self.inside.table c.self.inside.lists.items c.self.inside.next_place c.args.index c.index.result.now (rw (← c.self.view_is) at c.requires) c.index.ensures c.self.invariant.0
 
 pub returns : goal.returns
 returns c = λ d.

@@ -9,10 +9,10 @@ use Rattle.jm_stations.proofs.Readers.{covers_at, own_at, rows_seen}
 use Rattle.jm_stations.proofs.backlogs.Backlogs.next.Goals as goal
 
 pub next-requires-clause-covers : goal.next-requires-clause-covers
-next-requires-clause-covers c = covers_at c.self.inside.table c.self.inside.lists.items c.self.inside.next_place c.args.index c.index.result.now (rw (← c.self.view_is) at c.requires) c.index.ensures c.self.invariant
+next-requires-clause-covers c = covers_at c.self.inside.table c.self.inside.lists.items c.self.inside.next_place c.args.index c.index.result.now (rw (← c.self.view_is) at c.requires) c.index.ensures c.self.invariant.0
 
 pub next-requires-clause-own : goal.next-requires-clause-own
-next-requires-clause-own c = own_at c.self.inside.table c.self.inside.lists.items c.self.inside.next_place c.args.index c.index.result.now (rw (← c.self.view_is) at c.requires) c.index.ensures c.self.invariant
+next-requires-clause-own c = own_at c.self.inside.table c.self.inside.lists.items c.self.inside.next_place c.args.index c.index.result.now (rw (← c.self.view_is) at c.requires) c.index.ensures c.self.invariant.0
 
 pub returns : goal.returns
 returns c = λ d.

@@ -10,10 +10,10 @@ use Rattle.jm_stations.proofs.Readers.{covers_at, own_at, rows_seen}
 use Rattle.jm_stations.proofs.backlogs.Backlogs.next_where.Goals as goal
 
 pub next_where-requires-clause-covers : goal.next_where-requires-clause-covers
-next_where-requires-clause-covers c = covers_at c.self.inside.table c.self.inside.lists.items c.self.inside.next_place c.args.index c.index.result.now (rw (← c.self.view_is) at c.requires) c.index.ensures c.self.invariant
+next_where-requires-clause-covers c = covers_at c.self.inside.table c.self.inside.lists.items c.self.inside.next_place c.args.index c.index.result.now (rw (← c.self.view_is) at c.requires) c.index.ensures c.self.invariant.0
 
 pub next_where-requires-clause-own : goal.next_where-requires-clause-own
-next_where-requires-clause-own c = own_at c.self.inside.table c.self.inside.lists.items c.self.inside.next_place c.args.index c.index.result.now (rw (← c.self.view_is) at c.requires) c.index.ensures c.self.invariant
+next_where-requires-clause-own c = own_at c.self.inside.table c.self.inside.lists.items c.self.inside.next_place c.args.index c.index.result.now (rw (← c.self.view_is) at c.requires) c.index.ensures c.self.invariant.0
 
 pub returns : goal.returns
 returns c = λ d.

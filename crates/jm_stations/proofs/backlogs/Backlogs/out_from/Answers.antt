@@ -9,7 +9,7 @@ use Rattle.jm_stations.proofs.Readers.{covers_at, own_at, rows_seen}
 use Rattle.jm_stations.proofs.backlogs.Backlogs.out_from.Goals as goal
 
 pub out_from-requires : goal.out_from-requires
-out_from-requires c = covers_at c.self.inside.table c.self.inside.lists.items c.self.inside.next_place c.args.index c.index.result.now (rw (← c.self.view_is) at c.requires) c.index.ensures c.self.invariant
+out_from-requires c = covers_at c.self.inside.table c.self.inside.lists.items c.self.inside.next_place c.args.index c.index.result.now (rw (← c.self.view_is) at c.requires) c.index.ensures c.self.invariant.0
 
 pub returns : goal.returns
 returns c = λ d.

@@ -1,4 +1,4 @@
-use Rattle.std.proofs.Common.{◌≤◌, ◌<◌, List, subst, get_or, length, arith}
+use Rattle.std.proofs.Common.{◌≤◌, ◌<◌, List, subst, get_or, length, arith, ◌∙◌, sym}
 use Rattle.std.specs.List.{All}
 use Rattle.jm_stations.specs.Backlogs as spec
 use Rattle.jm_stations.specs.Backlogs.{Backlog}
@@ -6,15 +6,23 @@ use Rattle.jm_stations.specs.Kept.{all_shown}
 use Rattle.jm_stations.proofs.Room.{table_kept, lists_kept, table_shown, lists_shown, named_shown, on_ok}
 use Rattle.jm_stations.proofs.Receiving.{within_shown}
 use Rattle.jm_pending.specs.Rows.{Held}
+use Rattle.jm_stations.proofs.Homes.{but_roomier}
 use Rattle.jm_stations.proofs.backlogs.Backlogs.reserve.Goals as goal
 
 pub invariant_of-self : goal.invariant_of-self
-invariant_of-self c = table_kept c.self.inside.table c.reserve.new.self c.self.inside.next_place c.self.inside.lists.items c.reserve.ensures.same c.self.invariant
+invariant_of-self c = (
+  table_kept c.self.inside.table c.reserve.new.self c.self.inside.next_place c.self.inside.lists.items c.reserve.ensures.same c.self.invariant.0,
+  c.self.invariant.1,
+  c.self.invariant.2,
+)
 
 pub invariant_of-self-2 : goal.invariant_of-self-2
 invariant_of-self-2 c =
-    let kept = table_kept c.self.inside.table c.reserve.new.self c.self.inside.next_place c.self.inside.lists.items c.reserve.ensures.same c.self.invariant in
-    lists_kept c.reserve.new.self c.self.inside.next_place c.self.inside.lists.items c.reserve_each.new.lists.items c.reserve_each.ensures.lists kept
+    let kept = table_kept c.self.inside.table c.reserve.new.self c.self.inside.next_place c.self.inside.lists.items c.reserve.ensures.same c.self.invariant.0 in (
+      lists_kept c.reserve.new.self c.self.inside.next_place c.self.inside.lists.items c.reserve_each.new.lists.items c.reserve_each.ensures.lists kept,
+      c.self.invariant.1 ∙ sym c.reserve_each.ensures.lists.number,
+      but_roomier c.self.inside.outstanding.indexes c.self.inside.lists.items c.reserve_each.new.lists.items c.reserve_each.ensures.lists c.self.invariant.2,
+    )
 
 pub returns-clause-list : goal.returns-clause-list
 returns-clause-list c =

@@ -9,7 +9,7 @@ use Rattle.jm_stations.proofs.Readers.{covers_at, own_at, rows_seen}
 use Rattle.jm_stations.proofs.backlogs.Backlogs.row_of.Goals as goal
 
 pub row_of-requires : goal.row_of-requires
-row_of-requires c = covers_at c.self.inside.table c.self.inside.lists.items c.self.inside.next_place c.args.index c.index.result.now (rw (← c.self.view_is) at c.requires) c.index.ensures c.self.invariant
+row_of-requires c = covers_at c.self.inside.table c.self.inside.lists.items c.self.inside.next_place c.args.index c.index.result.now (rw (← c.self.view_is) at c.requires) c.index.ensures c.self.invariant.0
 
 pub returns : goal.returns
 returns c = λ d.

@@ -3,7 +3,7 @@ use Rattle.std.specs.Prelude.{IfOk}
 use Rattle.std.proofs.lemmas.List.{get_or-map, get_or_default}
 use Rattle.jm_machine.specs.declared.state.PlacedRow.{PlacedRow}
 use Rattle.jm_pending.specs.Rows.{Held}
-use Rattle.jm_pending.specs.Holders.{Covers}
+use Rattle.jm_lane.specs.Holders.{Covers}
 use Rattle.jm_pending.specs.Placed.{all_placed}
 use Rattle.jm_stations.specs.Backlogs.{Backlog}
 use Rattle.jm_stations.specs.Kept.{shown, all_shown}
@@ -18,7 +18,7 @@ placed_rows-requires c =
     let k = c.args.index in
     let h : Held = c.index.result.now in
     let inside = within_shown t lists k (rw (← c.self.view_is) at c.requires) in
-    subst (λ (x : Held). Covers t x.rows) (sym c.index.ensures) (covers_one t lists k h inside c.self.invariant.counted)
+    subst (λ (x : Held). Covers t x.rows) (sym c.index.ensures) (covers_one t lists k h inside c.self.invariant.0.counted)
 
 pub returns : goal.returns
 returns c = λ d.

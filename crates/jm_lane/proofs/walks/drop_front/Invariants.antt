@@ -1,0 +1,17 @@
+use Rattle.std.proofs.Common.{◌≡◌, ◌≤◌, false, take}
+use Rattle.std.specs.List.{All}
+use Rattle.std.specs.VecDeque.{deque_len, deque_capacity}
+use Rattle.jm_lane.specs.Rows.{stays, is_waiting}
+use Rattle.jm_lane.proofs.Sieve.{IsSieved}
+use Rattle.jm_lane.specs.Holders.{Follows, Covers}
+use Rattle.jm_lane.proofs.walks.drop_front.Given as goal
+
+abbrev pub invariant-loop-turn : goal.invariant-loop-turn
+invariant-loop-turn l = record {
+  sieved : IsSieved (stays l.now) l.initial.rows.items l.rows.items l._turn l.at;
+  follows : Follows l.initial.table l.table l.initial.rows.items l.rows.items;
+  covers : Covers l.table l.rows.items;
+  room : deque_capacity l.rows ≡ deque_capacity l.initial.rows;
+  len : deque_len l.rows ≤ deque_len l.initial.rows;
+  low : All (λ r. is_waiting r ≡ false) (take l.at l.rows.items);
+}

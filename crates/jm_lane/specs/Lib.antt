@@ -1,0 +1,5 @@
+pub mod Rows
+pub mod Lanes
+pub mod Holders
+pub mod Chosen
+pub mod Cursors

@@ -1,0 +1,11 @@
+use Rattle.std.proofs.Common.{false}
+use Rattle.std.specs.List.{filter}
+use Rattle.jm_lanes.proofs.Edited.{IsEdited}
+use Rattle.jm_lanes.proofs.Holding.{IsLet}
+use Rattle.jm_lanes.proofs.lanes.clear.Given as goal
+
+abbrev pub invariant-loop-lane : goal.invariant-loop-lane
+invariant-loop-lane l = record {
+  edited : IsEdited (filter (λ r. false)) l.initial.lanes l.lanes l.lane-index;
+  let_go : IsLet l.initial.table l.table l.initial.lanes l.lanes;
+}

@@ -1,5 +1,0 @@
-use Rattle.jm_pending.specs.Cursors.{NoneBetween, has_lapsed, improves}
-use Rattle.jm_pending.proofs.cursors.first_lapsed.Given as goal
-
-abbrev pub invariant-loop-i : goal.invariant-loop-i
-invariant-loop-i l = NoneBetween (improves l.best (has_lapsed l.now)) l.rows.items l.from l.i

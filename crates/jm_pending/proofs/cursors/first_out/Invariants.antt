@@ -1,7 +1,0 @@
-use Rattle.jm_machine.specs.Machine.{are_meant}
-use Rattle.jm_pending.specs.Rows.{is_out}
-use Rattle.jm_pending.specs.Cursors.{NoneBetween, improves}
-use Rattle.jm_pending.proofs.cursors.first_out.Given as goal
-
-abbrev pub invariant-loop-i : goal.invariant-loop-i
-invariant-loop-i l = NoneBetween (improves l.best (is_out (are_meant l.which))) l.rows.items l.from l.i

@@ -1,7 +1,0 @@
-use Rattle.std.proofs.Common.{◌≡◌, take, false}
-use Rattle.std.specs.List.{All}
-use Rattle.jm_pending.specs.Chosen.{is_ready_before}
-use Rattle.jm_pending.proofs.walks.first_ready.Given as goal
-
-abbrev pub invariant-loop-i : goal.invariant-loop-i
-invariant-loop-i l = All (λ r. is_ready_before l.best l.now r ≡ false) (take l.i l.rows.items)
