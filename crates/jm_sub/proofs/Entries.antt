@@ -1,23 +1,12 @@
--- What the entries of the table of topics say.
+-- What the entries of the table of channels say.
 use Rattle.std.proofs.Common.{◌≡◌, ◌≤◌, ℕ, zero, suc, length, Bool, true, false, cond, List, [], ◌∷◌, Some, None, refl, sym, ap, ◌∙◌, is_some, arith, Result, Ok, Err, IsOk, OnOk}
 use Rattle.std.proofs.lemmas.Bool.Decides.{nat_tests}
 use Rattle.std.specs.List.{IsDistinct, AllByRecursion}
 use Rattle.std.specs.Map.{keys_of, lookup, values_of}
 use Rattle.std.specs.Prelude.{◌==◌, filter, map, not, option_and_then, slice_get}
 use Rattle.std.specs.Cmp.{IsEquivalence}
-use Rattle.std.specs.Set.{distinct_count, is_member}
-use Rattle.std.proofs.lemmas.Cmp.{nat_list_eq_equiv}
-use Rattle.std.proofs.lemmas.Map.Entries.{length-keys_of}
-use Rattle.std.proofs.lemmas.Map.Made.{is_some-lookup, length-from_keys}
-use Rattle.jm_dest.specs.Names.{text_eq}
 use Rattle.jm_keyed.specs.Entries.{set_value_at}
-use Rattle.jm_sub.specs.Topics.{at_least_one}
-
--- the topics that have an entry are as many as those
-pub number_of_entries : {X : Type 0} (es : List (List ℕ × X)) (topics : List (List ℕ)) → IsDistinct text_eq (keys_of es) → ((topic : List ℕ) → is_some (lookup (text_eq topic) es) ≡ is_member text_eq topics topic) →
-    length es ≡ distinct_count text_eq topics
-number_of_entries es topics unique h =
-    sym (length-keys_of es) ∙ length-from_keys nat_list_eq_equiv (keys_of es) topics unique (λ q. sym (is_some-lookup (text_eq q) es) ∙ h q)
+use Rattle.jm_sub.specs.Channels.{at_least_one}
 
 -- a list that is not empty
 something_left : {Y : Type 0} (ys : List Y) → not (length ys == 0) ≡ true → at_least_one ys ≡ Some ys

@@ -7,7 +7,7 @@ use Rattle.std.proofs.lemmas.List.{append-nil, take_all}
 use Rattle.std.proofs.Math.ListN.{drop_of_length-le}
 use Rattle.jm_dest.specs.declared.key.Key.{Key}
 use Rattle.jm_sub.specs.declared.ending.Ending.{Ending}
-use Rattle.jm_sub.specs.Topics.{ends, left}
+use Rattle.jm_sub.specs.Channels.{ends, left}
 
 module _ (ending : Ending) where
   -- where the first key that ends stands, or the length

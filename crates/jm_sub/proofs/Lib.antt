@@ -1,6 +1,9 @@
 mod Left
 mod Entries
+mod SameChannel
 mod Table
 mod Shared
 mod Listed
-mod Accepting
+mod Topics
+mod Places
+mod Heard

@@ -1,21 +1,20 @@
--- The table of topics agrees with the list.
+-- The table of channels agrees with the list.
 use Rattle.std.proofs.Common.{◌≡◌, ◌+◌, ◌≤◌, ◌<◌, ◌^◌, ℕ, suc, length, Bool, true, false, true≢false, cond, List, [], ◌∷◌, ◌++◌, Bor, None, Some, refl, sym, ap, subst, ◌∙◌, arith, is_some, unwrap_or}
 use Rattle.std.specs.Prelude.{not, filter, map, option_and_then}
 use Rattle.std.specs.List.{AllByRecursion, IsDistinct, list_any}
 use Rattle.std.specs.Map.{keys_of, lookup, remove_entry}
-use Rattle.std.specs.Set.{is_member}
-use Rattle.std.proofs.lemmas.Cmp.{nat_list_eq_equiv}
 use Rattle.jm_dest.specs.declared.key.Key.{Key}
 use Rattle.jm_dest.specs.Keys.{key_eq}
-use Rattle.jm_dest.specs.Names.{text_eq}
 use Rattle.jm_machine.specs.declared.state.Definition.{Definition}
 use Rattle.jm_sub.specs.declared.ending.Ending.{Ending}
 use Rattle.jm_sub.specs.declared.ending.Ending.TheVariants.{Of}
-use Rattle.jm_sub.specs.declared.topics.Topics.{Topics}
+use Rattle.jm_sub.specs.declared.channel.Channel.{Channel}
+use Rattle.jm_sub.specs.declared.channels.Channels.{Channels}
 use Rattle.jm_sub.specs.Entries.{IsNew, subscription_of, subscriptions_of}
 use Rattle.jm_sub.specs.Subscriptions.{Subscription, without}
-use Rattle.jm_sub.specs.Topics.{IsTableOf, at_least_one, ends, keys_at, keys_to, left}
-use Rattle.jm_machine.proofs.Keys.{key_same, key_sym, set_eq, set_is, text_same}
+use Rattle.jm_sub.specs.Channels.{IsTableOf, at_least_one, channel_eq, channel_of, ends, keys_at, keys_in, left}
+use Rattle.jm_sub.proofs.SameChannel.{channel_same}
+use Rattle.jm_machine.proofs.Keys.{key_same, key_sym, set_eq, set_is}
 
 -- those of the subscriptions that stay
 abbrev pub staying : Ending → List Subscription → List Subscription
@@ -31,13 +30,13 @@ subscriptions_left ending (e ∷ es) = by (not (ends ending e.0)) (subscriptions
     by true rest = ap (λ ss. subscription_of e ∷ ss) rest
     by false rest = rest
 
--- the keys of a topic's subscriptions that stay
-pub keys_left : (ending : Ending) (topic : List ℕ) (ss : List Subscription) → keys_to topic (staying ending ss) ≡ left ending (keys_to topic ss)
-keys_left ending topic [] = refl
-keys_left ending topic (s ∷ ss) = by (not (ends ending s.key)) refl (text_eq s.definition.topic topic) refl (keys_left ending topic ss)
+-- the keys of a channel's subscriptions that stay
+pub keys_left : (ending : Ending) (channel : Channel) (ss : List Subscription) → keys_in channel (staying ending ss) ≡ left ending (keys_in channel ss)
+keys_left ending channel [] = refl
+keys_left ending channel (s ∷ ss) = by (not (ends ending s.key)) refl (channel_eq (channel_of s.definition) channel) refl (keys_left ending channel ss)
   where
-    by : (b : Bool) → not (ends ending s.key) ≡ b → (t : Bool) → text_eq s.definition.topic topic ≡ t → keys_to topic (staying ending ss) ≡ left ending (keys_to topic ss) →
-        keys_to topic (staying ending (s ∷ ss)) ≡ left ending (keys_to topic (s ∷ ss))
+    by : (b : Bool) → not (ends ending s.key) ≡ b → (t : Bool) → channel_eq (channel_of s.definition) channel ≡ t → keys_in channel (staying ending ss) ≡ left ending (keys_in channel ss) →
+        keys_in channel (staying ending (s ∷ ss)) ≡ left ending (keys_in channel (s ∷ ss))
     by true stays true there rest = rw (stays, there) (rw stays (ap (λ ks. s.key ∷ ks) rest))
     by true stays false other rest = rw (stays, other) rest
     by false goes true there rest = rw (goes, there) (rw goes rest)
@@ -49,10 +48,10 @@ cut_entry ending [] = refl
 cut_entry ending (k ∷ keys) = refl
 
 -- the table after an end
-pub removed_table : (ending : Ending) (old new : Topics) (ss ss' : List Subscription) → ss' ≡ staying ending ss → IsTableOf ss old →
-    ((topic : List ℕ) → keys_at new topic ≡ option_and_then (λ keys. at_least_one (left ending keys)) (keys_at old topic)) → IsTableOf ss' new
-removed_table ending old new ss ss' same table after = λ topic.
-    after topic ∙ ap (option_and_then (λ keys. at_least_one (left ending keys))) (table topic) ∙ cut_entry ending (keys_to topic ss) ∙ ap at_least_one (sym (keys_left ending topic ss)) ∙ ap (λ xs. at_least_one (keys_to topic xs)) (sym same)
+pub removed_table : (ending : Ending) (old new : Channels) (ss ss' : List Subscription) → ss' ≡ staying ending ss → IsTableOf ss old →
+    ((channel : Channel) → keys_at new channel ≡ option_and_then (λ keys. at_least_one (left ending keys)) (keys_at old channel)) → IsTableOf ss' new
+removed_table ending old new ss ss' same table after = λ channel.
+    after channel ∙ ap (option_and_then (λ keys. at_least_one (left ending keys))) (table channel) ∙ cut_entry ending (keys_in channel ss) ∙ ap at_least_one (sym (keys_left ending channel ss)) ∙ ap (λ xs. at_least_one (keys_in channel xs)) (sym same)
 
 -- where the key is nobody's, nobody is taken out
 pub without_absent : (key : Key) (es : List (Key × Definition)) → is_some (lookup (set_eq key) es) ≡ false → subscriptions_of es ≡ without key (subscriptions_of es)
@@ -83,42 +82,43 @@ without_entry key (e ∷ es) d = by (set_eq key e.0) refl (without_entry key es 
         rw (this, key_sym e.0 key ∙ sym (set_is key e.0) ∙ this) (without_absent key es (absent key es (subst (λ k. AllByRecursion (λ x. set_eq k x ≡ false) (keys_of es)) same d.0)))
     by false this rest = rw (this, key_sym e.0 key ∙ sym (set_is key e.0) ∙ this) (ap (λ ss. subscription_of e ∷ ss) rest)
 
--- the keys of a topic, after one subscription before them
-keys_behind : (topic : List ℕ) (s : Subscription) (ss ss' : List Subscription) → keys_to topic ss ≡ keys_to topic ss' → keys_to topic (s ∷ ss) ≡ keys_to topic (s ∷ ss')
-keys_behind topic s ss ss' rest = by (text_eq s.definition.topic topic)
+-- the keys of a channel, after one subscription before them
+keys_behind : (channel : Channel) (s : Subscription) (ss ss' : List Subscription) → keys_in channel ss ≡ keys_in channel ss' → keys_in channel (s ∷ ss) ≡ keys_in channel (s ∷ ss')
+keys_behind channel s ss ss' rest = by (channel_eq (channel_of s.definition) channel)
   where
-    by : (b : Bool) → map (λ (x : Subscription). x.key) (cond b (s ∷ filter (λ x. text_eq x.definition.topic topic) ss) (filter (λ x. text_eq x.definition.topic topic) ss))
-        ≡ map (λ (x : Subscription). x.key) (cond b (s ∷ filter (λ x. text_eq x.definition.topic topic) ss') (filter (λ x. text_eq x.definition.topic topic) ss'))
+    by : (b : Bool) → map (λ (x : Subscription). x.key) (cond b (s ∷ filter (λ x. channel_eq (channel_of x.definition) channel) ss) (filter (λ x. channel_eq (channel_of x.definition) channel) ss))
+        ≡ map (λ (x : Subscription). x.key) (cond b (s ∷ filter (λ x. channel_eq (channel_of x.definition) channel) ss') (filter (λ x. channel_eq (channel_of x.definition) channel) ss'))
     by true = ap (λ ks. s.key ∷ ks) rest
     by false = rest
 
--- without a subscription of another topic they are the same
-keys_elsewhere : (key : Key) (topic : List ℕ) (d : Definition) → text_eq d.topic topic ≡ false → (es : List (Key × Definition)) → lookup (set_eq key) es ≡ Some d →
-    keys_to topic (subscriptions_of (remove_entry (set_eq key) es)) ≡ keys_to topic (subscriptions_of es)
-keys_elsewhere key topic d other [] is = cc
-keys_elsewhere key topic d other (e ∷ es) is = by (set_eq key e.0) refl is (keys_elsewhere key topic d other es)
+-- without a subscription of another channel they are the same
+keys_elsewhere : (key : Key) (channel : Channel) (d : Definition) → channel_eq (channel_of d) channel ≡ false → (es : List (Key × Definition)) → lookup (set_eq key) es ≡ Some d →
+    keys_in channel (subscriptions_of (remove_entry (set_eq key) es)) ≡ keys_in channel (subscriptions_of es)
+keys_elsewhere key channel d other [] is = cc
+keys_elsewhere key channel d other (e ∷ es) is = by (set_eq key e.0) refl is (keys_elsewhere key channel d other es)
   where
     by : (b : Bool) → set_eq key e.0 ≡ b → cond b (Some e.1) (lookup (set_eq key) es) ≡ Some d →
-        (lookup (set_eq key) es ≡ Some d → keys_to topic (subscriptions_of (remove_entry (set_eq key) es)) ≡ keys_to topic (subscriptions_of es)) →
-        keys_to topic (subscriptions_of (remove_entry (set_eq key) (e ∷ es))) ≡ keys_to topic (subscriptions_of (e ∷ es))
+        (lookup (set_eq key) es ≡ Some d → keys_in channel (subscriptions_of (remove_entry (set_eq key) es)) ≡ keys_in channel (subscriptions_of es)) →
+        keys_in channel (subscriptions_of (remove_entry (set_eq key) (e ∷ es))) ≡ keys_in channel (subscriptions_of (e ∷ es))
     by true this found rest =
         let same : e.1 ≡ d = cc in
-        let apart : text_eq e.1.topic topic ≡ false = ap (λ (x : Definition). text_eq x.topic topic) same ∙ other in
+        let apart : channel_eq (channel_of e.1) channel ≡ false = ap (λ (x : Definition). channel_eq (channel_of x) channel) same ∙ other in
         rw (this, apart) refl
-    by false that found rest = rw that (keys_behind topic (subscription_of e) (subscriptions_of (remove_entry (set_eq key) es)) (subscriptions_of es) (rest found))
+    by false that found rest = rw that (keys_behind channel (subscription_of e) (subscriptions_of (remove_entry (set_eq key) es)) (subscriptions_of es) (rest found))
 
 -- the table after the subscription of a key ended
-pub deleted_table : (key : Bor Key) (d : Definition) (old new : Topics) (es es' : List (Key × Definition)) → IsDistinct set_eq (keys_of es) → lookup (set_eq key.now) es ≡ Some d →
+pub deleted_table : (key : Bor Key) (d : Definition) (old new : Channels) (es es' : List (Key × Definition)) → IsDistinct set_eq (keys_of es) → lookup (set_eq key.now) es ≡ Some d →
     es' ≡ remove_entry (set_eq key.now) es → IsTableOf (subscriptions_of es) old →
-    ((t : List ℕ) → keys_at new t ≡ cond (text_eq d.topic t) (option_and_then (λ keys. at_least_one (left (Of key) keys)) (keys_at old t)) (keys_at old t)) → IsTableOf (subscriptions_of es') new
-deleted_table key d old new es es' distinct found gone table after = λ t.
-    after t ∙ by t (text_eq d.topic t) refl ∙ ap (λ xs. at_least_one (keys_to t (subscriptions_of xs))) (sym gone)
+    (channel : Channel) → channel ≡ channel_of d →
+    ((t : Channel) → keys_at new t ≡ cond (channel_eq channel t) (option_and_then (λ keys. at_least_one (left (Of key) keys)) (keys_at old t)) (keys_at old t)) → IsTableOf (subscriptions_of es') new
+deleted_table key d old new es es' distinct found gone table channel own after = λ t.
+    after t ∙ (λ i. cond (channel_eq (own i) t) (option_and_then (λ keys. at_least_one (left (Of key) keys)) (keys_at old t)) (keys_at old t)) ∙ by t (channel_eq (channel_of d) t) refl ∙ ap (λ xs. at_least_one (keys_in t (subscriptions_of xs))) (sym gone)
   where
-    by : (t : List ℕ) (b : Bool) → text_eq d.topic t ≡ b → cond (text_eq d.topic t) (option_and_then (λ keys. at_least_one (left (Of key) keys)) (keys_at old t)) (keys_at old t)
-        ≡ at_least_one (keys_to t (subscriptions_of (remove_entry (set_eq key.now) es)))
+    by : (t : Channel) (b : Bool) → channel_eq (channel_of d) t ≡ b → cond (channel_eq (channel_of d) t) (option_and_then (λ keys. at_least_one (left (Of key) keys)) (keys_at old t)) (keys_at old t)
+        ≡ at_least_one (keys_in t (subscriptions_of (remove_entry (set_eq key.now) es)))
     by t true there = rw there (
-        ap (option_and_then (λ keys. at_least_one (left (Of key) keys))) (table t) ∙ cut_entry (Of key) (keys_to t (subscriptions_of es))
-        ∙ ap at_least_one (sym (keys_left (Of key) t (subscriptions_of es))) ∙ ap (λ xs. at_least_one (keys_to t xs)) (sym (without_entry key.now es distinct)))
+        ap (option_and_then (λ keys. at_least_one (left (Of key) keys))) (table t) ∙ cut_entry (Of key) (keys_in t (subscriptions_of es))
+        ∙ ap at_least_one (sym (keys_left (Of key) t (subscriptions_of es))) ∙ ap (λ xs. at_least_one (keys_in t xs)) (sym (without_entry key.now es distinct)))
     by t false other = rw other (table t ∙ ap at_least_one (sym (keys_elsewhere key.now t d other es found)))
 
 -- where no key ends, all stay
@@ -153,29 +153,29 @@ subscriptions_more [] e = refl
 subscriptions_more (x ∷ es) e = ap (λ ss. subscription_of x ∷ ss) (subscriptions_more es e)
 
 -- and its key
-pub keys_more : (topic : List ℕ) (ss : List Subscription) (s : Subscription) → keys_to topic (ss ++ s ∷ []) ≡ keys_to topic ss ++ cond (text_eq s.definition.topic topic) (s.key ∷ []) []
-keys_more topic [] s = by (text_eq s.definition.topic topic)
+pub keys_more : (channel : Channel) (ss : List Subscription) (s : Subscription) → keys_in channel (ss ++ s ∷ []) ≡ keys_in channel ss ++ cond (channel_eq (channel_of s.definition) channel) (s.key ∷ []) []
+keys_more channel [] s = by (channel_eq (channel_of s.definition) channel)
   where
     by : (b : Bool) → map (λ (x : Subscription). x.key) (cond b (s ∷ []) []) ≡ cond b (s.key ∷ []) []
     by true = refl
     by false = refl
-keys_more topic (x ∷ ss) s = by (text_eq x.definition.topic topic) refl (keys_more topic ss s)
+keys_more channel (x ∷ ss) s = by (channel_eq (channel_of x.definition) channel) refl (keys_more channel ss s)
   where
-    by : (b : Bool) → text_eq x.definition.topic topic ≡ b → keys_to topic (ss ++ s ∷ []) ≡ keys_to topic ss ++ cond (text_eq s.definition.topic topic) (s.key ∷ []) [] →
-        keys_to topic (x ∷ (ss ++ s ∷ [])) ≡ keys_to topic (x ∷ ss) ++ cond (text_eq s.definition.topic topic) (s.key ∷ []) []
+    by : (b : Bool) → channel_eq (channel_of x.definition) channel ≡ b → keys_in channel (ss ++ s ∷ []) ≡ keys_in channel ss ++ cond (channel_eq (channel_of s.definition) channel) (s.key ∷ []) [] →
+        keys_in channel (x ∷ (ss ++ s ∷ [])) ≡ keys_in channel (x ∷ ss) ++ cond (channel_eq (channel_of s.definition) channel) (s.key ∷ []) []
     by true there rest = rw there (ap (λ ks. x.key ∷ ks) rest)
     by false other rest = rw other rest
 
--- a topic has as many subscriptions as there are, or fewer
-pub keys_within : (topic : List ℕ) (ss : List Subscription) → length (keys_to topic ss) ≤ length ss
-keys_within topic [] = omega arith
-keys_within topic (s ∷ ss) = by (text_eq s.definition.topic topic) (keys_within topic ss)
+-- a channel has as many subscriptions as there are, or fewer
+pub keys_within : (channel : Channel) (ss : List Subscription) → length (keys_in channel ss) ≤ length ss
+keys_within channel [] = omega arith
+keys_within channel (s ∷ ss) = by (channel_eq (channel_of s.definition) channel) (keys_within channel ss)
   where
-    by : (b : Bool) → length (keys_to topic ss) ≤ length ss → length (map (λ (x : Subscription). x.key) (cond b (s ∷ filter (λ x. text_eq x.definition.topic topic) ss) (filter (λ x. text_eq x.definition.topic topic) ss))) ≤ suc (length ss)
+    by : (b : Bool) → length (keys_in channel ss) ≤ length ss → length (map (λ (x : Subscription). x.key) (cond b (s ∷ filter (λ x. channel_eq (channel_of x.definition) channel) ss) (filter (λ x. channel_eq (channel_of x.definition) channel) ss))) ≤ suc (length ss)
     by true h = omega arith
     by false h = omega arith
 
--- what stands under a topic, or nothing
+-- what stands under a channel, or nothing
 pub keys_or_none : (keys : List Key) → unwrap_or (at_least_one keys) [] ≡ keys
 keys_or_none [] = refl
 keys_or_none (k ∷ keys) = refl
@@ -191,37 +191,28 @@ append_none [] = refl
 append_none (k ∷ keys) = ap (λ ks. k ∷ ks) (append_none keys)
 
 -- the table after a subscription more
-pub joined_table : (old new : Topics) (ss ss' : List Subscription) (s : Subscription) → ss' ≡ ss ++ s ∷ [] → IsTableOf ss old →
-    ((t : List ℕ) → keys_at new t ≡ cond (text_eq s.definition.topic t) (Some (unwrap_or (keys_at old s.definition.topic) [] ++ s.key ∷ [])) (keys_at old t)) → IsTableOf ss' new
-joined_table old new ss ss' s same table after = λ t.
-    after t ∙ by t (text_eq s.definition.topic t) refl ∙ ap at_least_one (sym (keys_more t ss s)) ∙ ap (λ xs. at_least_one (keys_to t xs)) (sym same)
+pub joined_table : (old new : Channels) (ss ss' : List Subscription) (s : Subscription) → ss' ≡ ss ++ s ∷ [] → IsTableOf ss old →
+    (channel : Channel) → channel ≡ channel_of s.definition → (keys : List Key) → keys ≡ s.key ∷ [] →
+    ((t : Channel) → keys_at new t ≡ cond (channel_eq channel t) (Some (unwrap_or (keys_at old channel) [] ++ keys)) (keys_at old t)) → IsTableOf ss' new
+joined_table old new ss ss' s same table channel own keys one after = λ t.
+    after t ∙ (λ i. cond (channel_eq (own i) t) (Some (unwrap_or (keys_at old (own i)) [] ++ one i)) (keys_at old t)) ∙ by t (channel_eq (channel_of s.definition) t) refl ∙ ap at_least_one (sym (keys_more t ss s)) ∙ ap (λ xs. at_least_one (keys_in t xs)) (sym same)
   where
-    by : (t : List ℕ) (b : Bool) → text_eq s.definition.topic t ≡ b →
-        cond (text_eq s.definition.topic t) (Some (unwrap_or (keys_at old s.definition.topic) [] ++ s.key ∷ [])) (keys_at old t) ≡ at_least_one (keys_to t ss ++ cond (text_eq s.definition.topic t) (s.key ∷ []) [])
+    by : (t : Channel) (b : Bool) → channel_eq (channel_of s.definition) t ≡ b →
+        cond (channel_eq (channel_of s.definition) t) (Some (unwrap_or (keys_at old (channel_of s.definition)) [] ++ s.key ∷ [])) (keys_at old t) ≡ at_least_one (keys_in t ss ++ cond (channel_eq (channel_of s.definition) t) (s.key ∷ []) [])
     by t true there =
-        let held : unwrap_or (keys_at old s.definition.topic) [] ≡ keys_to t ss =
-        ap (λ o. unwrap_or o []) (table s.definition.topic) ∙ keys_or_none (keys_to s.definition.topic ss) ∙ ap (λ x. keys_to x ss) (text_same s.definition.topic t there) in
-        rw there (ap (λ ks. Some (ks ++ s.key ∷ [])) held ∙ sym (one_more (keys_to t ss) s.key))
-    by t false other = rw other (table t ∙ ap at_least_one (sym (append_none (keys_to t ss))))
+        let held : unwrap_or (keys_at old (channel_of s.definition)) [] ≡ keys_in t ss =
+        ap (λ o. unwrap_or o []) (table (channel_of s.definition)) ∙ keys_or_none (keys_in (channel_of s.definition) ss) ∙ ap (λ x. keys_in x ss) (channel_same (channel_of s.definition) t there) in
+        rw there (ap (λ ks. Some (ks ++ s.key ∷ [])) held ∙ sym (one_more (keys_in t ss) s.key))
+    by t false other = rw other (table t ∙ ap at_least_one (sym (append_none (keys_in t ss))))
 
--- the keys of its topic can be counted with one more
-pub keys_fit : (old : Topics) (ss : List Subscription) (topic : List ℕ) (keys : List Key) (k : Key) (n : ℕ) → IsTableOf ss old → keys ≡ k ∷ [] → n ≡ length ss + 1 → n < 2 ^ 63 →
-    length (unwrap_or (keys_at old topic) []) + length keys < 2 ^ 63
-keys_fit old ss topic keys k n table one is small =
-    let held : unwrap_or (keys_at old topic) [] ≡ keys_to topic ss = ap (λ o. unwrap_or o []) (table topic) ∙ keys_or_none (keys_to topic ss) in
-    omega (arith, ap length held, ap length one, keys_within topic ss)
+-- the keys of its channel can be counted with one more
+pub keys_fit : (old : Channels) (ss : List Subscription) (channel : Channel) (keys : List Key) (k : Key) (n : ℕ) → IsTableOf ss old → keys ≡ k ∷ [] → n ≡ length ss + 1 → n < 2 ^ 63 →
+    length (unwrap_or (keys_at old channel) []) + length keys < 2 ^ 63
+keys_fit old ss channel keys k n table one is small =
+    let held : unwrap_or (keys_at old channel) [] ≡ keys_in channel ss = ap (λ o. unwrap_or o []) (table channel) ∙ keys_or_none (keys_in channel ss) in
+    omega (arith, ap length held, ap length one, keys_within channel ss)
 
 -- there are as many subscriptions as entries
 pub length_subscriptions : (es : List (Key × Definition)) → length (subscriptions_of es) ≡ length es
 length_subscriptions [] = refl
 length_subscriptions (e ∷ es) = ap suc (length_subscriptions es)
-
--- a topic has an entry where it has a subscription
-pub entry_there : (topic : List ℕ) (ss : List Subscription) → is_some (at_least_one (keys_to topic ss)) ≡ is_member text_eq (map (λ s. s.definition.topic) ss) topic
-entry_there topic [] = refl
-entry_there topic (s ∷ ss) = by (text_eq s.definition.topic topic) refl (entry_there topic ss)
-  where
-    by : (b : Bool) → text_eq s.definition.topic topic ≡ b → is_some (at_least_one (keys_to topic ss)) ≡ is_member text_eq (map (λ x. x.definition.topic) ss) topic →
-        is_some (at_least_one (keys_to topic (s ∷ ss))) ≡ is_member text_eq (map (λ x. x.definition.topic) (s ∷ ss)) topic
-    by true there rest = rw (there, nat_list_eq_equiv.symm topic s.definition.topic ∙ there) refl
-    by false other rest = rw (other, nat_list_eq_equiv.symm topic s.definition.topic ∙ other) rest

@@ -1,5 +1,5 @@
 -- The subscriptions, each under its key.
-use Rattle.std.specs.Prelude.{◌≡◌, Bool, false, List, [], ◌∷◌, map, Option, None, Some}
+use Rattle.std.specs.Prelude.{◌≡◌, ℕ, Bool, false, List, [], ◌∷◌, map, Option, None, Some}
 use Rattle.std.specs.Map.{lookup}
 use Rattle.jm_dest.specs.declared.key.Key.{Key}
 use Rattle.jm_dest.specs.Keys.{key_eq}
@@ -15,6 +15,10 @@ subscription_of e = record { key = e.0; definition = e.1 }
 -- the subscriptions, in order of creation
 abbrev pub subscriptions_of : List (Key × Definition) → List Subscription
 subscriptions_of entries = map subscription_of entries
+
+-- the topics that the subscriptions are to, in order of creation
+abbrev pub topics_of : List (Key × Definition) → List (List ℕ)
+topics_of entries = map (λ e. e.1.topic) entries
 
 -- what was found under the key wants the publisher's message
 abbrev pub found_wants : Key → Option Definition → Publisher → Content → Bool

@@ -1,4 +1,5 @@
 pub mod Subscriptions
 pub mod Sharing
 pub mod Entries
-pub mod Topics
+pub mod Channels
+pub mod Places

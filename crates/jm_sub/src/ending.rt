@@ -2,11 +2,12 @@
 
 ghost use Rattle.std.specs.Prelude.{◌≡◌, if◌then◌else◌};
 ghost use Rattle.jm_sub.specs.Subscriptions.{is_shared_own};
-ghost use Rattle.jm_sub.specs.Topics as spec;
+ghost use Rattle.jm_sub.specs.Channels as spec;
 
+use crate::channel::Held;
 use jm_dest::Key;
 use jm_keyed::EntryChoice;
-use jm_machine::{Attached, Consumers, Definition};
+use jm_machine::{Attached, Consumers};
 
 /// Which subscriptions end with a change.
 #[derive(Clone, Copy)]
@@ -29,13 +30,13 @@ impl Ending<'_> {
     }
 }
 
-impl EntryChoice<Key, Definition> for Ending<'_> {
+impl EntryChoice<Key, Held> for Ending<'_> {
     ghost use Rattle.std.specs.Prelude.{not};
-    ghost use Rattle.jm_sub.specs.Topics.{ends};
+    ghost use Rattle.jm_sub.specs.Channels.{ends};
 
     ghost kept = { λ ending key definition. not (ends ending key) };
 
-    fn keeps(&self, key: &Key, _definition: &Definition) -> bool {
+    fn keeps(&self, key: &Key, _held: &Held) -> bool {
         !self.ends(key)
     }
 }

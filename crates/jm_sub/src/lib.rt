@@ -1,6 +1,6 @@
-//! The subscriptions of topics: which of them accept a message. A
-//! subscription is found by its key, and those of a topic by the table of topics, so that a publication
-//! costs what the subscriptions of its topic cost, however many others there are.
+//! The subscriptions of topics: which of them accept a message. A subscription is found by its key, and those that may
+//! accept a message by the table of channels, so that a publication costs what the subscriptions of its channels cost,
+//! however many others there are.
 //!
 //! # Contract
 //!
@@ -23,24 +23,30 @@
 //! `accepts_at` says it of one, and takes no memory; `close` ends those subscriptions that end once consumers are
 //! closed (`ended`), and takes none.
 //!
-//! `topics` is the number of distinct topics of the definitions (`number_of_topics`).
+//! `topics` is the number of distinct topics of the definitions (`number_of_topics`), counted in a walk over all, which looks
+//! behind each for another of its topic.
 //!
-//! Inside, a subscription is found by halves by its key, and the keys of each topic stand in order of creation
-//! under the topic's entry in a table, found by halves, where a topic without subscriptions has no entry
-//! (`IsTableOf`, an invariant of the type): so `position` does not scan, and `accepting` looks at the subscriptions
-//! of the message's topic alone.
+//! Inside, a subscription is found by halves by its key. It stands in a channel: that of its topic and of the literal that
+//! its selector asks by `=` of every message (`Selector::literal`), or of its topic and no literal. The keys of each channel
+//! stand in order of creation under the channel's entry in a table, found by halves, where a channel without subscriptions
+//! has no entry (`IsTableOf`, an invariant of the type). So `position` does not scan, and `accepting` evaluates the
+//! selectors of two kinds of channels alone: that of the message's topic and no literal, and that of its topic and each
+//! literal of the message (`literals`). A subscription of any other channel asks for a literal that the message lacks, and
+//! does not accept it (`law_literal`). The places of those that want the message are put in order where they are not.
 //!
-//! `delete`, `apply` where the key stood before, and `close` of one consumer go over the keys of one topic alone;
+//! `delete`, `apply` where the key stood before, and `close` of one consumer go over the keys of one channel alone;
 //! `close` of several, and of one where a subscription is shared and not durable, looks through all keys, and changes
 //! the list and the table in a walk over each only where one ends. That no other is looked at is read in the code,
 //! not proved.
 #![tactic(auto)]
 
+mod accepting;
+mod channel;
+mod channels;
 mod definition;
 mod ending;
 mod sharing;
 mod subs;
-mod topics;
 
 pub use definition::{accepts, defined, is_same};
 pub use sharing::Sharing;

@@ -1,9 +1,11 @@
 //! The subscriptions in order of creation.
 
-ghost use Rattle.std.specs.Prelude.{◌≡◌, ◌≢◌, ◌+◌, ◌<◌, ◌≤◌, ◌==◌, ◌++◌, [], ◌∷◌, true, false, length, not, filter, count_by, slice_get, option_map, position, IfOk, IfErr, IfSome, MatchResult, OnOk, None, Some};
+ghost use Rattle.std.specs.Prelude.{◌≡◌, ◌≢◌, ◌+◌, ◌<◌, ◌≤◌, ◌==◌, ◌++◌, [], ◌∷◌, true, false, length, not, filter, count_by, slice_get, option_map, drop, position, IfOk, IfErr, IfSome, MatchResult, OnOk, None, Some};
 ghost use Rattle.std.specs.List.{list_any};
 ghost use Rattle.std.specs.Option.{option_copied};
 ghost use Rattle.std.specs.Map.{keys_of};
+ghost use Rattle.std.specs.Set.{distinct_count, is_member};
+ghost use Rattle.jm_dest.specs.Names.{text_eq};
 ghost use Rattle.jm_base.specs.declared.refusal.Refusal.TheVariants.{Memory, SubscriptionInUse};
 ghost use Rattle.jm_dest.specs.declared.key.Key.{Key};
 ghost use Rattle.jm_dest.specs.declared.key.Key.TheVariants.{Own};
@@ -12,17 +14,19 @@ ghost use Rattle.jm_machine.specs.declared.consumers.Consumers.TheVariants.{One}
 ghost use Rattle.jm_machine.specs.Machine as machine;
 ghost use Rattle.jm_machine.specs.Machine.{first_cause, unless};
 ghost use Rattle.jm_selector.specs.Selectors.{selector_refusal};
-ghost use Rattle.jm_sub.specs.Entries.{IsNew, subscriptions_of, wanting};
+ghost use Rattle.jm_sub.specs.Entries.{IsNew, subscriptions_of, topics_of};
 ghost use Rattle.jm_sub.specs.Sharing.{is_shared, may};
 ghost use Rattle.jm_sub.specs.Subscriptions as spec;
 ghost use Rattle.jm_sub.specs.Subscriptions.{needed, number_of_topics, publisher, put, takes, unsubscribe_refusal, without, without_ended};
-ghost use Rattle.jm_sub.specs.Topics.{ends};
+ghost use Rattle.jm_sub.specs.Channels.{ends};
 
-use crate::definition::{accepts, defined, is_same, wants};
+use crate::accepting::accepting;
+use crate::channel::{Channel, Held};
+use crate::channels::Channels;
+use crate::definition::{accepts, defined, is_same};
 use crate::ending::{Ending, shared_own};
 use crate::sharing::Sharing;
-use crate::topics::Topics;
-use jm_base::{Refusal, Str};
+use jm_base::{Boxed, Refusal, Str};
 use jm_dest::{ClientId, ConsumerId, Destination, Key, Name, SessionId};
 use jm_header::Message;
 use jm_keyed::KeyMap;
@@ -31,13 +35,13 @@ use std::alloc::{AllocError, Global};
 use std::collections::LinkedList;
 use std::marker::Model;
 
-/// The subscriptions in order of creation, each found by its key, and those of each topic by the table of topics;
+/// The subscriptions in order of creation, each found by its key, and those of each channel by the table of channels;
 /// `shared` is how many are shared and not durable: such a one may end with any consumer. Contracts see the list of keys
 /// and definitions, and `spare`, for how many more there is room.
 pub struct Subs {
     alloc: Global,
-    items: KeyMap<Key, Definition>,
-    topics: Topics,
+    items: KeyMap<Key, Held>,
+    channels: Channels,
     shared: usize,
 }
 
@@ -46,7 +50,7 @@ impl Drop for Subs {
         let Subs {
             alloc: _alloc,
             items: _items,
-            topics: _topics,
+            channels: _channels,
             shared: _shared,
         } = self;
     }
@@ -56,84 +60,43 @@ impl Model for Subs {
     ghost use Rattle.std.specs.Prelude.{◌≡◌, min};
     ghost use Rattle.jm_sub.specs.Entries.{subscriptions_of};
     ghost use Rattle.jm_sub.specs.Subscriptions.{Subscriptions, number_of_shared};
-    ghost use Rattle.jm_sub.specs.Topics.{IsTableOf, room};
+    ghost use Rattle.jm_sub.specs.Channels.{IsTableOf, room};
 
     ghost Value = { Subscriptions };
 
     ghost view = { λ s. record {
       list = subscriptions_of s.items.entries;
-      spare = min s.items.spare (room s.topics);
+      spare = min s.items.spare (room s.channels);
     } };
 
-    ghost invariant = { λ s. IsTableOf (subscriptions_of s.items.entries) s.topics
+    ghost invariant = { λ s. IsTableOf (subscriptions_of s.items.entries) s.channels
         × (s.shared ≡ number_of_shared (subscriptions_of s.items.entries)) };
 }
 
-/// A change that was decided: the creation of a subscription, with all that the table of topics takes for
+/// A change that was decided: the creation of a subscription, with all that the table of channels takes for
 /// it. Contracts see that subscription.
 #[derive(Drop)]
 pub struct Decision {
     key: Key,
-    created: Definition,
-    topic: Name,
+    created: Held,
+    channel: Boxed<Channel>,
     keys: LinkedList<Key>,
 }
 
 impl Model for Decision {
     ghost use Rattle.std.specs.Prelude.{◌≡◌, [], ◌∷◌};
+    ghost use Rattle.jm_sub.specs.Channels.{channel_of};
     ghost use Rattle.jm_sub.specs.Subscriptions.{Subscription};
 
     ghost Value = { Subscription };
 
     ghost view = { λ d. record { key = d.key; definition = d.created } };
 
-    ghost invariant = { λ d. (d.topic ≡ d.created.topic) × (d.keys ≡ d.key ∷ []) };
-}
-
-/// Whether there is a subscription of the key that wants the message of that publisher. It is looked for at the guessed place
-/// first; the next guess is the place behind it.
-fn wants_near(
-    items: &KeyMap<Key, Definition>,
-    key: &Key,
-    guess: &mut usize,
-    message: &Message,
-    client: Option<&ClientId>,
-) -> bool
-    ensures { result ≡ wanting items.now.entries (publisher message.now (option_copied client.entry)) message.now key.now }
-{
-    match items.index_near(key, *guess) {
-        None => false,
-        Some(at) => {
-            *guess = at.saturating_add(1);
-            let (_, definition) = items.entry_at(at);
-            wants(key, definition, message, client)
-        }
-    }
-}
-
-/// Those of the keys whose subscriptions want the message of that publisher. The keys come in the order of the items, so that
-/// each is looked for behind the one before.
-fn selected(
-    alloc: Global,
-    items: &KeyMap<Key, Definition>,
-    keys: &LinkedList<Key>,
-    message: &Message,
-    client: Option<&ClientId>,
-) -> Result<Vec<Key>, AllocError>
-    ensures { IfOk result (λ selected. selected.items ≡ filter (wanting items.now.entries (publisher message.now (option_copied client.entry)) message.now) keys.now) }
-{
-    let mut selected = Vec::new(alloc);
-    let mut guess = 0;
-    for key in keys {
-        if wants_near(items, key, &mut guess, message, client) {
-            selected.push(key.copy()?)?;
-        }
-    }
-    Ok(selected)
+    ghost invariant = { λ d. (d.channel ≡ channel_of d.created) × (d.keys ≡ d.key ∷ []) };
 }
 
 /// Puts the subscription last, of which no other has the key. There is room for it.
-fn put_last(items: &mut KeyMap<Key, Definition>, key: Key, created: Definition)
+fn put_last(items: &mut KeyMap<Key, Held>, key: Key, created: Held)
     requires room { 0 < items.old.spare }
     requires new { IsNew key (subscriptions_of items.old.entries) }
     ensures items { items.new.entries ≡ items.old.entries ++ (key, created) ∷ [] }
@@ -143,19 +106,46 @@ fn put_last(items: &mut KeyMap<Key, Definition>, key: Key, created: Definition)
 }
 
 /// Whether the key of one of them ends.
-fn is_any_ending(items: &KeyMap<Key, Definition>, ending: &Ending) -> bool
+fn is_any_ending(items: &KeyMap<Key, Held>, ending: &Ending) -> bool
     ensures { result ≡ list_any (ends ending.now) (keys_of items.now.entries) }
 {
     items.keys().iter().any(|key| ending.ends(key))
 }
 
 /// How many of them are shared and not durable.
-fn number_of_shared(items: &KeyMap<Key, Definition>) -> usize
+fn number_of_shared(items: &KeyMap<Key, Held>) -> usize
     ensures { result ≡ count_by spec.is_shared_own (keys_of items.now.entries) }
 {
     let mut number = 0;
     for key in items.keys() {
         number += shared_own(key);
+    }
+    number
+}
+
+/// Whether a subscription at that place or behind it is to the topic.
+fn is_topic_from(items: &KeyMap<Key, Held>, place: usize, topic: &Name) -> bool
+    ensures { result ≡ is_member text_eq (topics_of (drop place items.now.entries)) topic.now }
+{
+    for at in place..items.len() {
+        let (_, held) = items.entry_at(at);
+        if *topic == held.definition().topic {
+            return true;
+        }
+    }
+    false
+}
+
+/// How many topics the subscriptions have, where those of one topic count once, as the last of them.
+fn number_of_topics(items: &KeyMap<Key, Held>) -> usize
+    ensures { result ≡ distinct_count text_eq (topics_of items.now.entries) }
+{
+    let mut number = 0;
+    for at in 0..items.len() {
+        let (_, held) = items.entry_at(at);
+        if !is_topic_from(items, at + 1, &held.definition().topic) {
+            number += 1;
+        }
     }
     number
 }
@@ -180,14 +170,14 @@ fn decision_of(alloc: Global, key: &Key, definition: &Definition) -> Result<Deci
 }
 
 /// Equal subscriptions, with a table of their own.
-fn copied(alloc: Global, items: &KeyMap<Key, Definition>) -> Result<Subs, AllocError>
+fn copied(alloc: Global, items: &KeyMap<Key, Held>) -> Result<Subs, AllocError>
     ensures { IfOk result (λ copy. copy.list ≡ subscriptions_of items.now.entries) }
 {
     let mut copy = Subs::new(alloc);
     for at in 0..items.len() {
-        let (key, definition) = items.entry_at(at);
+        let (key, held) = items.entry_at(at);
         copy.reserve()?;
-        let decision = decision_of(alloc, key, definition)?;
+        let decision = decision_of(alloc, key, held.definition())?;
         copy.add(decision);
     }
     Ok(copy)
@@ -199,11 +189,13 @@ impl Decision {
         ensures { IfOk result (λ d. d ≡ record { key = key; definition = created }) }
     {
         let keys = link(alloc, &key)?;
-        let topic = created.topic.copy()?;
+        let created = Held::new(alloc, created)?;
+        let channel = created.channel().copy()?;
+        let channel = Boxed::new(alloc, channel)?;
         Ok(Decision {
             key,
             created,
-            topic,
+            channel,
             keys,
         })
     }
@@ -212,7 +204,7 @@ impl Decision {
     pub fn definition(&self) -> &Definition
         ensures { result.now ≡ self.now.definition }
     {
-        &self.created
+        self.created.definition()
     }
 }
 
@@ -224,7 +216,7 @@ impl Subs {
         Subs {
             alloc,
             items: KeyMap::new(alloc),
-            topics: Topics::new(alloc),
+            channels: Channels::new(alloc),
             shared: 0,
         }
     }
@@ -251,11 +243,12 @@ impl Subs {
         self.items.is_empty()
     }
 
-    /// How many topics have subscriptions: the length of the table of topics.
+    /// How many topics have subscriptions. They are counted: for each subscription those behind it are looked at, up to the next
+    /// one of its topic.
     pub fn topics(&self) -> usize
         ensures { result ≡ number_of_topics self.now.list }
     {
-        self.topics.len()
+        number_of_topics(&self.items)
     }
 
     /// Where the subscription of the key stands, from 0 in order of creation. It is found by halves.
@@ -270,15 +263,18 @@ impl Subs {
         requires { at < length self.now.list }
         ensures { option_map (λ s. s.definition) (slice_get self.now.list at) ≡ Some result.now }
     {
-        let (_, definition) = self.items.entry_at(at);
-        definition
+        let (_, held) = self.items.entry_at(at);
+        held.definition()
     }
 
     /// What the subscription of the key asks for, if there is one. It is found by halves.
     pub fn definition_of(&self, key: &Key) -> Option<&Definition>
         ensures { option_copied result ≡ spec.definition_at key.now self.now.list }
     {
-        self.items.get(key)
+        match self.items.get(key) {
+            None => None,
+            Some(held) => Some(held.definition()),
+        }
     }
 
     /// Whether the subscription at that place accepts the message, which is published on the connection of its
@@ -290,13 +286,13 @@ impl Subs {
         requires { at < length self.now.list }
         ensures { option_map (takes (publisher message.now (option_copied client.entry)) message.now) (slice_get self.now.list at) ≡ Some result }
     {
-        let (key, definition) = self.items.entry_at(at);
-        accepts(key, definition, message, client)
+        let (key, held) = self.items.entry_at(at);
+        accepts(key, held.definition(), message, client)
     }
 
     /// The keys of the subscriptions that accept the message, in order of creation; `client` is the client
-    /// identifier of the connection that publishes it, if it has one. It looks at those of the message's topic
-    /// alone. `Memory` where a request for memory was refused.
+    /// identifier of the connection that publishes it, if it has one. It looks at those of its topic
+    /// alone that ask for no literal, or for one that the message has. `Memory` where a request for memory was refused.
     pub fn accepting(
         &self,
         message: &Message,
@@ -308,21 +304,23 @@ impl Subs {
         let Destination::Topic(topic) = message.destination() else {
             return Ok(Vec::new(self.alloc));
         };
-        // The length is what says that each key stands once.
-        let _number = self.items.len();
-        match self.topics.keys(topic) {
-            None => Ok(Vec::new(self.alloc)),
-            Some(keys) => Ok(selected(self.alloc, &self.items, keys, message, client)?),
-        }
+        Ok(accepting(
+            self.alloc,
+            &self.items,
+            &self.channels,
+            topic,
+            message,
+            client,
+        )?)
     }
 
-    /// Makes room for one more subscription, of whatever topic.
+    /// Makes room for one more subscription, of whatever channel.
     fn reserve(&mut self) -> Result<(), AllocError>
         ensures list { self.new.list ≡ self.old.list }
         ensures ok { OnOk result (0 < self.new.spare) }
     {
         self.items.reserve(1)?;
-        self.topics.reserve()
+        self.channels.reserve()
     }
 
     /// Decides the creation of an empty subscription of that key to the topic. It reads the selector,
@@ -421,18 +419,18 @@ impl Subs {
     }
 
     /// Ends the subscription of the key, if there is one. It is found by halves, those behind it move up, and in the table of
-    /// topics only the keys of its topic are gone over. Takes no memory.
+    /// channels only the keys of its channel are gone over. Takes no memory.
     pub fn delete(&mut self, key: &Key)
         ensures list { self.new.list ≡ without key.now self.old.list }
         ensures spare { self.old.spare ≤ self.new.spare }
     {
         // The length is what says that each key stands once.
         let _number = self.items.len();
-        let Some(definition) = self.items.remove(key) else {
+        let Some(held) = self.items.remove(key) else {
             return;
         };
         self.shared -= shared_own(key);
-        self.topics.leave(&definition.topic, &Ending::Of(key));
+        self.channels.leave(held.channel(), &Ending::Of(key));
     }
 
     /// Ends the subscriptions that end once these consumers are closed, where `attached` has the numbers of those that
@@ -482,15 +480,15 @@ impl Subs {
         let Decision {
             key,
             created,
-            topic,
+            channel,
             keys,
         } = decision;
         let more = shared_own(&key);
         put_last(&mut self.items, key, created);
-        // The length is what says that what is as many at most, as the keys of a topic, can be counted.
+        // The length is what says that what is as many at most, as the keys of a channel, can be counted.
         let _number = self.items.len();
         self.shared += more;
-        self.topics.join(topic, keys);
+        self.channels.join(channel.into_inner(), keys);
     }
 
     /// Ends the subscriptions that are meant, in a walk over all; the others stay, in their order. Where none is meant,
@@ -503,7 +501,7 @@ impl Subs {
             return;
         }
         self.items.retain(ending);
-        self.topics.remove(ending);
+        self.channels.remove(ending);
         self.shared = number_of_shared(&self.items);
     }
 }

@@ -20,14 +20,14 @@ returns-in_default-clause-list c =
 pub overflow_sub-self : goal.overflow_sub-self
 overflow_sub-self c =
     let found = sym c.remove.ensures.value ∙ c.in-Some.is in
-    omega (arith, c.shared_own.ensures, number_without c.args.key.now c.in-Some.definition c.self.inside.items.entries found, c.self.invariant.1)
+    omega (arith, c.shared_own.ensures, number_without c.args.key.now c.in-Some.held c.self.inside.items.entries found, c.self.invariant.1)
 
 pub invariant_of-self-2 : goal.invariant_of-self-2
 invariant_of-self-2 c =
     let found = sym c.remove.ensures.value ∙ c.in-Some.is in (
-      deleted_table c.args.key c.in-Some.definition c.self.inside.topics c.leave.new.self c.self.inside.items.entries c.remove.new.self.entries c.len-number.ensures.once found c.remove.ensures.entries
-          c.self.invariant.0 c.leave.ensures.keys,
-      omega (arith, c.shared_own.ensures, number_without c.args.key.now c.in-Some.definition c.self.inside.items.entries found, ap (λ es. number_of_shared (subscriptions_of es)) c.remove.ensures.entries, c.self.invariant.1),
+      deleted_table c.args.key c.in-Some.held c.self.inside.channels c.leave.new.self c.self.inside.items.entries c.remove.new.self.entries c.len-number.ensures.once found c.remove.ensures.entries
+          c.self.invariant.0 c.channel.result.now c.channel.ensures c.leave.ensures.keys,
+      omega (arith, c.shared_own.ensures, number_without c.args.key.now c.in-Some.held c.self.inside.items.entries found, ap (λ es. number_of_shared (subscriptions_of es)) c.remove.ensures.entries, c.self.invariant.1),
     )
 
 pub returns-clause-list : goal.returns-clause-list

@@ -7,7 +7,7 @@ use Rattle.jm_sub.proofs.subs.Subs.remove.Goals as goal
 pub invariant_of-self : goal.invariant_of-self
 invariant_of-self c =
     let kept = c.retain.ensures.entries in (
-      removed_table c.args.ending.now c.self.inside.topics c.remove.new.self (subscriptions_of c.self.inside.items.entries) (subscriptions_of c.retain.new.self.entries)
+      removed_table c.args.ending.now c.self.inside.channels c.remove.new.self (subscriptions_of c.self.inside.items.entries) (subscriptions_of c.retain.new.self.entries)
           (ap subscriptions_of kept ∙ subscriptions_left c.args.ending.now c.self.inside.items.entries) c.self.invariant.0 c.remove.ensures.keys,
       c.number_of_shared-self-inside.ensures ∙ number_of_keys c.retain.new.self.entries,
     )
