@@ -11,7 +11,7 @@ ghost use Rattle.jm_core.specs.Closing.{is_other, kept_keys};
 ghost use Rattle.jm_core.specs.Named as named;
 ghost use Rattle.jm_core.specs.State as spec;
 
-use jm_base::{Refusal, Str};
+use jm_base::{Boxed, Refusal, Str};
 use jm_dest::{ConsumerId, Key, Name, SessionId};
 use jm_selector::Selector;
 use jm_session::{Sessions, Source};
@@ -19,8 +19,9 @@ use jm_stations::Stations;
 use jm_sub::{Decision, Subs};
 use std::alloc::Global;
 
-/// Finds why the consumer may not be made, and else decides its subscription and makes room for both.
+/// Finds why the consumer may not be made, and else decides its subscription, beside its key, and makes room for both.
 pub(crate) fn prepare_create(
+    alloc: Global,
     sessions: &mut Sessions,
     subs: &mut Subs,
     stations: &mut Stations,
@@ -29,10 +30,13 @@ pub(crate) fn prepare_create(
     topic: &Name,
     selector: &Option<Str>,
     no_local: bool,
-) -> Result<Decision, Refusal>
+) -> Result<(Boxed<Source>, Boxed<(Key, Decision)>), Refusal>
     ensures begins { OnOk result (machine.may_begin sessions.old.life sessions.old.consumers session.now id ≡ true) }
-    ensures decided { IfOk result (λ d.
-        d ≡ record { key = Key.Own session.now id; definition = machine.defined topic.now selector.now no_local false }) }
+    ensures source { IfOk result (λ x. x.0 ≡ record { key = Key.Own session.now id; selector = None }) }
+    ensures decided { IfOk result (λ x. x.1 ≡ (
+      Key.Own session.now id,
+      record { key = Key.Own session.now id; definition = machine.defined topic.now selector.now no_local false },
+    )) }
     ensures valid { OnOk result (selector_refusal selector.now ≡ None) }
     ensures room { OnOk result (0 < sessions.new.spare) }
     ensures subs_room { OnOk result (0 < subs.new.spare) }
@@ -52,7 +56,10 @@ pub(crate) fn prepare_create(
     }
     sessions.reserve(1)?;
     stations.reserve_key()?;
-    subs.decide_create(Key::Own(*session, id), topic, selector, no_local)
+    let decision = subs.decide_create(Key::Own(*session, id), topic, selector, no_local)?;
+    let decision = Boxed::new(alloc, (Key::Own(*session, id), decision))?;
+    let source = Source::plain(Key::Own(*session, id), Selector::none(alloc));
+    Ok((Boxed::new(alloc, source)?, decision))
 }
 
 /// Finds why the consumer of a queue may not be made, and else reads its selector and makes room for it; the queue's name
@@ -64,10 +71,10 @@ pub(crate) fn prepare_create_of(
     id: ConsumerId,
     queue: &Name,
     selector: &Option<Str>,
-) -> Result<(Name, Selector), Refusal>
+) -> Result<Boxed<Source>, Refusal>
     ensures begins { OnOk result (machine.may_begin sessions.old.life sessions.old.consumers session.now id ≡ true) }
-    ensures queue { IfOk result (λ x. x.0 ≡ queue.now) }
-    ensures read { IfOk result (λ x. x.1 ≡ machine.standing_as selector.now) }
+    ensures source { IfOk result (λ x.
+        x ≡ record { key = Key.Queue queue.now; selector = machine.standing_as selector.now }) }
     ensures valid { OnOk result (selector_refusal selector.now ≡ None) }
     ensures room { OnOk result (0 < sessions.new.spare) }
     ensures illegal { IfErr result (λ refusal.
@@ -83,7 +90,8 @@ pub(crate) fn prepare_create_of(
     }
     sessions.reserve(1)?;
     let selector = Selector::read(alloc, selector)?;
-    Ok((queue.copy()?, selector))
+    let source = Source::plain(Key::Queue(queue.copy()?), selector);
+    Ok(Boxed::new(alloc, source)?)
 }
 
 /// How many rows may be held under the key, where there is a limit: under that of a durable subscription or of a queue
@@ -132,7 +140,7 @@ fn make_put(subs: &mut Subs, stations: &mut Stations, key: Key, decision: Decisi
 pub(crate) fn make_decided(
     subs: &mut Subs,
     stations: &mut Stations,
-    decision: Option<(Key, Decision)>,
+    decision: Option<Boxed<(Key, Decision)>>,
     limit: u32,
 )
     requires { named.IsRoomy decision subs.old stations.old }
@@ -143,7 +151,10 @@ pub(crate) fn make_decided(
 {
     match decision {
         None => {}
-        Some((key, decision)) => make_put(subs, stations, key, decision, limit),
+        Some(decided) => {
+            let (key, decision) = decided.into_inner();
+            make_put(subs, stations, key, decision, limit);
+        }
     }
 }
 
@@ -152,7 +163,7 @@ pub(crate) fn make_consumer(
     sessions: &mut Sessions,
     session: &SessionId,
     id: ConsumerId,
-    source: Source,
+    source: Boxed<Source>,
 )
     requires begins { machine.may_begin sessions.old.life sessions.old.consumers session.now id ≡ true }
     requires room { 0 < sessions.old.spare }
@@ -160,7 +171,7 @@ pub(crate) fn make_consumer(
     ensures consumers { sessions.new.consumers ≡
         sessions.old.consumers ++ machine.new_consumer session.now id source.key source.selector ∷ [] }
 {
-    let _ = sessions.consumer(session, id, source);
+    let _ = sessions.consumer(session, id, source.into_inner());
 }
 
 /// Deletes the subscription of the key, with what is held under it. Takes no memory.

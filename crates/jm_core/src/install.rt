@@ -13,7 +13,7 @@ use crate::plan::Change;
 use crate::publish::{Publication, make_publications};
 use crate::receive::{Receiver, Taking, make_delivery, make_delivery_from};
 use crate::state::CoreState;
-use jm_base::Mode;
+use jm_base::{Boxed, Mode};
 use jm_dest::{ClientId, ConnectionId, ConsumerId, Key, SessionId};
 use jm_machine::{Answer, Consumers};
 use jm_session::Source;
@@ -114,8 +114,8 @@ impl CoreState {
         &mut self,
         session: &SessionId,
         id: ConsumerId,
-        source: Source,
-        decision: Option<(Key, Decision)>,
+        source: Boxed<Source>,
+        decision: Option<Boxed<(Key, Decision)>>,
     ) -> Answer
         requires { IsPlanned self.old (Change.CreateConsumer session.now id source decision) }
         ensures { InstallFits self.old (Change.CreateConsumer session.now id source decision) result self.new }

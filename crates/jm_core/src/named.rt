@@ -16,7 +16,7 @@ ghost use Rattle.jm_core.specs.Provider.{state_of};
 
 use crate::plan::Change;
 use crate::state::CoreState;
-use jm_base::{Refusal, Str};
+use jm_base::{Boxed, Refusal, Str};
 use jm_dest::{ClientId, ConsumerId, Destination, Key, Name, SessionId, SubscriptionName};
 use jm_machine::{Call, Request, Who};
 use jm_session::{Sessions, Source};
@@ -57,7 +57,7 @@ impl HeldKey {
 
 /// The subscription that was decided, where one was, beside its key. It is dropped by one call, as a `HeldKey` is.
 struct Asked {
-    decision: Option<(Key, Decision)>,
+    decision: Option<Boxed<(Key, Decision)>>,
 }
 
 impl Drop for Asked {
@@ -69,7 +69,7 @@ impl Drop for Asked {
 }
 
 impl Asked {
-    fn into_decision(self) -> Option<(Key, Decision)>
+    fn into_decision(self) -> Option<Boxed<(Key, Decision)>>
         ensures { result ≡ self.decision }
     {
         let Asked { decision } = self;
@@ -145,20 +145,28 @@ pub(crate) fn is_home(stations: &Stations, key: &Key) -> bool
 }
 
 /// The decision beside a copy of its key.
-fn beside(key: &Key, decision: Decision) -> Result<(Key, Decision), AllocError>
+fn beside(
+    alloc: Global,
+    key: &Key,
+    decision: Decision,
+) -> Result<Boxed<(Key, Decision)>, AllocError>
     ensures { IfOk result (λ pair. pair ≡ (key.now, decision)) }
 {
     let key = key.copy()?;
-    Ok((key, decision))
+    Boxed::new(alloc, (key, decision))
 }
 
 /// The decision, where there is one, beside a copy of its key.
-fn with_key(key: &Key, decision: Option<Decision>) -> Result<Option<(Key, Decision)>, AllocError>
+fn with_key(
+    alloc: Global,
+    key: &Key,
+    decision: Option<Decision>,
+) -> Result<Option<Boxed<(Key, Decision)>>, AllocError>
     ensures { IfOk result (λ pair. pair ≡ option_map (λ d. (key.now, d)) decision) }
 {
     match decision {
         None => Ok(None),
-        Some(decision) => Ok(Some(beside(key, decision)?)),
+        Some(decision) => Ok(Some(beside(alloc, key, decision)?)),
     }
 }
 
@@ -196,13 +204,14 @@ fn decide(
 
 /// Finds why the subscription of the key, which has a name, may not be had, and else decides it, beside a copy of its key.
 fn decide_under(
+    alloc: Global,
     sessions: &Sessions,
     subs: &mut Subs,
     stations: &Stations,
     key: &Key,
     topic: &Name,
     wanted: &Wanted,
-) -> Result<Option<(Key, Decision)>, Refusal>
+) -> Result<Option<Boxed<(Key, Decision)>>, Refusal>
     requires named { is_named key.now ≡ true }
     ensures decided { IfOk result (λ x. x ≡
         option_map (λ d. (key.now, d)) (needed key.now (asked_by topic.now wanted.now) subs.old.list)) }
@@ -218,7 +227,7 @@ fn decide_under(
     let is_idle = sessions.is_idle(key);
     let is_home = is_home(stations, key);
     let decision = decide(subs, key, topic, wanted, is_idle, is_home)?;
-    Ok(with_key(key, decision)?)
+    Ok(with_key(alloc, key, decision)?)
 }
 
 /// A source of the key, with room for its consumer and for what is held under the key.
@@ -227,7 +236,7 @@ fn prepare_source(
     sessions: &mut Sessions,
     stations: &mut Stations,
     key: &Key,
-) -> Result<Source, AllocError>
+) -> Result<Boxed<Source>, AllocError>
     ensures source { IfOk result (λ x. x ≡ record { key = key.now; selector = None }) }
     ensures room { OnOk result (0 < sessions.new.spare) }
     ensures key_room { OnOk result (0 < stations.new.key_room) }
@@ -237,7 +246,8 @@ fn prepare_source(
 {
     sessions.reserve(1)?;
     stations.reserve_key()?;
-    Source::named(alloc, key.copy()?)
+    let source = Source::named(alloc, key.copy()?)?;
+    Boxed::new(alloc, source)
 }
 
 /// Finds why the subscription of the key, which has a name, may not be had, and else decides it, and makes room for it
@@ -250,7 +260,7 @@ fn prepare_under(
     key: &Key,
     topic: &Name,
     wanted: &Wanted,
-) -> Result<(Source, Option<(Key, Decision)>), Refusal>
+) -> Result<(Boxed<Source>, Option<Boxed<(Key, Decision)>>), Refusal>
     requires named { is_named key.now ≡ true }
     ensures source { IfOk result (λ x. x.0 ≡ record { key = key.now; selector = None }) }
     ensures decided { IfOk result (λ x. x.1 ≡
@@ -269,7 +279,7 @@ fn prepare_under(
     ensures subs { subs.new.list ≡ subs.old.list }
     ensures stations { stations.new ≡ record stations.old { key_room = stations.new.key_room } }
 {
-    let decision = decide_under(sessions, subs, stations, key, topic, wanted)?;
+    let decision = decide_under(alloc, sessions, subs, stations, key, topic, wanted)?;
     let asked = Asked { decision };
     let source = prepare_source(alloc, sessions, stations, key)?;
     Ok((source, asked.into_decision()))
@@ -283,7 +293,7 @@ impl CoreState {
         session: &SessionId,
         topic: &Name,
         wanted: &Wanted,
-    ) -> Result<(Source, Option<(Key, Decision)>), Refusal>
+    ) -> Result<(Boxed<Source>, Option<Boxed<(Key, Decision)>>), Refusal>
         ensures same { state_of self.new ≡ state_of self.old }
         ensures ok { IfOk result (λ x. IsPrepared self.new wanted.now.sharing
             (key_wanted (state_of self.new) session.now wanted.now)

@@ -17,13 +17,12 @@ use crate::receive::{
     Receiver, Taking, missed_key, missed_under, prepare_delivery, prepare_delivery_from, receiving,
 };
 use crate::state::CoreState;
-use jm_base::{Mode, Refusal, Str};
+use jm_base::{Boxed, Mode, Refusal, Str};
 use jm_dest::{
     ClientId, ConnectionId, ConsumerId, Destination, Key, Moment, Name, SessionId, SubscriptionName,
 };
 use jm_header::Message;
 use jm_machine::{Call, Consumer, Request, Step, Who};
-use jm_selector::Selector;
 use jm_session::Source;
 use jm_sub::{Decision, Sharing};
 use std::marker::Model;
@@ -40,7 +39,7 @@ pub(crate) enum Change {
     CloseSession(SessionId),
     /// Where a subscription was decided, it takes the place of any other of its key first, of which a copy stands
     /// beside it.
-    CreateConsumer(SessionId, ConsumerId, Source, Option<(Key, Decision)>),
+    CreateConsumer(SessionId, ConsumerId, Boxed<Source>, Option<Boxed<(Key, Decision)>>),
     /// The subscription of that key.
     Unsubscribe(Key),
     CloseConsumer(SessionId, ConsumerId),
@@ -289,7 +288,7 @@ impl CoreState {
         ensures { (no_local : Bool) → PlanFits self.old (Who.Session session.now)
             (Call.Ask (Request.CreateConsumer id (destination.Queue queue.now) selector.now no_local)) result self.new }
     {
-        let (queue, selector) = prepare_create_of(
+        let source = prepare_create_of(
             self.alloc,
             &mut self.sessions,
             session,
@@ -297,7 +296,6 @@ impl CoreState {
             queue,
             selector,
         )?;
-        let source = Source::plain(Key::Queue(queue), selector);
         Ok(Change::CreateConsumer(*session, id, source, None))
     }
 
@@ -313,7 +311,8 @@ impl CoreState {
         ensures { PlanFits self.old (Who.Session session.now)
             (Call.Ask (Request.CreateConsumer id (destination.Topic topic.now) selector.now no_local)) result self.new }
     {
-        let decision = prepare_create(
+        let (source, decision) = prepare_create(
+            self.alloc,
             &mut self.sessions,
             &mut self.subs,
             &mut self.stations,
@@ -323,9 +322,7 @@ impl CoreState {
             selector,
             no_local,
         )?;
-        let source = Source::plain(Key::Own(*session, id), Selector::none(self.alloc));
-        let decided = Some((Key::Own(*session, id), decision));
-        Ok(Change::CreateConsumer(*session, id, source, decided))
+        Ok(Change::CreateConsumer(*session, id, source, Some(decision)))
     }
 
     /// Plans a consumer of an unshared durable subscription.

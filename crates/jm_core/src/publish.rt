@@ -151,8 +151,11 @@ fn prepare_copy(
     ensures room { stations.old.message_room ≤ stations.new.message_room }
     ensures queues { HaveMoreRoom queues.old queues.new }
 {
-    let copy = message.copy()?;
-    prepare_publication(sessions, subs, stations, queues, copy, additional)
+    let goal = prepare_goal(sessions, subs, stations, queues, message, additional)?;
+    Ok(Publication {
+        message: message.copy()?,
+        goal,
+    })
 }
 
 /// Finds where copies of the messages go, and makes room for all of them there.

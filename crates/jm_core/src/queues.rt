@@ -18,6 +18,7 @@ ghost use Rattle.jm_core.specs.Reading as reading;
 ghost use Rattle.jm_core.specs.Reopening.{joins};
 
 use crate::rows::Rows;
+use jm_base::Boxed;
 use jm_dest::{ConsumerId, Key, Moment, Name, SessionId};
 use jm_header::Message;
 use jm_machine::{Answer, Consumers, PlacedRow, Row, RowState};
@@ -218,7 +219,7 @@ impl Queues {
         now: Moment,
         settles: bool,
         selector: &Selector,
-    ) -> Result<Option<Message>, AllocError>
+    ) -> Result<Option<Boxed<Message>>, AllocError>
         requires within { index < length self.now.list }
         ensures copy { (d : Backlog) → IfOk result (λ copy. copy ≡ backlogs.copy_wanted_where (matches selector.now)
             settles now self.now.list (slice_index_or self.now.list index d).rows) }
@@ -235,7 +236,7 @@ impl Queues {
         index: usize,
         now: Moment,
         selector: &Selector,
-        copy: Option<Message>,
+        copy: Option<Boxed<Message>>,
     ) -> Answer
         requires within { index < length self.old.list }
         requires copy { (d : Backlog) → copy ≡ backlogs.copy_wanted_where (matches selector.now) true now
@@ -256,7 +257,7 @@ impl Queues {
         index: usize,
         now: Moment,
         selector: &Selector,
-        copy: Option<Message>,
+        copy: Option<Boxed<Message>>,
         session: SessionId,
         consumer: ConsumerId,
     ) -> Answer

@@ -223,7 +223,8 @@ impl Plan {
         ensures { option_map (λ x. (x.0.now, x.1.now)) result ≡ spec.puts self.now }
     {
         match &self.change {
-            Change::CreateConsumer(_, _, _, Some((key, decision))) => {
+            Change::CreateConsumer(_, _, _, Some(decided)) => {
+                let (key, decision) = decided.get();
                 Some((key, decision.definition()))
             }
             _ => None,

@@ -16,7 +16,7 @@ ghost use Rattle.jm_core.specs.Queues.{rows_in};
 ghost use Rattle.jm_core.specs.Takings.{IsMissed, IsTaken, IsTakenFrom, IsTold, source_of, taken_from, wants_copy, wants_copy_of};
 
 use crate::queues::Queues;
-use jm_base::{Mode, Refusal};
+use jm_base::{Boxed, Mode, Refusal};
 use jm_dest::{ConsumerId, Key, Moment, SessionId};
 use jm_header::Message;
 use jm_machine::{Answer, Consumer};
@@ -38,7 +38,7 @@ pub(crate) struct Receiver {
 #[derive(Drop)]
 pub(crate) struct Taking {
     pub index: usize,
-    pub copy: Option<Message>,
+    pub copy: Option<Boxed<Message>>,
 }
 
 /// Whether the mode settles a message in the step that delivers it.
@@ -114,10 +114,10 @@ pub(crate) fn make_delivery(
     ensures list { stations.new.list ≡ taken_from taking receiver.now stations.old.list }
     ensures next_place { stations.new.next_place ≡ stations.old.next_place }
 {
-    match taking {
-        None => Answer::Nothing,
-        Some(Taking { index, copy }) => deliver_from(stations, index, receiver, copy),
-    }
+    let Some(Taking { index, copy }) = taking else {
+        return Answer::Nothing;
+    };
+    deliver_from(stations, index, receiver, copy)
 }
 
 /// Delivers the next row under the key with that index, where there is one.
@@ -126,7 +126,7 @@ fn deliver_from(
     stations: &mut Stations,
     index: usize,
     receiver: &Receiver,
-    copy: Option<Message>,
+    copy: Option<Boxed<Message>>,
 ) -> Answer
     requires within { index < length stations.old.list }
     requires copy { (d : Backlog) →
@@ -138,16 +138,16 @@ fn deliver_from(
         changed_at index (spec.with_delivery (spec.left_by receiver.now) receiver.now.moment) stations.old.list }
     ensures next_place { stations.new.next_place ≡ stations.old.next_place }
 {
-    match receiver.mode {
-        Mode::Auto | Mode::Dups => stations.receive(index, receiver.moment, copy),
-        Mode::Client | Mode::Transacted => stations.deliver(
-            index,
-            receiver.moment,
-            copy,
-            receiver.session,
-            receiver.consumer,
-        ),
+    if settles(receiver.mode) {
+        return stations.receive(index, receiver.moment, copy);
     }
+    stations.deliver(
+        index,
+        receiver.moment,
+        copy,
+        receiver.session,
+        receiver.consumer,
+    )
 }
 
 /// Finds the rows of the consumer's queue, where some stand there, and makes the copy that a delivery of those wants that
@@ -187,10 +187,10 @@ pub(crate) fn make_delivery_from(
         (deliver_chosen (matches selector.now) receiver.now.moment (spec.left_by receiver.now)) (rows_in queues.old) }
     ensures next_place { queues.new.next_place ≡ queues.old.next_place }
 {
-    match taking {
-        None => Answer::Nothing,
-        Some(Taking { index, copy }) => take_from(queues, index, selector, receiver, copy),
-    }
+    let Some(Taking { index, copy }) = taking else {
+        return Answer::Nothing;
+    };
+    take_from(queues, index, selector, receiver, copy)
 }
 
 /// Delivers the next row of the queue with that index that the selector selects.
@@ -200,7 +200,7 @@ fn take_from(
     index: usize,
     selector: &Selector,
     receiver: &Receiver,
-    copy: Option<Message>,
+    copy: Option<Boxed<Message>>,
 ) -> Answer
     requires within { index < length queues.old.list }
     requires copy { (d : Backlog) → copy ≡ copy_wanted_where (matches selector.now) (spec.settles receiver.now)
@@ -211,17 +211,17 @@ fn take_from(
         (deliver_chosen (matches selector.now) receiver.now.moment (spec.left_by receiver.now)) (rows_in queues.old) }
     ensures next_place { queues.new.next_place ≡ queues.old.next_place }
 {
-    match receiver.mode {
-        Mode::Auto | Mode::Dups => queues.receive(index, receiver.moment, selector, copy),
-        Mode::Client | Mode::Transacted => queues.deliver(
-            index,
-            receiver.moment,
-            selector,
-            copy,
-            receiver.session,
-            receiver.consumer,
-        ),
+    if settles(receiver.mode) {
+        return queues.receive(index, receiver.moment, selector, copy);
     }
+    queues.deliver(
+        index,
+        receiver.moment,
+        selector,
+        copy,
+        receiver.session,
+        receiver.consumer,
+    )
 }
 
 /// The key that the consumer receives from, whether its connection is started or not; or why it may not be used.

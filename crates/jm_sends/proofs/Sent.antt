@@ -30,6 +30,7 @@ use Rattle.std.proofs.collections.BTreeMap.TheSendSync as map_
 use Rattle.std.proofs.alloc.Global.TheSendSync as global_
 use Rattle.jm_tree.specs.contracts.tree.Tree as Tree
 use Rattle.jm_base.specs.contracts.text.Str as Str
+use Rattle.jm_selector.specs.contracts.literal.Literal as Literal
 use Rattle.jm_selector.specs.contracts.selector.Selector as Selector
 use Rattle.jm_header.specs.contracts.message.Message as Message
 use Rattle.jm_property.specs.contracts.properties.Properties as Properties
@@ -42,14 +43,17 @@ use Rattle.jm_session.specs.contracts.clients.Clients as Clients
 use Rattle.jm_session.specs.contracts.number.ConsumerNumber as ConsumerNumber
 use Rattle.jm_session.specs.contracts.roster.Roster as Roster
 use Rattle.jm_session.specs.contracts.sessions.Sessions as Sessions
-use Rattle.jm_sub.specs.contracts.topics.Topics as Topics
+use Rattle.jm_sub.specs.contracts.channel.Channel as Channel
+use Rattle.jm_sub.specs.contracts.channel.Held as Asked
+use Rattle.jm_sub.specs.contracts.channels.Channels as Channels
 use Rattle.jm_sub.specs.contracts.subs.Subs as Subs
-use Rattle.jm_pending.specs.contracts.row.Row as Row
-use Rattle.jm_pending.specs.contracts.lane.Lane as Lane
+use Rattle.jm_lane.specs.contracts.row.Row as Row
+use Rattle.jm_lane.specs.contracts.lane.Lane as Lane
 use Rattle.jm_pending.specs.contracts.held.Held as Held
-use Rattle.jm_pending.specs.contracts.table.Stored as Stored
-use Rattle.jm_pending.specs.contracts.table.Table as Table
+use Rattle.jm_lane.specs.contracts.table.Stored as Stored
+use Rattle.jm_lane.specs.contracts.table.Table as Table
 use Rattle.jm_stations.specs.contracts.backlogs.Backlogs as Backlogs
+use Rattle.jm_stations.specs.contracts.outstanding.Outstanding as Outstanding
 use Rattle.jm_stations.specs.contracts.stations.Stations as Stations
 use Rattle.jm_core.specs.contracts.queues.Queues as Queues
 use Rattle.jm_core.specs.contracts.state.CoreState as CoreState
@@ -95,8 +99,15 @@ ConsumerNumber_send = search (sendable, crosses, maps.crosses) depth 60 fits 200
 pub Roster_send : IsSend Roster.the_row
 Roster_send = search (sendable, crosses, maps.crosses, Consumer_send, Attached_send, ConsumerNumber_send) depth 60 fits 20000
 
-pub Topics_send : IsSend Topics.the_row
-Topics_send = search (sendable, crosses, index_map.the_send, linked.the_send, Name_send, Key_send) depth 60 fits 20000
+Literal_field : IsSend (Literal.the_field).row
+Literal_field = search (sendable, crosses, maps.crosses) depth 60 fits 20000
+
+pub Channel_send : IsSend Channel.the_row
+Channel_send = search (sendable, crosses, maps.crosses, Name_send, Literal_field) depth 60 fits 20000
+
+-- what a subscription asks for, with its channel
+pub Asked_send : IsSend Asked.the_row
+Asked_send = search (sendable, crosses, boxed.the_send, Definition_send, Channel_send) depth 60 fits 20000
 
 pub Row_send : IsSend Row.the_row
 Row_send = search (sendable, crosses, maps.crosses) depth 60 fits 20000
@@ -119,8 +130,11 @@ Stored_send = search (sendable, crosses, maps.crosses, Message_send) depth 60 fi
 pub Table_send : IsSend Table.the_row
 Table_send = search (sendable, crosses, maps.crosses, Stored_send) depth 60 fits 20000
 
+Outstanding_send : IsSend Outstanding.the_row
+Outstanding_send = search (sendable, crosses, maps.crosses) depth 60 fits 20000
+
 pub Backlogs_send : IsSend Backlogs.the_row
-Backlogs_send = search (sendable, crosses, maps.crosses, Held_send, Table_send) depth 60 fits 20000
+Backlogs_send = search (sendable, crosses, maps.crosses, Held_send, Table_send, Outstanding_send) depth 60 fits 20000
 
 pub Stations_send : IsSend Stations.the_row
 Stations_send = search (sendable, crosses, maps.crosses, Key_send, Backlogs_send) depth 60 fits 20000
@@ -135,11 +149,14 @@ Clients_field = search (sendable, crosses, maps.crosses) depth 60 fits 20000
 pub Sessions_send : IsSend Sessions.the_row
 Sessions_send = search (sendable, crosses, index_map.the_send, ConnectionState_send, SessionState_send, Clients_field, Roster_send) depth 60 fits 20000
 
-pub Topics_field : IsSend (Topics.the_field).row
-Topics_field = search (sendable, crosses, index_map.the_send, linked.the_send, Name_send, Key_send) depth 60 fits 20000
+Asked_field : IsSend (Asked.the_field).row
+Asked_field = search (sendable, crosses, boxed.the_send, Definition_send, Channel_send) depth 60 fits 20000
+
+Channels_field : IsSend (Channels.the_field).row
+Channels_field = search (sendable, crosses, maps.crosses, linked.the_send, Channel_send, Key_send) depth 60 fits 20000
 
 pub Subs_send : IsSend Subs.the_row
-Subs_send = search (sendable, crosses, maps.crosses, linked.the_send, index_map.the_send, Key_send, Name_send, Definition_send, Topics_send, Topics_field) depth 60 fits 20000
+Subs_send = search (sendable, crosses, maps.crosses, Key_send, Asked_field, Channels_field) depth 60 fits 20000
 
 pub CoreState_send : IsSend CoreState.the_row
 CoreState_send = search (sendable, crosses, Sessions_send, Subs_send, Stations_send, Queues_send) depth 60 fits 20000

@@ -1,19 +1,25 @@
-use Rattle.std.proofs.Common.{refl, sym}
+use Rattle.std.proofs.Common.{◌≡◌, None, Option, Some, refl, sym}
 use Rattle.jm_machine.specs.Rows.{deliver_chosen}
 use Rattle.jm_selector.specs.Selectors.{matches}
 use Rattle.jm_core.specs.Queues.{rows_in}
 use Rattle.jm_core.specs.Takings.{left_by}
+use Rattle.jm_core.specs.declared.receive.Taking.{Taking}
 use Rattle.jm_core.proofs.QueueRows.{nothing_changed, rows_missing}
 use Rattle.jm_core.proofs.receive.make_delivery_from.Goals as goal
 
-pub returns-in-None-clause-answer : goal.returns-in-None-clause-answer
-returns-in-None-clause-answer c = λ name t.
-    let queues = c.args.queues.now in
-    rw (rows_missing queues.keys queues.list name (rw c.in-None.is at t)) refl
+-- what is nothing else is none
+none_there : (o : Option Taking) → ((x : Taking) → o ≡ Some x → ⊥) → o ≡ None
+none_there None h = refl
+none_there (Some x) h = absurd (h x refl)
 
-pub returns-in-None-clause-rows : goal.returns-in-None-clause-rows
-returns-in-None-clause-rows c = λ name t.
+pub returns-in_default-clause-answer : goal.returns-in_default-clause-answer
+returns-in_default-clause-answer c = λ name t.
+    let queues = c.args.queues.now in
+    rw (rows_missing queues.keys queues.list name (rw (none_there c.args.taking c.in_default.not-Some) at t)) refl
+
+pub returns-in_default-clause-rows : goal.returns-in_default-clause-rows
+returns-in_default-clause-rows c = λ name t.
     let queues = c.args.queues.now in
     let r = c.args.receiver.now in
-    let none = rows_missing queues.keys queues.list name (rw c.in-None.is at t) in
+    let none = rows_missing queues.keys queues.list name (rw (none_there c.args.taking c.in_default.not-Some) at t) in
     sym (nothing_changed name (deliver_chosen (matches c.args.selector.now) r.moment (left_by r)) (rows_in queues) refl none)

@@ -17,16 +17,16 @@ left_out : (mode : Mode) (s : SessionId) (c : ℕ) → settles_at_once (Some mod
 unfolding left_of
 left_out mode s c e = λ i r. cond (sym e i) [] (sent_out s c r ∷ [])
 
-pub returns-in-Auto-clause-rows : goal.returns-in-Auto-clause-rows
-returns-in-Auto-clause-rows c = λ name h.
+pub returns-then-settles-clause-rows : goal.returns-then-settles-clause-rows
+returns-then-settles-clause-rows c = λ name h.
     let r = c.args.receiver.now in
-    let at_once : settles_at_once (Some r.mode) ≡ true = elim c.in-Auto.is [ inl e ↦ rw e refl | inr e ↦ rw e refl ] in
+    let at_once : settles_at_once (Some r.mode) ≡ true = sym c.settles.ensures ∙ c.if-settles.true in
     c.receive.ensures.rows name h
     ∙ ap (λ f. at_queue name (deliver_chosen (matches c.args.selector.now) r.moment f) (rows_in c.args.queues.now)) (left_settled r.mode r.session r.consumer at_once)
 
-pub returns-in-Client-clause-rows : goal.returns-in-Client-clause-rows
-returns-in-Client-clause-rows c = λ name h.
+pub returns-clause-rows : goal.returns-clause-rows
+returns-clause-rows c = λ name h.
     let r = c.args.receiver.now in
-    let later : settles_at_once (Some r.mode) ≡ false = elim c.in-Client.is [ inl e ↦ rw e refl | inr e ↦ rw e refl ] in
+    let later : settles_at_once (Some r.mode) ≡ false = sym c.settles.ensures ∙ c.if-settles.false in
     c.deliver.ensures.rows name h
     ∙ ap (λ f. at_queue name (deliver_chosen (matches c.args.selector.now) r.moment f) (rows_in c.args.queues.now)) (left_out r.mode r.session r.consumer later)
