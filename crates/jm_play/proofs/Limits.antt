@@ -7,8 +7,8 @@ use Rattle.serde_json.specs.Data.{Data}
 use Rattle.serde_json.specs.Find.{as_array, as_number, as_u64, get}
 use Rattle.serde_json.specs.Read.{read}
 use Rattle.jm_scenario.specs.Calls.{Spells, items_of, scenario}
-use Rattle.jm_scenario.specs.Reading.{where_true}
-use Rattle.jm_scenario.specs.Values.{absent_or, limit, optional}
+use Rattle.jm_fields.specs.Reading.{where_true}
+use Rattle.jm_fields.specs.Values.{absent_or, limit, optional}
 use Rattle.jm_scenario.specs.declared.item.Item.{Item}
 use Rattle.jm_scenario.specs.declared.scenario.Scenario.{Scenario}
 use Rattle.jm_words.specs.Words.{IsLimit}

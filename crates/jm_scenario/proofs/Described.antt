@@ -10,10 +10,10 @@ use Rattle.serde_json.specs.Find.{as_array, get_member}
 use Rattle.serde_json.specs.View.{view}
 use Rattle.serde_json.specs.declared.value.Value.{Value}
 use Rattle.serde_json.proofs.Views.{get_member-put, get_member-put_other}
-use Rattle.jm_scenario.specs.Fields.{has, has_each}
+use Rattle.jm_fields.specs.Fields.{has, has_each}
 use Rattle.jm_scenario.specs.Outer.{AreCalls, Describes, KeepsUnknown}
-use Rattle.jm_scenario.specs.declared.field.Owner.{Owner}
-use Rattle.jm_scenario.specs.declared.field.Owner.TheVariants.{Scenario as OfScenario}
+use Rattle.jm_fields.specs.declared.field.Owner.{Owner}
+use Rattle.jm_fields.specs.declared.field.Owner.TheVariants.{Scenario as OfScenario}
 use Rattle.jm_scenario.specs.declared.outer.Outer.{Outer}
 
 twice : (a b : Bool) → (a && b) ≡ (a && (a && b))

@@ -1,8 +1,8 @@
 pub mod Described
-pub mod Items
 pub mod Keys
 pub mod Loops
 pub mod Operations
+pub mod Outlined
 pub mod Places
 pub mod Recorded
 pub mod Texts

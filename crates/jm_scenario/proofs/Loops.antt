@@ -1,5 +1,5 @@
 -- The loops over the members of an object and over the items of an array of a JSON text, a turn at a time, and the whole text.
-use Rattle.std.proofs.Common.{◌≡◌, ◌∙◌, ℕ, zero, suc, ◌-◌, ◌<◌, ◌≤◌, List, [], ◌∷◌, length, Option, Some, None, option_map, option_and_then, refl, sym, ap, arith}
+use Rattle.std.proofs.Common.{◌≡◌, ◌∙◌, ℕ, zero, suc, ◌-◌, ◌<◌, ◌≤◌, ◌++◌, List, [], ◌∷◌, length, Option, Some, None, option_map, option_and_then, refl, sym, ap, arith}
 use Rattle.json.specs.Token.{Token}
 use Rattle.json.specs.Json as json
 use Rattle.json.specs.Json.{Parse, parse_map, after_end_array, read_key, items_step, items, members, if_last}
@@ -7,6 +7,8 @@ use Rattle.json.proofs.Grammar.{items_end, items_more, members_end, members_no_k
 use Rattle.serde_json.specs.Data.{Data, Num, array, number, object, Items, no_items, item, Members, no_members, put}
 use Rattle.serde_json.specs.Read.{of_json, of_items, of_members, converted, number_of}
 use Rattle.serde_json.specs.Find.{as_array}
+use Rattle.serde_json.specs.View.{items_view, view}
+use Rattle.serde_json.specs.declared.value.Value.{Value}
 
 abbrev pick : {A : Type 0} → A → Option A → A
 pick d None = d
@@ -164,6 +166,20 @@ module _ (p : Parse json.Json) (start : List Token) where
 
   pub items_done : (now r : List Token) (front : Items → Items) → ItemsRead p start now front → after_end_array now ≡ Some r → converted of_items (items p (length start) start) ≡ Some (front no_items, r)
   items_done now r front so_far over = so_far.same ∙ ap (parse_map front) (items_over p so_far.turns now r so_far.enough over)
+
+-- ---- values that are read, before others
+
+abbrev pub before : List Value → Items → Items
+before [] rest = rest
+before (one ∷ values) rest = item (view one) (before values rest)
+
+pub before_none : (values : List Value) → before values no_items ≡ items_view values
+before_none [] = refl
+before_none (one ∷ values) = ap (item (view one)) (before_none values)
+
+pub before_more : (values : List Value) (one : Value) (rest : Items) → before values (item (view one) rest) ≡ before (values ++ one ∷ []) rest
+before_more [] one rest = refl
+before_more (first ∷ values) one rest = ap (item (view first)) (before_more values one rest)
 
 -- ---- an array and an object
 

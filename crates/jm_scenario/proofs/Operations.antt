@@ -5,14 +5,14 @@ use Rattle.serde_json.specs.Data.{Data}
 use Rattle.serde_json.specs.Find.{as_bool, as_str}
 use Rattle.jm_machine.specs.declared.call.ClientCall.{ClientCall}
 use Rattle.jm_scenario.specs.Calls.{call_as, call_in_place, call_of, operation}
-use Rattle.jm_scenario.specs.Drafts.{draft}
-use Rattle.jm_scenario.specs.Fields.{has, is_known, is_operation_in_place}
+use Rattle.jm_fields.specs.Drafts.{draft}
+use Rattle.jm_fields.specs.Fields.{has, is_known, is_operation_in_place}
 use Rattle.jm_scenario.specs.Items.{is_by_session}
-use Rattle.jm_scenario.specs.Reading.{Reads, where_true}
-use Rattle.jm_scenario.specs.Values.{destination, mode, moment, name, no_local, number, optional, required, session}
-use Rattle.jm_scenario.specs.declared.misfit.Misfit.{Misfit}
-use Rattle.jm_scenario.specs.declared.field.Owner.{Owner}
-use Rattle.jm_scenario.specs.declared.field.Owner.TheVariants.{Scenario, Open, Start, Stop, CloseConnection, Session, CloseSession, Acknowledge, Recover, Commit, Rollback, Consumer, Durable, Shared, SharedDurable, CloseConsumer, Missed, Unsubscribe, Listener, Send, Receive, Take, Done, ForkOrJoin}
+use Rattle.jm_fields.specs.Reading.{Reads, where_true}
+use Rattle.jm_fields.specs.Values.{destination, mode, moment, name, no_local, number, optional, required, session}
+use Rattle.jm_fields.specs.declared.misfit.Misfit.{Misfit}
+use Rattle.jm_fields.specs.declared.field.Owner.{Owner}
+use Rattle.jm_fields.specs.declared.field.Owner.TheVariants.{Scenario, Open, Start, Stop, CloseConnection, Session, CloseSession, Acknowledge, Recover, Commit, Rollback, Consumer, Durable, Shared, SharedDurable, CloseConsumer, Missed, Unsubscribe, Listener, Send, Receive, Take, Done, ForkOrJoin}
 
 -- a call that is spelled is one by a session, or is none
 record Is (b : Bool) (spelled : Option ClientCall) : Type 0 where

@@ -5,12 +5,12 @@ use Rattle.serde_json.specs.Data.{Data, Items, no_items, item}
 use Rattle.serde_json.specs.Find.{as_array, get}
 use Rattle.serde_json.specs.Read.{read}
 use Rattle.jm_machine.specs.declared.call.ClientCall.{ClientCall}
-use Rattle.jm_scenario.specs.Fields.{is_known}
-use Rattle.jm_scenario.specs.Values.{limit, optional}
-use Rattle.jm_scenario.specs.declared.field.Owner.TheVariants.{ForkOrJoin, Scenario as Outer}
+use Rattle.jm_fields.specs.Fields.{is_known}
+use Rattle.jm_fields.specs.Values.{limit, optional}
+use Rattle.jm_fields.specs.declared.field.Owner.TheVariants.{ForkOrJoin, Scenario as Outer}
 use Rattle.jm_scenario.specs.Calls.{AreNoneSpelled, AreSpelled, IsNoneSpelled, IsSpelled, Spells, SpellsNone, call_in_place, call_of, fork_or_join, item_as, item_of, items_of, scenario, scenario_of_text, where_in_place}
 use Rattle.jm_scenario.specs.Items.{AreWellForked, IsForked, StandsBehind, is_by_session, is_forked_behind, is_in_place}
-use Rattle.jm_scenario.specs.Reading.{where_true}
+use Rattle.jm_fields.specs.Reading.{where_true}
 use Rattle.jm_scenario.specs.declared.item.Item.{Item}
 use Rattle.jm_scenario.specs.declared.item.Item.TheVariants.{Call, Fork, Join}
 use Rattle.jm_scenario.specs.declared.scenario.Scenario.{Scenario}

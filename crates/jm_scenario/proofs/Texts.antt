@@ -1,16 +1,12 @@
 -- Values of a JSON text, read one at a time.
-use Rattle.std.proofs.Common.{◌≡◌, ◌∙◌, ℕ, ◌≤◌, List, [], ◌∷◌, length, Option, Some, None, option_map, option_and_then, Result, Ok, Err, true, false, true≢false, append-nil, refl, sym, ap, subst, arith}
+use Rattle.std.proofs.Common.{◌≡◌, ◌∙◌, ℕ, List, [], ◌∷◌, length, Option, Some, None, option_map, option_and_then, Result, Ok, Err, true, false, true≢false, refl, sym, ap, subst, arith}
 use Rattle.std.specs.Prelude.{◌≢◌, IsErr, IsErrAnd, MatchOption, MatchResult, is_some}
 use Rattle.json.specs.Reads.{token_of}
 use Rattle.json.specs.declared.token.Token.{Token as Read}
 use Rattle.json.specs.Token.{Token}
 use Rattle.json.specs.Lex.{tokens}
 use Rattle.json.specs.Json as json
-use Rattle.json.specs.Print.{print}
-use Rattle.json.specs.Tree.{HasNumbers, depth, json_tokens}
 use Rattle.json.proofs.Grammar.{value-begin_array, value_is}
-use Rattle.json.proofs.Printed.Tokens.{tokens-print}
-use Rattle.json.proofs.Printed.Trees.{ArePrintable-json_tokens, value-json_tokens}
 use Rattle.serde_json.specs.Data.{Data, Items, Members, Num, array, boolean, no_members, null, number, object, string}
 use Rattle.serde_json.specs.Read.{converted, max_depth, number_of, of_items, of_json, of_members, read}
 use Rattle.jm_scenario.proofs.Loops.{object_read, object_refused, whole, whole_and_more, whole_read, whole_refused}
@@ -18,13 +14,6 @@ use Rattle.jm_scenario.proofs.Places.{none_spelled, text_is_none}
 use Rattle.jm_scenario.specs.Calls.{SpellsNone, scenario, scenario_of_text}
 use Rattle.jm_scenario.specs.declared.scenario.ScenarioFault.{ScenarioFault}
 use Rattle.jm_scenario.specs.declared.scenario.ScenarioFault.TheVariants.{Memory}
-
--- the text of a value is read as what it stands for
-pub printed_read : (one : json.Json) → HasNumbers one → depth one ≤ max_depth → read (print (json_tokens one)) ≡ of_json one
-printed_read one numbers nests =
-    ap (λ found. option_and_then of_json (option_and_then (λ p. json.if_last p.0 p.1) found))
-    (ap (json.value max_depth) (tokens-print (json_tokens one) (ArePrintable-json_tokens one numbers) ∙ sym (append-nil (json_tokens one)))
-    ∙ value-json_tokens one max_depth [] nests)
 
 -- a text whose first token opens an object, and which ends where that object does
 pub object_text : (text : List ℕ) (rest : List Token) (found : Members) → tokens text ≡ Token.begin_object ∷ rest →

@@ -10,13 +10,13 @@ use Rattle.jm_machine.specs.declared.call.Request.{Request}
 use Rattle.jm_machine.specs.declared.call.Request.TheVariants as request
 use Rattle.jm_machine.specs.declared.call.ClientCall.{ClientCall}
 use Rattle.jm_machine.specs.declared.call.ClientCall.TheVariants as call
-use Rattle.jm_scenario.specs.Drafts.{draft}
-use Rattle.jm_scenario.specs.Fields.{operation_named, is_known}
+use Rattle.jm_fields.specs.Drafts.{draft}
+use Rattle.jm_fields.specs.Fields.{operation_named, is_known}
 use Rattle.jm_scenario.specs.Items.{AreWellForked, is_in_place}
-use Rattle.jm_scenario.specs.Reading.{where_true}
-use Rattle.jm_scenario.specs.Values.{number, limit, session, mode, name, moment, required, optional, destination, no_local}
-use Rattle.jm_scenario.specs.declared.field.Owner.{Owner}
-use Rattle.jm_scenario.specs.declared.field.Owner.TheVariants.{Scenario as Outer, Open, Start, Stop, CloseConnection, Session, CloseSession, Acknowledge, Recover, Commit, Rollback, Consumer, Durable, Shared, SharedDurable, CloseConsumer, Missed, Unsubscribe, Listener, Send, Receive, Take, Done, ForkOrJoin}
+use Rattle.jm_fields.specs.Reading.{where_true}
+use Rattle.jm_fields.specs.Values.{number, limit, session, mode, name, moment, required, optional, destination, no_local}
+use Rattle.jm_fields.specs.declared.field.Owner.{Owner}
+use Rattle.jm_fields.specs.declared.field.Owner.TheVariants.{Scenario as Outer, Open, Start, Stop, CloseConnection, Session, CloseSession, Acknowledge, Recover, Commit, Rollback, Consumer, Durable, Shared, SharedDurable, CloseConsumer, Missed, Unsubscribe, Listener, Send, Receive, Take, Done, ForkOrJoin}
 use Rattle.jm_scenario.specs.declared.item.Item.{Item}
 use Rattle.jm_scenario.specs.declared.item.Item.TheVariants.{Call, Fork, Join}
 use Rattle.jm_scenario.specs.declared.scenario.Scenario.{Scenario}

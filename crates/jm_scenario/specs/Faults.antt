@@ -1,6 +1,6 @@
 -- What is told of a refused scenario (ours).
 use Rattle.std.specs.Prelude.{ℕ, ◌++◌, List, codes, decimal}
-use Rattle.jm_scenario.specs.Fields.{told_name}
+use Rattle.jm_fields.specs.Fields.{told_name}
 use Rattle.jm_scenario.specs.declared.scenario.ScenarioFault.{ScenarioFault}
 use Rattle.jm_scenario.specs.declared.scenario.ScenarioFault.TheVariants.{Syntax, Shape, Floating, Memory}
 

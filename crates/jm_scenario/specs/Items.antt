@@ -59,6 +59,12 @@ kind_of (Call call) = kind.Call
 kind_of Fork = kind.Fork
 kind_of Join = kind.Join
 
+-- the item is a call
+abbrev pub is_call : ItemKind → Bool
+is_call kind.Call = true
+is_call kind.Fork = false
+is_call kind.Join = false
+
 -- the replies to items of those kinds, as far as there are replies to the calls among them: a fork and a join are answered
 -- Done
 abbrev pub replies_in_place : List ItemKind → List (Result Answer Refusal) → List (Result Answer Refusal)

@@ -7,7 +7,7 @@ use Rattle.serde_json.specs.Read.{read}
 use Rattle.jm_dest.specs.declared.session.SessionId.{SessionId}
 use Rattle.jm_dest.specs.declared.key.Key.{Key}
 use Rattle.jm_dest.specs.declared.key.Key.TheVariants.{Own, Durable}
-use Rattle.jm_scenario.specs.Values.{number, name, session_of_numbers}
+use Rattle.jm_fields.specs.Values.{number, name, session_of_numbers}
 
 -- the subscription of a consumer
 abbrev pub own_of : Option SessionId → Option ℕ → Option Key

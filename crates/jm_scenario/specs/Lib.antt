@@ -1,9 +1,5 @@
 pub mod Lines
-pub mod Reading
-pub mod Fields
 pub mod Faults
-pub mod Values
-pub mod Drafts
 pub mod Items
 pub mod Calls
 pub mod Outer

@@ -5,9 +5,9 @@ use Rattle.serde_json.specs.Data.{Data, Items, Members}
 use Rattle.serde_json.specs.Find.{as_array, get_member}
 use Rattle.serde_json.specs.View.{view}
 use Rattle.jm_scenario.specs.Calls.{AreNoneSpelled, AreSpelled, item_of, items_of, where_in_place}
-use Rattle.jm_scenario.specs.Fields.{has_each}
+use Rattle.jm_fields.specs.Fields.{has_each}
 use Rattle.jm_scenario.specs.Items.{is_forked_behind}
-use Rattle.jm_scenario.specs.declared.field.Owner.TheVariants.{Scenario as OfScenario}
+use Rattle.jm_fields.specs.declared.field.Owner.TheVariants.{Scenario as OfScenario}
 use Rattle.jm_scenario.specs.declared.item.Item.{Item}
 use Rattle.jm_scenario.specs.declared.outer.Outer.{Outer}
 use Rattle.jm_scenario.specs.declared.records.Records.{Records}

@@ -1,16 +1,13 @@
 ghost use Rattle.std.specs.Prelude.{◌≡◌, codes};
 ghost use Rattle.serde_json.specs.View.{view};
 ghost use Rattle.jm_scenario.specs.Calls as spec;
-ghost use Rattle.jm_scenario.specs.Fields.{is_known};
-ghost use Rattle.jm_scenario.specs.Reading.{Reads, ReadsExactly, where_true};
+ghost use Rattle.jm_fields.specs.Fields.{is_known};
+ghost use Rattle.jm_fields.specs.Reading.{Reads, ReadsExactly, where_true};
 
-use crate::draft::draft;
-use crate::field::{Field, Owner, not_known, unknown};
 use crate::held::Held;
-use crate::misfit::Misfit;
-use crate::value::{
-    client, connection, consumer, destination, mark, mode, no_local, now, selector, session,
-    subscription,
+use jm_fields::{
+    Field, Misfit, Owner, client, connection, consumer, destination, draft, mark, mode, no_local,
+    not_known, now, selector, session, subscription, unknown,
 };
 use jm_machine::{ClientCall, Request, Who};
 use serde_json::Value;

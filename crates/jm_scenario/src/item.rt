@@ -2,11 +2,10 @@ ghost use Rattle.std.specs.Prelude.{◌≡◌, Some};
 ghost use Rattle.serde_json.specs.View.{view};
 ghost use Rattle.jm_scenario.specs.Calls as calls;
 ghost use Rattle.jm_scenario.specs.Items as spec;
-ghost use Rattle.jm_scenario.specs.Reading.{Reads};
+ghost use Rattle.jm_fields.specs.Reading.{Reads};
 
 use crate::call::call;
-use crate::field::{Field, Owner, not_known, unknown};
-use crate::misfit::Misfit;
+use jm_fields::{Field, Misfit, Owner, not_known, unknown};
 use jm_machine::{ClientCall, Who};
 use serde_json::Value;
 use std::alloc::Global;

@@ -1,11 +1,11 @@
 ghost use Rattle.std.specs.Prelude.{◌≡◌, string_bytes, IfOk};
 ghost use Rattle.serde_json.specs.View.{view, items_view};
 ghost use Rattle.jm_scenario.specs.Key as spec;
-ghost use Rattle.jm_scenario.specs.Values as values;
+ghost use Rattle.jm_fields.specs.Values as values;
 
-use crate::value::{consumer_of, session_of};
 use jm_base::Refusal;
 use jm_dest::{ClientId, Key, SubscriptionName};
+use jm_fields::{consumer_of, session_of};
 use serde_json::{Category, Value};
 use std::alloc::{AllocError, Global};
 

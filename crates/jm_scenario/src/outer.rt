@@ -10,7 +10,8 @@ ghost use Rattle.jm_scenario.specs.Outer as spec;
 
 use crate::held::Held;
 use crate::item::Item;
-use crate::parsed::{next_value, owned};
+use crate::numbers::number;
+use crate::parsed::next_value;
 use crate::records::Records;
 use crate::scenario::ScenarioFault;
 use jm_base::Str;
@@ -87,10 +88,10 @@ fn calls_member(
             pass_members(alloc, reader)?;
             Ok(None)
         }
-        Token::Number(text) => {
-            drop(owned(alloc, &json::Value::Number(text))?);
-            Ok(None)
-        }
+        Token::Number(text) => match number(text) {
+            Some(_) => Ok(None),
+            None => Err(ScenarioFault::Syntax),
+        },
         Token::String(_) => Ok(None),
         Token::Bool(_) => Ok(None),
         Token::Null => Ok(None),

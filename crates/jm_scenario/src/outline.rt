@@ -1,6 +1,7 @@
 //! Items and their calls apart: the kinds of items, their calls, and replies at the places of items.
 
 ghost use Rattle.std.specs.Prelude.{◌≡◌, List, [], ◌∷◌, map, IfOk};
+ghost use Rattle.std.specs.List.{list_all};
 ghost use Rattle.std.specs.Option.{option_map_or};
 ghost use Rattle.std.specs.Vec.Iter.{into_iter_items};
 ghost use Rattle.jm_scenario.specs.declared.item.ItemKind.{ItemKind};
@@ -59,9 +60,17 @@ fn reply_to(kind: ItemKind, replies: &mut IntoIter<Reply>) -> Option<Reply>
     }
 }
 
+/// Whether each item is a call.
+fn are_calls(kinds: &[ItemKind]) -> bool
+    ensures { result ≡ list_all spec.is_call kinds.now }
+{
+    kinds.iter().all(|kind| matches!(kind, ItemKind::Call))
+}
+
 /// The replies to items of those kinds, in order, where those to the calls among them are given: each fork and each join is
 /// answered `Done`, and a call by the next reply; where none is left, the replies end there. `AllocError` where a request
 /// for memory was refused.
+#[tactic(auto, using(crate::proofs::Outlined::calls_in_place))]
 pub fn replies_in_place(
     alloc: Global,
     kinds: &[ItemKind],
@@ -69,6 +78,9 @@ pub fn replies_in_place(
 ) -> Result<Vec<Reply>, AllocError>
     ensures { IfOk result (λ all. all.items ≡ spec.replies_in_place kinds.now replies.items) }
 {
+    if replies.len() <= kinds.len() && are_calls(kinds) {
+        return Ok(replies);
+    }
     let mut all = Vec::with_capacity(alloc, kinds.len())?;
     let mut replies = replies.into_iter();
     for kind in kinds {

@@ -5,8 +5,8 @@ ghost use Rattle.serde_json.specs.View.{view};
 ghost use Rattle.jm_scenario.specs.Outer as spec;
 
 use crate::item::{Item, item_in_place};
-use crate::misfit::Misfit;
 use crate::scenario::{ScenarioFault, fault_at};
+use jm_fields::Misfit;
 use serde_json::Value;
 use std::alloc::Global;
 

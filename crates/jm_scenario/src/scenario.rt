@@ -5,13 +5,11 @@ ghost use Rattle.serde_json.specs.Data.{Members, object};
 ghost use Rattle.jm_scenario.specs.Calls as spec;
 ghost use Rattle.jm_scenario.specs.Outer.{Describes};
 
-use crate::field::{Field, FieldName};
 use crate::item::Item;
-use crate::misfit::Misfit;
 use crate::outer::{Outer, read_outer};
 use crate::parsed::{next_value, value_of};
-use crate::value::held;
 use jm_base::List;
+use jm_fields::{Field, FieldName, Misfit, held};
 use json::{Invalid, Reader, Scratch, Token};
 use std::alloc::{AllocError, AllocFailed, Global};
 use std::{fmt, str};

@@ -1,6 +1,6 @@
 use Rattle.std.proofs.Common.{◌≡◌, true, rules}
 use Rattle.serde_json.specs.View.{view}
-use Rattle.jm_scenario.specs.Fields.{is_operation_in_place}
+use Rattle.jm_fields.specs.Fields.{is_operation_in_place}
 use Rattle.jm_scenario.proofs.Operations.{call_stays}
 use Rattle.jm_scenario.proofs.call.call.Goals as goal
 

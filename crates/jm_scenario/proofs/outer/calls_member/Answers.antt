@@ -1,13 +1,11 @@
-use Rattle.std.proofs.Common.{◌≡◌, ◌∙◌, ◌∷◌, [], None, refl, ap, sym, arith, rules}
+use Rattle.std.proofs.Common.{◌≡◌, ◌∙◌, ◌∷◌, [], None, option_map, refl, ap, sym, arith, rules}
 use Rattle.json.specs.Token.{Token}
-use Rattle.json.specs.Json.{number, value}
+use Rattle.json.specs.Json.{value}
 use Rattle.json.specs.Reads.{token_of}
-use Rattle.json.specs.Value.{value_view}
-use Rattle.json.specs.declared.value.Value.{Number, the_lemmas}
 use Rattle.json.proofs.Grammar.{value_is}
-use Rattle.serde_json.specs.Data.{array, boolean, null, object, string}
+use Rattle.serde_json.specs.Data.{array, boolean, null, number, object, string}
 use Rattle.serde_json.specs.Read.{converted, of_json}
-use Rattle.serde_json.specs.View.{view}
+use Rattle.serde_json.specs.View.{number_view}
 use Rattle.jm_scenario.proofs.Loops.{array_read, array_refused, number_read, number_refused, object_read, object_refused}
 use Rattle.jm_scenario.proofs.outer.calls_member.Goals as goal
 
@@ -46,20 +44,18 @@ returns-in_default-clause-value c never =
     let empty : c.args.reader.now ≡ [] = grind arith in
     ap (converted of_json) (ap (value 126) empty ∙ value_is 126 [])
 
-pub returns-in_err-owned-in-Number-clause-value : goal.returns-in_err-owned-in-Number-clause-value
-returns-in_err-owned-in-Number-clause-value c =
+pub returns-in-None-clause-value : goal.returns-in-None-clause-value
+returns-in-None-clause-value c never =
     let first : c.args.reader.now ≡ token_of c.in-Some.token ∷ c.next.new.self = grind arith in
     let is : c.args.reader.now ≡ Token.number c.in-Number.text.now ∷ c.next.new.self = grind (arith, first) in
-    let refused = number_refused 126 c.in-Number.text.now c.next.new.self in
-    rw is (search (rules, refused, the_lemmas))
+    ap (λ ts. converted of_json (value 126 ts)) is ∙ number_refused 126 c.in-Number.text.now c.next.new.self (ap (option_map number) (sym c.in-None.ensures))
 
-pub returns-in_ok-owned-in-Number-clause-value : goal.returns-in_ok-owned-in-Number-clause-value
-returns-in_ok-owned-in-Number-clause-value c =
+pub returns-in-Some-number-clause-value : goal.returns-in-Some-number-clause-value
+returns-in-Some-number-clause-value c =
     let first : c.args.reader.now ≡ token_of c.in-Some.token ∷ c.next.new.self = grind arith in
     let is : c.args.reader.now ≡ Token.number c.in-Number.text.now ∷ c.next.new.self = grind (arith, first) in
-    let seen : value_view (Number c.in-Number.text) ≡ number c.in-Number.text.now = search (rules, the_lemmas) in
-    let one = view c.in_ok-owned-in-Number.field-0 in
-    let read = number_read 126 c.in-Number.text.now c.next.new.self one (ap of_json (sym seen) ∙ c.in_ok-owned-in-Number.ensures) in
+    let one = number (number_view c.in-Some-number.field-0) in
+    let read = number_read 126 c.in-Number.text.now c.next.new.self one (ap (option_map number) (sym c.in-Some-number.ensures)) in
     (one, ap (λ ts. converted of_json (value 126 ts)) is ∙ read.0, read.1)
 
 pub returns-in-String-clause-value : goal.returns-in-String-clause-value
