@@ -448,3 +448,85 @@ fn no_subscription_accepts_what_goes_to_a_queue(rt: HostRuntime) {
     let told = takers(rt.alloc(), At::Queue("t"), Some(1));
     holds(&rt, "the queue t", told == Some(0));
 }
+
+/// Subscriptions of several channels of two topics, in mixed order of creation: some ask for a literal, by `=` alone or in an
+/// AND, and others ask for none.
+static CHANNELS: [Row; 8] = [
+    (1, "t", Some("x = 7")),
+    (2, "t", None),
+    (3, "t", Some("8 = x")),
+    (4, "t", Some("x = 7 AND y IS NULL")),
+    (5, "u", Some("x = 7")),
+    (6, "t", Some("x > 6")),
+    (7, "t", Some("x = 7 OR x = 8")),
+    (8, "t", Some("x = 7")),
+];
+
+/// Those subscriptions; a want of memory is seen by what is missing.
+fn of_channels(alloc: Global) -> Subs {
+    let mut subs = Subs::new(alloc);
+    for row in &CHANNELS {
+        let _ = create(alloc, &mut subs, *row);
+    }
+    subs
+}
+
+/// Topics and properties of messages, and who accepts each.
+static HEARD: [(&str, Option<i64>, u32); 6] = [
+    ("t", Some(7), 124_678),
+    ("t", Some(8), 2367),
+    ("t", Some(9), 26),
+    ("t", None, 2),
+    ("u", Some(7), 5),
+    ("u", Some(8), 0),
+];
+
+#[test]
+fn takers_of_channels(rt: HostRuntime) {
+    for (row, (topic, x, wanted)) in HEARD.iter().enumerate() {
+        let told = takers_at(rt.alloc(), &of_channels(rt.alloc()), At::Topic(topic), *x);
+        holds_at(&rt, row, told == Some(*wanted));
+    }
+}
+
+/// What a consumer asks for in place of what it asked for, the property of a message to t, and who accepts it then.
+static ASKED_AGAIN: [(Row, Option<i64>, u32); 5] = [
+    ((4, "t", Some("x = 8")), Some(7), 12_678),
+    ((4, "t", Some("x = 8")), Some(8), 23_674),
+    ((1, "t", Some("x = 7")), Some(7), 246_781),
+    ((2, "t", Some("x = 7")), Some(8), 367),
+    ((1, "t", None), Some(7), 246_781),
+];
+
+/// Who accepts a message to t with that property, once that was asked for.
+fn takers_once_asked(alloc: Global, row: Row, x: Option<i64>) -> Option<u32> {
+    let mut subs = of_channels(alloc);
+    let _ = create(alloc, &mut subs, row);
+    takers_at(alloc, &subs, At::Topic("t"), x)
+}
+
+#[test]
+fn channels_asked_again(rt: HostRuntime) {
+    for (number, (row, x, wanted)) in ASKED_AGAIN.iter().enumerate() {
+        let told = takers_once_asked(rt.alloc(), *row, *x);
+        holds_at(&rt, number, told == Some(*wanted));
+    }
+}
+
+/// The consumer that is closed, and who accepts a message to t whose property is 7 then.
+static CLOSED: [(u32, u32); 4] = [(1, 24_678), (2, 14_678), (5, 124_678), (8, 12_467)];
+
+/// Who accepts that message, once the consumer was closed.
+fn takers_once_closed(alloc: Global, consumer: u32) -> Option<u32> {
+    let mut subs = of_channels(alloc);
+    let _ = make_change(alloc, &mut subs, Change::Close(consumer));
+    takers_at(alloc, &subs, At::Topic("t"), Some(7))
+}
+
+#[test]
+fn channels_closed(rt: HostRuntime) {
+    for (row, (consumer, wanted)) in CLOSED.iter().enumerate() {
+        let told = takers_once_closed(rt.alloc(), *consumer);
+        holds_at(&rt, row, told == Some(*wanted));
+    }
+}

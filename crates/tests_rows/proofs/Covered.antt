@@ -3,9 +3,10 @@ use Rattle.std.proofs.Common.{◌≡◌, ℕ, ◌+◌, ◌<◌, ◌≤◌, nat_l
 use Rattle.std.specs.List.{find, All}
 use Rattle.std.proofs.lemmas.Bool.Decides.{nat_tests}
 use Rattle.std.proofs.lemmas.List.Elements.{All-nil, All-cons}
-use Rattle.jm_pending.specs.declared.row.Row.{Row}
-use Rattle.jm_pending.specs.Rows.{Held, is_from}
-use Rattle.jm_pending.specs.Holders.{Messages, Covers, holders_of, rows_at}
+use Rattle.jm_lane.specs.declared.row.Row.{Row}
+use Rattle.jm_lane.specs.Rows.{is_from}
+use Rattle.jm_pending.specs.Rows.{Held}
+use Rattle.jm_lane.specs.Holders.{Messages, Covers, holders_of, rows_at}
 
 pub none_of : (o : Option Row) → is_some o ≡ false → o ≡ None
 none_of None h = refl

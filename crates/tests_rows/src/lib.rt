@@ -11,6 +11,8 @@ mod keys;
 #[cfg(test)]
 mod loaded;
 #[cfg(test)]
+mod many;
+#[cfg(test)]
 mod messages;
 #[cfg(test)]
 mod outgoing;

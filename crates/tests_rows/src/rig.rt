@@ -21,7 +21,7 @@ pub(crate) struct Rig {
 }
 
 impl Model for Rig {
-    ghost use Rattle.jm_pending.specs.Holders.{Covers};
+    ghost use Rattle.jm_lane.specs.Holders.{Covers};
     ghost use Rattle.jm_pending.specs.Rows.{Held as HeldShown};
 
     ghost Value = { HeldShown };

@@ -79,7 +79,7 @@ fn truth(alloc: Global, text: &str, given: Given) -> Option<Truth> {
 }
 
 /// Selectors, the property x, and what the selector is.
-static ROWS: [(&str, Given, Truth); 15] = [
+static ROWS: [(&str, Given, Truth); 21] = [
     ("x IN ('a','a','b')", Given::Text("a"), Truth::True),
     ("x IN ('a','a','b')", Given::Text("b"), Truth::True),
     ("x IN ('a','a','b')", Given::Text("c"), Truth::False),
@@ -103,6 +103,20 @@ static ROWS: [(&str, Given, Truth); 15] = [
     ("x LIKE '%'", Given::Long(1), Truth::False),
     ("x NOT LIKE '%'", Given::Long(1), Truth::True),
     ("JMSPriority IN ('4')", Given::Nothing, Truth::False),
+    ("x IN ('ab','ac','ad')", Given::Text("ad"), Truth::True),
+    ("x IN ('ab','ac','ad')", Given::Text("ae"), Truth::False),
+    ("x IN ('ab','ac','ad')", Given::Text("a"), Truth::False),
+    ("x IN ('a','')", Given::Text(""), Truth::True),
+    (
+        "x IN ('1','2','3','4','5','6','7','8','9')",
+        Given::Text("9"),
+        Truth::True,
+    ),
+    (
+        "x IN ('1','2','3','4','5','6','7','8','9')",
+        Given::Text("0"),
+        Truth::False,
+    ),
 ];
 
 #[test]

@@ -76,11 +76,11 @@ impl Trial for Tables {
     fn call(&mut self) -> Called {
         match self.number {
             0 => Called {
-                name: "jm_pending Table::copy",
+                name: "jm_lane Table::copy",
                 answer: copied(&self.table),
             },
             1 => Called {
-                name: "jm_pending Table::reserve",
+                name: "jm_lane Table::reserve",
                 answer: reserved(&mut self.table),
             },
             2 => Called {

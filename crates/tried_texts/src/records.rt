@@ -42,7 +42,8 @@ fn draft(alloc: Global) -> Result<Draft, Refusal> {
     }
 }
 
-fn message(alloc: Global) -> Result<Message, Refusal> {
+/// A message with a correlation ID, a type, a body and a property.
+pub(crate) fn message(alloc: Global) -> Result<Message, Refusal> {
     let (sender, now) = (sender()?, Moment::new(1000)?);
     let topic = Destination::topic(alloc, "news")?;
     stamp(draft(alloc)?, topic, sender, 1, now)

@@ -1,17 +1,21 @@
 //! Selectors as they stand.
 
+use crate::records::message;
 use jm_base::{Refusal, Str};
-use jm_selector::{Selector, copy_text};
+use jm_header::Message;
+use jm_selector::{Literal, Selector, copy_text, literals};
 use std::alloc::{AllocError, Global};
 use tried::{Answer, Called, Made, Trial, same, tell};
 
-/// The text of a selector, and the selector.
+/// The text of a selector, the selector, one that asks for a literal, and a message.
 #[derive(Drop)]
 struct Selectors {
     alloc: Global,
     number: usize,
     text: Option<Str>,
     selector: Selector,
+    asking: Selector,
+    message: Message,
 }
 
 fn text(alloc: Global) -> Result<Option<Str>, AllocError> {
@@ -20,6 +24,14 @@ fn text(alloc: Global) -> Result<Option<Str>, AllocError> {
 
 fn selector(alloc: Global) -> Result<Selector, Refusal> {
     Selector::read(alloc, &text(alloc)?)
+}
+
+fn asking_text(alloc: Global) -> Result<Option<Str>, AllocError> {
+    Ok(Some(Str::new(String::from_str(alloc, "JMSType = 'order'")?)))
+}
+
+fn asking(alloc: Global) -> Result<Selector, Refusal> {
+    Selector::read(alloc, &asking_text(alloc)?)
 }
 
 /// The length of the text.
@@ -51,6 +63,29 @@ fn copied_text(text: &Option<Str>) -> Answer {
     }
 }
 
+/// The length of the text.
+fn size(literal: &Option<Literal>) -> u64 {
+    match literal {
+        Some(Literal::Text(text)) => text.as_str().len() as u64,
+        _ => 0,
+    }
+}
+
+fn asked(selector: &Selector) -> Answer {
+    match selector.literal() {
+        Ok(literal) => Ok(size(&literal)),
+        Err(_) => Err(Refusal::Memory),
+    }
+}
+
+/// How many literals the message has.
+fn counted(alloc: Global, message: &Message) -> Answer {
+    match literals(alloc, message) {
+        Ok(literals) => Ok(literals.len() as u64),
+        Err(_) => Err(Refusal::Memory),
+    }
+}
+
 impl Selectors {
     fn new(alloc: Global, number: usize) -> Result<Selectors, Refusal> {
         Ok(Selectors {
@@ -58,6 +93,8 @@ impl Selectors {
             number,
             text: text(alloc)?,
             selector: selector(alloc)?,
+            asking: asking(alloc)?,
+            message: message(alloc)?,
         })
     }
 }
@@ -81,6 +118,14 @@ impl Trial for Selectors {
             2 => Called {
                 name: "jm_selector copy_text",
                 answer: copied_text(&self.text),
+            },
+            3 => Called {
+                name: "jm_selector Selector::literal",
+                answer: asked(&self.asking),
+            },
+            4 => Called {
+                name: "jm_selector literals",
+                answer: counted(self.alloc, &self.message),
             },
             _ => Called::NONE,
         }

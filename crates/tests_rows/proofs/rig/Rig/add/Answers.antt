@@ -1,6 +1,7 @@
 use Rattle.std.proofs.Common.{◌≡◌, ◌∙◌, ap, sym, None}
 use Rattle.std.specs.List.{find}
-use Rattle.jm_pending.specs.Rows.{Held, is_from}
+use Rattle.jm_lane.specs.Rows.{is_from}
+use Rattle.jm_pending.specs.Rows.{Held}
 use Rattle.tests_rows.proofs.Covered.{all_below, none_of, roomy_covers, still_covers}
 use Rattle.tests_rows.proofs.rig.Rig.add.Goals as goal
 
