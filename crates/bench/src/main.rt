@@ -1,11 +1,15 @@
 //! Counted work on the core. The words are a kind of work, its rounds, the rows that are held before it, and its subscribers
 //! (or topics). With `kept` as a further word what is stored is kept in memory; with `timed` the nanoseconds a round are
-//! printed too.
+//! printed too. Or the words are `evaluate`, the rounds, a selector, and the properties of a message, each as `NAME=VALUE`: the
+//! selector is evaluated over the message in each round.
 #![tactic(auto)]
 
+mod evaluation;
 mod provider;
 mod work;
 
+use evaluation::Evaluation;
+use jm_base::Refusal;
 use jm_keep::{Keep, MemKeep, NoKeep};
 use provider::Provider;
 use std::alloc::Global;
@@ -71,9 +75,43 @@ fn run<K: Keep + Drop>(
     }
 }
 
+/// The evaluation that the words ask for.
+fn evaluation_of(alloc: Global, words: &[String]) -> Option<Result<Evaluation, Refusal>> {
+    match words {
+        [kind, rounds, selector, properties @ ..] if kind.as_str() == "evaluate" => {
+            let rounds = rounds.as_str().parse().ok()?;
+            Some(Evaluation::new(alloc, rounds, selector.as_str(), properties))
+        }
+        _ => None,
+    }
+}
+
+/// Prints how often the message was selected, and with `timed` among its words how long a round took.
+fn evaluate(
+    rt: &(impl Clock + Print),
+    evaluation: Result<Evaluation, Refusal>,
+    is_timed: bool,
+) -> io::Result<()> {
+    let Ok(evaluation) = evaluation else {
+        return println!(rt; "refused");
+    };
+    let start = Instant::now(rt)?;
+    let selected = evaluation.work();
+    println!(rt; "selected {selected}")?;
+    if is_timed {
+        let nanoseconds = start.elapsed(rt)?.as_nanos() / u128::from(evaluation.rounds().max(1));
+        println!(rt; "{nanoseconds} ns")?;
+    }
+    Ok(())
+}
+
 fn main(rt: HostRuntime) -> io::Result<ExitCode> {
     let alloc = rt.alloc();
     let words: Vec<String> = env::args(&rt)?.skip(1).collect(alloc)?;
+    if let Some(evaluation) = evaluation_of(alloc, &words) {
+        evaluate(&rt, evaluation, has_word(&words, "timed"))?;
+        return Ok(ExitCode::from(0));
+    }
     match load_of(&words) {
         None => {
             println!(&rt; "bench: KIND ROUNDS HELD SUBSCRIBERS [kept] [timed]")?;
