@@ -1,0 +1,3 @@
+pub mod Items
+pub mod SlotList
+pub mod Lends
