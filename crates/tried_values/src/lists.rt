@@ -1,6 +1,7 @@
-//! Texts, lists and boxes.
+//! Texts, lists, boxes and slots.
 
 use jm_base::{Boxed, List, Refusal, Str};
+use jm_slots::Slots;
 use std::alloc::{AllocError, Global};
 use tried::{Answer, Called, Made, Trial, tell, two};
 
@@ -66,7 +67,54 @@ impl Trial for Lists {
     }
 }
 
+/// Two items in slots, of which one was taken out.
+#[derive(Drop)]
+struct Items {
+    slots: Slots<u64>,
+}
+
+fn put_two(slots: &mut Slots<u64>) -> Result<(), AllocError> {
+    slots.reserve(2)?;
+    slots.push(7);
+    slots.push(8);
+    if slots.get(0).is_some() && slots.leaving() > 0 {
+        let _ = slots.take(0);
+    }
+    Ok(())
+}
+
+impl Items {
+    fn new(alloc: Global) -> Result<Items, Refusal> {
+        let mut slots = Slots::new(alloc);
+        match put_two(&mut slots) {
+            Ok(()) => Ok(Items { slots }),
+            Err(AllocError) => Err(Refusal::Memory),
+        }
+    }
+}
+
+impl Trial for Items {
+    /// How many slots there are, and how many items.
+    fn state(&self) -> u64 {
+        two(self.slots.end(), self.slots.len())
+    }
+
+    fn call(&mut self) -> Called {
+        let answer = match self.slots.reserve(100) {
+            Ok(()) => Ok(self.slots.len() as u64),
+            Err(AllocError) => Err(Refusal::Memory),
+        };
+        Called {
+            name: "jm_slots Slots::reserve",
+            answer,
+        }
+    }
+}
+
 /// Makes the call of that number.
 pub fn made(alloc: Global, number: usize) -> Made {
-    tell(Lists::new(alloc, number))
+    match number {
+        3 => tell(Items::new(alloc)),
+        _ => tell(Lists::new(alloc, number)),
+    }
 }
