@@ -1,3 +1,4 @@
 pub mod Rising
 pub mod Items
 pub mod Counts
+pub mod Marked

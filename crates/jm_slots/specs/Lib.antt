@@ -1,3 +1,4 @@
 pub mod Items
 pub mod SlotList
 pub mod Lends
+pub mod Marks

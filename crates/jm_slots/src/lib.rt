@@ -8,8 +8,9 @@
 //! from the one to the other. `get` and `at` give items back, by slot and by index; `get_mut` lends one to write (`with_item`).
 //!
 //! `reserve` makes room and changes nothing but the room; it alone wants memory. `push` puts an item behind all others. `take`
-//! takes one out of its slot, and each other keeps its own. `sweep` closes all gaps: each item's slot is then its index. `clear`
-//! lets all go.
+//! takes one out of its slot, and each other keeps its own. `sweep` closes all gaps: each item's slot is then its index, and so
+//! does `retain_marked`, which lets those go that are not marked to stay. `clear` lets all go. `keep_marked` does as
+//! `retain_marked` with a list, for what stands beside the slots (`marked_below`).
 //!
 //! # Costs
 //!
@@ -20,7 +21,9 @@
 //! A slot takes what an `Option<T>` takes, and a byte at least for its part of the room for gaps.
 #![tactic(auto)]
 
+mod marks;
 mod search;
 mod slot_list;
 
+pub use marks::keep_marked;
 pub use slot_list::Slots;

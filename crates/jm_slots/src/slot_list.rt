@@ -4,7 +4,9 @@ ghost use Rattle.std.specs.Prelude.{◌≡◌, ◌+◌, ◌-◌, ◌*◌, ◌^�
 ghost use Rattle.std.specs.Borrow.{sem};
 ghost use Rattle.std.specs.Option.{option_copied};
 ghost use Rattle.jm_slots.specs.Items.{item_in, items, items_before};
+ghost use Rattle.jm_slots.specs.Marks.{marked_below};
 
+use crate::marks::keep_marked;
 use crate::search::{count_below, count_passed};
 use std::alloc::{AllocError, Global};
 use std::marker::Model;
@@ -189,6 +191,20 @@ impl<T: Drop> Slots<T> {
         ensures leaving { let gaps = length self.old.slots - length (items self.old.slots) in self.new.leaving ≡ self.old.leaving + gaps }
         ensures eighth { length (items self.old.slots) ≤ 8 * self.new.leaving }
     {
+        self.slots.retain(|slot| slot.is_some());
+        self.gaps.clear();
+    }
+
+    /// Leaves the items whose slots have marks below `gone`, in their order, and closes all gaps: each then stands in the slot
+    /// that is its index. Each slot is looked at twice, however many go. Takes no memory.
+    pub fn retain_marked(&mut self, marks: &[usize], gone: usize)
+        requires { length marks.now ≡ length self.old.slots }
+        ensures slots { self.new.slots ≡ map (λ item. Some item) (items (marked_below gone marks.now self.old.slots)) }
+        ensures spare { self.old.spare ≤ self.new.spare }
+        ensures leaving { self.old.leaving ≤ self.new.leaving }
+        ensures eighth { length self.new.slots ≤ 8 * self.new.leaving }
+    {
+        keep_marked(&mut self.slots, marks, gone);
         self.slots.retain(|slot| slot.is_some());
         self.gaps.clear();
     }

@@ -1,0 +1,9 @@
+pub mod Lists
+pub mod Orders
+pub mod Changed
+pub mod Slotted
+pub mod Marked
+pub mod Columns
+pub mod Entries
+pub mod Distinct
+pub mod Copied

@@ -1,0 +1,15 @@
+use Rattle.std.proofs.Common.{◌≡◌, ◌∙◌, Some, ap, arith, length, sym}
+use Rattle.std.specs.List.{slice_get}
+use Rattle.std.specs.Map.{values_of}
+use Rattle.jm_indexed.proofs.Slotted.{length-entries, pair_there, value_at}
+use Rattle.jm_indexed.proofs.key_map.KeyMap.entry_at.Goals as goal
+
+pub at-requires : goal.at-requires
+at-requires g c =
+    omega (arith, c.requires, ap (λ m. length m.entries) c.self.view_is, length-entries c.self.inside.keys.items c.self.inside.values.slots c.self.invariant.even)
+
+pub returns : goal.returns
+returns g c =
+    let there : slice_get (values_of c.args.self.now.entries) c.args.index ≡ Some c.at.result.now =
+    ap (λ m. slice_get (values_of m.entries) c.args.index) (sym c.self.view_is) ∙ value_at c.self.inside.keys.items c.self.inside.values.slots c.args.index c.at.result.now c.self.invariant.even c.at.ensures in
+    pair_there c.args.self.now.entries c.args.index c.key_at.result.now c.at.result.now (c.key_at.ensures c.key_at.result.now) there

@@ -1,0 +1,31 @@
+use Rattle.std.proofs.Common.{◌∙◌, ◌+◌, ◌-◌, ◌/◌, ◌<◌, ℕ, arith, ap, sym, length, get_or}
+use Rattle.std.specs.Ordering.{is_lt}
+use Rattle.std.proofs.lemmas.List.{get_or_read}
+use Rattle.jm_indexed.proofs.Orders.{low_half, high_half}
+use Rattle.jm_indexed.proofs.order.count_before.Goals as goal
+
+pub loop-low-preserved-then-is_lt : goal.loop-low-preserved-then-is_lt
+loop-low-preserved-then-is_lt g c =
+    let middle : ℕ = c.loop-low.low + (c.loop-low.high - c.loop-low.low) / 2 in
+    let inside : middle < c.loop-low.high = omega arith in
+    let within : middle < length c.args.order.now = omega (arith, inside, c.loop-low.invariant.within) in
+    let read = get_or_read c.args.keys.now (get_or c.args.order.now middle 0) c.index-keys-order.result (c.requires.within middle 0 within) c.index-keys-order.is c.args.key.now in
+    record {
+      ends = omega (arith, inside);
+      within = c.loop-low.invariant.within;
+      before = low_half g.met.K.Ord.total c.args.keys.now c.args.order.now c.requires c.args.key.now middle within (ap (λ x. is_lt (g.K.Ord.cmp x c.args.key.now)) (sym read) ∙ ap is_lt (sym c.cmp.ensures) ∙ sym c.is_lt.ensures ∙ c.if-is_lt.true);
+      behind = c.loop-low.invariant.behind;
+    }
+
+pub loop-low-preserved : goal.loop-low-preserved
+loop-low-preserved g c =
+    let middle : ℕ = c.loop-low.low + (c.loop-low.high - c.loop-low.low) / 2 in
+    let inside : middle < c.loop-low.high = omega arith in
+    let within : middle < length c.args.order.now = omega (arith, inside, c.loop-low.invariant.within) in
+    let read = get_or_read c.args.keys.now (get_or c.args.order.now middle 0) c.index-keys-order.result (c.requires.within middle 0 within) c.index-keys-order.is c.args.key.now in
+    record {
+      ends = omega arith;
+      within = omega (arith, within);
+      before = c.loop-low.invariant.before;
+      behind = high_half g.met.K.Ord.total c.args.keys.now c.args.order.now c.requires c.args.key.now middle within (ap (λ x. is_lt (g.K.Ord.cmp x c.args.key.now)) (sym read) ∙ ap is_lt (sym c.cmp.ensures) ∙ sym c.is_lt.ensures ∙ c.if-is_lt.false);
+    }
