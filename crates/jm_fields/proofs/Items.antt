@@ -6,7 +6,10 @@ use Rattle.jm_base.specs.declared.refusal.MessageFault.TheVariants.{BadName, Mem
 use Rattle.jm_header.specs.declared.content.Settings.{Settings}
 use Rattle.jm_fields.specs.Reading.{where_true}
 use Rattle.jm_fields.specs.Drafts.{with_three}
+use Rattle.jm_fields.specs.Misfits.{misfit_of_items}
 use Rattle.jm_fields.specs.Values.{session_of_items}
+use Rattle.jm_fields.specs.declared.field.Field.TheVariants.{Session}
+use Rattle.jm_fields.specs.declared.misfit.Misfit.TheVariants.{Shape}
 
 -- items of another length than two spell no session
 pub session_of_items-others : (values : List Value) → (length values ≡ 2 → ⊥) → session_of_items (items_view values) ≡ None
@@ -14,6 +17,13 @@ session_of_items-others [] other = refl
 session_of_items-others (a ∷ []) other = refl
 session_of_items-others (a ∷ b ∷ []) other = absurd (other refl)
 session_of_items-others (a ∷ b ∷ c ∷ values) other = refl
+
+-- nor is it one of the two that is told
+pub misfit_of_items-others : (values : List Value) → (length values ≡ 2 → ⊥) → misfit_of_items (items_view values) ≡ Shape Session
+misfit_of_items-others [] other = refl
+misfit_of_items-others (a ∷ []) other = refl
+misfit_of_items-others (a ∷ b ∷ []) other = absurd (other refl)
+misfit_of_items-others (a ∷ b ∷ c ∷ values) other = refl
 
 -- items of another length than three spell no property
 pub with_three-others : (values : List Value) (draft : Settings) → (length values ≡ 3 → ⊥) → with_three (items_view values) draft ≡ None

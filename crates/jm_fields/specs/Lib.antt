@@ -1,4 +1,5 @@
 pub mod Reading
 pub mod Fields
 pub mod Values
+pub mod Misfits
 pub mod Drafts

@@ -8,8 +8,9 @@
 //! request for memory was refused. `Owner` is what has fields: `unknown` is a field of an object exactly where its owner does
 //! not have each (`is_known`).
 //!
-//! Which other fault is told, and which field it names, is not in the contract, but tested: `Shape` where the field is missing,
-//! of another type or out of its range, and `Floating` where it is a number that is no whole number of 64 bits.
+//! Which other fault a reader tells is defined beside what it reads (`specs/Misfits.antt`): `Floating` where a value is a number
+//! that is no whole number of 64 bits, else `Shape` of the field, as where it is missing, of another type or out of its range.
+//! Only of `draft`, which reads several fields, is not in the contract, but tested, which of their faults it tells.
 #![tactic(auto)]
 
 mod drafts;
