@@ -15,3 +15,6 @@ returns-in-Ok-clause-told g c =
           let clean = rw c.into_connection.ensures.same at k in
           rw c.into_connection.ensures.same (run.ensures.kept clean (c.requires (run.ensures.clean clean))),
     )
+
+pub returns-in-Ok-clause-clean : goal.returns-in-Ok-clause-clean
+returns-in-Ok-clause-clean g c = λ k. c.printout_over-told.ensures.clean (rw c.into_connection.ensures.same at k)
