@@ -17,6 +17,7 @@ pub mod Listening
 mod Sends
 mod Reached
 mod Within
+mod Opens
 mod Outstanding
 mod Reopening
 mod Restored

@@ -1,6 +1,6 @@
 //! What the queues hold.
 
-ghost use Rattle.std.specs.Prelude.{◌≡◌, ◌≤◌, ◌<◌, ◌+◌, ◌++◌, ◌&&◌, ℕ, true, false, List, [], ◌∷◌, not, is_some, map, length, slice_index_or, None, Some, IfSome, IfOk, OnOk, OnErr};
+ghost use Rattle.std.specs.Prelude.{◌≡◌, ◌≤◌, ◌<◌, ◌+◌, ◌^◌, ◌++◌, ◌&&◌, ℕ, true, false, List, [], ◌∷◌, not, is_some, map, length, slice_index_or, None, Some, IfSome, IfOk, OnOk, OnErr};
 ghost use Rattle.jm_dest.specs.declared.key.Key.{Key as KeyShown};
 ghost use Rattle.jm_dest.specs.declared.key.Key.TheVariants as key;
 ghost use Rattle.jm_dest.specs.declared.destination.Destination.TheVariants as destination;
@@ -112,11 +112,22 @@ impl Queues {
         }
     }
 
-    /// The keys of queues, each once.
-    pub(crate) fn keys(&self) -> &[Key]
-        ensures { result.now ≡ self.now.keys }
+    /// How many keys of queues there are, each once.
+    pub(crate) fn len(&self) -> usize
+        ensures len { result ≡ length self.now.keys }
+        ensures small { length self.now.keys < 2 ^ 63 }
     {
-        self.stations.keys()
+        self.stations.len()
+    }
+
+    /// The key with that index.
+    pub(crate) fn key_at(&self, index: usize) -> &Key
+        requires { index < length self.now.keys }
+        ensures { (d : KeyShown) → result.now ≡ slice_index_or self.now.keys index d }
+    {
+        // The length is what says that something is held under each key.
+        let _number = self.stations.len();
+        self.stations.key_at(index)
     }
 
     /// The rows under the key with that index, which are those of its queue.

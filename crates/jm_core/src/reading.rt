@@ -69,18 +69,18 @@ impl CoreState {
         ensures len { result ≡ length (spec.keys_in self.now) }
         ensures covers { spec.CoversRows self.now }
     {
-        self.stations.keys().len() + self.queues.keys().len()
+        self.stations.len() + self.queues.len()
     }
 
     fn key_at(&self, index: usize) -> &Key
         requires { index < length (spec.keys_in self.now) }
         ensures { (d : KeyShown) → result.now ≡ slice_index_or (spec.keys_in self.now) index d }
     {
-        let subscriptions = self.stations.keys();
-        if index < subscriptions.len() {
-            return &subscriptions[index];
+        let subscriptions = self.stations.len();
+        if index < subscriptions {
+            return self.stations.key_at(index);
         }
-        &self.queues.keys()[index - subscriptions.len()]
+        self.queues.key_at(index - subscriptions)
     }
 
     fn index_of(&self, key: &Key) -> Option<usize>
@@ -99,11 +99,11 @@ impl CoreState {
         ensures { spec.IsIndexOf self.now key.now result }
     {
         // The numbers of keys are what says that the sum is in range.
-        let subscriptions = self.stations.keys();
-        let _queues = self.queues.keys();
+        let subscriptions = self.stations.len();
+        let _queues = self.queues.len();
         match self.queues.index_of(key) {
             None => None,
-            Some(index) => Some(subscriptions.len() + index),
+            Some(index) => Some(subscriptions + index),
         }
     }
 
@@ -124,7 +124,7 @@ impl CoreState {
         ensures { IfOk result (λ keys. spec.AreLasting (state_of self.now) publication.now.message keys.items) }
     {
         match &publication.goal {
-            Goal::Queue(index) => one_key(self.alloc, &self.queues.keys()[*index]),
+            Goal::Queue(index) => one_key(self.alloc, self.queues.key_at(*index)),
             Goal::Subscriptions(indexes) => durable_keys(self.alloc, &self.stations, indexes),
         }
     }

@@ -1,6 +1,6 @@
 //! Sets of keys in order of coming.
 
-ghost use Rattle.std.specs.Prelude.{◌≡◌, ◌+◌, ◌<◌, ◌≤◌, ◌==◌, ◌++◌, [], ◌∷◌, filter, length, slice_index_or, IfOk, IfSome, OnOk, IsOk, None};
+ghost use Rattle.std.specs.Prelude.{◌≡◌, ◌+◌, ◌<◌, ◌≤◌, ◌^◌, ◌==◌, ◌++◌, [], ◌∷◌, filter, length, slice_index_or, IfOk, IfSome, OnOk, IsOk, None};
 ghost use Rattle.std.specs.List.{IsDistinct, list_any, remove};
 ghost use Rattle.jm_indexed.specs.Order.{index_in};
 
@@ -61,6 +61,7 @@ impl<K: Ord> KeySet<K> {
     pub fn len(&self) -> usize
         ensures len { result ≡ length self.now.keys }
         ensures once { IsDistinct K.eq self.now.keys }
+        ensures small { length self.now.keys < 2 ^ 63 }
     {
         self.map.len()
     }

@@ -11,7 +11,7 @@ ghost use Rattle.jm_machine.specs.Attached as spec;
 use crate::consumers::Consumers;
 use crate::state::Consumer;
 use jm_dest::Key;
-use jm_keyed::KeyMap;
+use jm_indexed::KeyMap;
 use std::alloc::{AllocError, Global};
 use std::marker::Model;
 
@@ -112,8 +112,8 @@ impl Attached {
         }
     }
 
-    /// Counts one active consumer of the key less, where there is one; with the last one the key goes, and what stands behind
-    /// it moves up. Takes no memory.
+    /// Counts one active consumer of the key less, where there is one; with the last one the key goes. Takes no
+    /// memory.
     pub fn leave(&mut self, key: &Key)
         ensures number { (k : Key) → number_at self.new k ≡ number_at self.old k - (if key_eq key.now k then 1 else 0) }
         ensures spare { self.old.spare ≤ self.new.spare }

@@ -6,7 +6,7 @@ use Rattle.std.specs.Map.{lookup, values_of}
 use Rattle.std.proofs.lemmas.List.Folds.{list_any-append}
 use Rattle.indexmap.specs.IndexMap.{set_value_at}
 use Rattle.jm_dest.specs.Names.{client_eq, text_eq}
-use Rattle.jm_keyed.specs.Entries.{Updates}
+use Rattle.jm_indexed.specs.Entries.{Updates}
 use Rattle.jm_machine.specs.declared.state.ConnectionState.{ConnectionState}
 use Rattle.jm_machine.specs.declared.state.SessionState.{SessionState}
 use Rattle.jm_machine.specs.Life.{is_client_open, is_client_taken}

@@ -5,7 +5,7 @@ ghost use Rattle.jm_machine.specs.Life.{is_client_open};
 ghost use Rattle.jm_session.specs.Clients.{IsIndexOf, has_client, is_indexed, room};
 
 use jm_dest::{ClientId, ConnectionId};
-use jm_keyed::KeyMap;
+use jm_indexed::KeyMap;
 use jm_machine::ConnectionState;
 use std::alloc::{AllocError, Global};
 

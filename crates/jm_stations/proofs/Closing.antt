@@ -1,7 +1,8 @@
 -- Keys that go with what is held under them.
-use Rattle.std.proofs.Common.{◌≡◌, ◌<◌, ◌≤◌, ℕ, zero, suc, List, [], ◌∷◌, length, get_or, set, take, Bool, true, false, not, cond, refl, ap, sym, subst, ◌∙◌, arith}
+use Rattle.std.proofs.Common.{◌≡◌, ◌<◌, ◌≤◌, ◌+◌, ◌-◌, ℕ, zero, suc, List, [], ◌∷◌, length, get_or, set, take, drop, Bool, true, false, not, cond, refl, ap, sym, subst, ◌∙◌, arith}
 use Rattle.std.specs.List.{All, filter, items_where_true}
 use Rattle.std.specs.List.Retain.{IsFiltered, ReturnsInTurn}
+use Rattle.std.proofs.lemmas.List.{drop_more, length-drop}
 use Rattle.std.proofs.lemmas.List.Elements.{All-nil, All-cons, All-head, All-tail}
 use Rattle.std.proofs.lemmas.List.Sums.{sum_by-cons}
 use Rattle.jm_dest.specs.declared.key.Key.{Key}
@@ -117,6 +118,29 @@ first_left p k h lists answers keys false e rest = rest ∙ ap (λ a. cond a (h 
 none_left : (p : Key → Bool) (h : Held) (lists : List Held) (answers : List Bool) (b : Bool) → b ≡ false → items_where_true answers lists ≡ lists_under p [] lists → items_where_true (b ∷ answers) (h ∷ lists) ≡ lists_under p [] (h ∷ lists)
 none_left p h lists answers true e rest = cc
 none_left p h lists answers false e rest = rest
+
+-- the first of what is left of some items, and what is left behind it
+pub record IsNext {X : Type 0} (xs : List X) (i : ℕ) (x : X) (rest : List X) : Type 0 where
+  pub within : i < length xs
+  pub here : (d : X) → get_or xs i d ≡ x
+  pub behind : drop (i + 1) xs ≡ rest
+
+pub next_left : {X : Type 0} (xs : List X) (i : ℕ) (x : X) (rest : List X) → drop i xs ≡ x ∷ rest → IsNext xs i x rest
+next_left {X} xs i x rest e = record {
+  within = within;
+  here = λ d. ap (λ (ys : List X). get_or ys 0 d) (sym (drop_more xs i d within) ∙ e);
+  behind = ap (λ (ys : List X). drop 1 ys) (sym (drop_more xs i x within) ∙ e);
+}
+  where
+    number : length xs - i ≡ suc (length rest)
+    number = sym (length-drop i xs) ∙ ap length e
+
+    within : i < length xs
+    within = omega (arith, number)
+
+-- nothing is left of some items behind the last
+pub nothing_left : {X : Type 0} (xs : List X) (i : ℕ) → drop i xs ≡ [] → length xs ≤ i
+nothing_left xs i e = let number : length xs - i ≡ 0 = sym (length-drop i xs) ∙ ap length e in omega (arith, number)
 
 module _ {F : Type 0} (R : F → Held → Bool → F → Type 0) (p : Key → Bool) (left : F → List Key) (I : F → Type 0) (step : (f : F) (h : Held) (b : Bool) (f' : F) → I f → R f h b f' → I f' × IsTaken p (left f) (left f') b) where
   told_in_turn : (answers : List Bool) (lists : List Held) (keys : List Key) (f q : F) → I f → left f ≡ keys → length answers ≡ length lists → ReturnsInTurn R f answers lists q → items_where_true answers lists ≡ lists_under p keys lists

@@ -1,5 +1,5 @@
 -- Where keys stand, and a key that is created.
-use Rattle.std.proofs.Common.{◌≡◌, ◌<◌, ◌≤◌, ◌+◌, ◌||◌, ◌++◌, ℕ, zero, suc, length, get_or, Bool, true, false, not, cond, List, [], ◌∷◌, Some, None, refl, ap, sym, subst, ◌∙◌, arith, map, nat_eq, min}
+use Rattle.std.proofs.Common.{◌≡◌, ◌<◌, ◌≤◌, ◌+◌, ◌||◌, ℕ, zero, suc, length, get_or, Bool, true, false, not, cond, List, [], ◌∷◌, Some, None, refl, ap, sym, subst, ◌∙◌, arith, map, nat_eq, min}
 use Rattle.std.specs.Prelude.{IsOk, IfOk, nat_lt}
 use Rattle.std.specs.declared.result.Result.{Result}
 use Rattle.std.specs.declared.result.Result.TheVariants.{Ok, Err}
@@ -13,7 +13,7 @@ use Rattle.jm_dest.specs.declared.key.Key.{Key}
 use Rattle.jm_dest.specs.Keys.{key_eq}
 use Rattle.jm_stations.specs.Backlogs.{changed_at}
 use Rattle.jm_stations.specs.Stations.{index_in}
-use Rattle.jm_machine.proofs.Keys.{set_eq, set_is, key_refl, key_same, key_sym}
+use Rattle.jm_machine.proofs.Keys.{set_eq, set_is, key_refl, key_same}
 
 -- room for both is room for each
 pub room_left : (a b : ℕ) → 0 < min a b → 0 < a

@@ -1,7 +1,8 @@
 -- A list that goes with its rows.
-use Rattle.std.proofs.Common.{◌≡◌, ◌+◌, ◌-◌, ◌<◌, ◌≤◌, ℕ, List, [], length, get_or, subst, ap, ◌∙◌, arith, suc, take, drop}
-use Rattle.std.specs.List.{All, remove}
+use Rattle.std.proofs.Common.{◌≡◌, ◌+◌, ◌-◌, ◌<◌, ◌≤◌, ℕ, Bool, true, false, List, [], length, get_or, refl, subst, ap, ◌∙◌, arith, suc, take, drop}
+use Rattle.std.specs.List.{All, list_any, remove}
 use Rattle.std.proofs.lemmas.List.Elements.{All-take, All-drop, All-append}
+use Rattle.std.proofs.lemmas.List.Folds.{list_any_at}
 use Rattle.std.proofs.lemmas.List.Sums.{sum_by-remove}
 use Rattle.indexmap.proofs.SetLemmas.{map-remove}
 use Rattle.jm_pending.specs.Rows.{Held}
@@ -13,6 +14,14 @@ use Rattle.jm_stations.proofs.Shown.{all_covered, all_backlogs_kept, all_shown_k
 
 pub all_removed : {X : Type 0} (P : X → Type 0) (xs : List X) (k : ℕ) → All P xs → All P (remove xs k)
 all_removed P xs k h = All-append P (take k xs) (drop (suc k) xs) (All-take P k xs h) (All-drop P (suc k) xs h)
+
+-- where no item passes the test, it is false of each
+pub all_false : {X : Type 0} (p : X → Bool) (xs : List X) → list_any p xs ≡ false → All (λ x. p x ≡ false) xs
+all_false {X = X} p xs none = λ i d within. go i d within (p (get_or xs i d)) refl
+  where
+    go : (i : ℕ) (d : X) → i < length xs → (b : Bool) → p (get_or xs i d) ≡ b → p (get_or xs i d) ≡ false
+    go i d within true e = let some : list_any p xs ≡ true = list_any_at p xs i d within e in cc
+    go i d within false e = e
 
 rows_removed : (lists : List Held) (k : ℕ) → all_rows (remove lists k) ≡ remove (all_rows lists) k
 rows_removed lists k = map-remove (λ (h : Held). h.rows) lists k

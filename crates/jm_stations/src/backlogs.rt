@@ -20,6 +20,7 @@ use crate::{copies, lists};
 use jm_base::Boxed;
 use jm_dest::{ConsumerId, Key, Moment, SessionId};
 use jm_header::Message;
+use jm_indexed::KeySet;
 use jm_machine::{Answer, Attached, Consumers, Delivery, PlacedRow, Row as MachineRow, RowState};
 use jm_pending::{Held, Row, Table, Taken};
 use jm_selector::Selector;
@@ -244,9 +245,9 @@ impl Backlogs {
 
     /// The lists whose keys end with those consumers go with their rows, and each message that no other list holds with
     /// them. Takes no memory.
-    pub fn close(&mut self, keys: &[Key], which: &Consumers, attached: &Attached)
-        requires { length keys.now ≡ length self.old.list }
-        ensures list { self.new.list ≡ spec.kept_under (λ k. not (ended which.now attached.now k)) keys.now self.old.list }
+    pub fn close(&mut self, keys: &KeySet<Key>, which: &Consumers, attached: &Attached)
+        requires { length keys.now.keys ≡ length self.old.list }
+        ensures list { self.new.list ≡ spec.kept_under (λ k. not (ended which.now attached.now k)) keys.now.keys self.old.list }
         ensures next_place { self.new.next_place ≡ self.old.next_place }
         ensures message_room { self.old.message_room ≤ self.new.message_room }
         ensures list_room { self.old.list_room ≤ self.new.list_room }

@@ -6,6 +6,7 @@ ghost use Rattle.jm_pending.specs.Placed as placed;
 ghost use Rattle.jm_stations.specs.Kept as kept;
 
 use jm_dest::Key;
+use jm_indexed::KeySet;
 use jm_machine::{PlacedRow, Row as MachineRow};
 use jm_pending::{Held, Row, Table};
 use std::alloc::{AllocError, Global};
@@ -61,12 +62,12 @@ pub(crate) fn copy_lists(alloc: Global, lists: &[Held]) -> Result<Vec<Held>, All
 }
 
 /// The same keys, in their order.
-pub(crate) fn copy_keys(alloc: Global, keys: &[Key]) -> Result<Vec<Key>, AllocError>
-    ensures { IfOk result (λ copies. copies.items ≡ keys.now) }
+pub(crate) fn copy_keys(alloc: Global, keys: &KeySet<Key>) -> Result<Vec<Key>, AllocError>
+    ensures { IfOk result (λ copies. copies.items ≡ keys.now.keys) }
 {
     let mut copies = Vec::with_capacity(alloc, keys.len())?;
-    for key in keys {
-        copies.push(key.copy()?)?;
+    for index in 0..keys.len() {
+        copies.push(keys.key_at(index).copy()?)?;
     }
     Ok(copies)
 }

@@ -1,8 +1,9 @@
 //! Many lists of rows over one table.
 
-ghost use Rattle.std.specs.Prelude.{◌≡◌, ◌≤◌, ◌<◌, ◌+◌, ◌-◌, ℕ, true, not, nat_eq, All, length, slice_index_or, map, option_map, OnOk, vec_capacity, vec_len};
+ghost use Rattle.std.specs.Prelude.{◌≡◌, ◌≤◌, ◌<◌, ◌+◌, ◌-◌, ℕ, [], true, not, nat_eq, All, length, slice_index_or, map, option_map, OnOk, vec_capacity, vec_len};
 ghost use Rattle.std.specs.List.{IsDistinct};
 ghost use Rattle.jm_dest.specs.Numbers.{long_end};
+ghost use Rattle.jm_dest.specs.declared.key.Key.TheVariants.{Queue};
 ghost use Rattle.jm_machine.specs.Attached.{ended};
 ghost use Rattle.jm_machine.specs.Machine.{are_meant};
 ghost use Rattle.jm_pending.specs.Counts.{IsCounted};
@@ -15,6 +16,7 @@ ghost use Rattle.jm_stations.specs.Backlogs.{changed_at};
 ghost use Rattle.jm_stations.specs.Kept as kept;
 
 use jm_dest::{ConsumerId, Key, Moment, SessionId};
+use jm_indexed::KeySet;
 use jm_machine::{Attached, Consumers};
 use jm_pending::{Held, Row, Table, Taken};
 use jm_selector::Selector;
@@ -154,35 +156,47 @@ fn clear_where(held: &mut Held, table: &mut Table, ends: bool)
 fn clear_each(
     lists: &mut Vec<Held>,
     table: &mut Table,
-    keys: &[Key],
+    keys: &KeySet<Key>,
     which: &Consumers,
     attached: &Attached,
 )
-    requires number { length keys.now ≡ length lists.old.items }
+    requires number { length keys.now.keys ≡ length lists.old.items }
     requires counted { IsCounted table.old (kept.all_rows lists.old.items) }
-    ensures lists { lists.new.items ≡ kept.cleared_under (ended which.now attached.now) keys.now lists.old.items }
+    ensures lists { lists.new.items ≡ kept.cleared_under (ended which.now attached.now) keys.now.keys lists.old.items }
     ensures counted { IsCounted table.new (kept.all_rows lists.new.items) }
     ensures messages { KeepsMessages table.old table.new }
     ensures capacity { vec_capacity lists.new ≡ vec_capacity lists.old }
 {
     for index in 0..lists.len() {
-        let ends = attached.ends(which, &keys[index]);
+        let ends = attached.ends(which, keys.key_at(index));
         let held = &mut lists[index];
         clear_where(held, table, ends);
     }
 }
 
+/// Whether the key with that index does not end with those consumers.
+fn stays(keys: &KeySet<Key>, index: usize, which: &Consumers, attached: &Attached) -> bool
+    requires { index < length keys.now.keys }
+    ensures { result ≡ not (ended which.now attached.now (slice_index_or keys.now.keys index (Queue []))) }
+{
+    !attached.ends(which, keys.key_at(index))
+}
+
 /// The lists whose keys do not end with those consumers are brought together, in their order, in one pass. Where no key
 /// ends no list is moved.
-fn keep_each(lists: &mut Vec<Held>, keys: &[Key], which: &Consumers, attached: &Attached)
-    ensures lists { lists.new.items ≡ kept.lists_under (λ k. not (ended which.now attached.now k)) keys.now lists.old.items }
+fn keep_each(lists: &mut Vec<Held>, keys: &KeySet<Key>, which: &Consumers, attached: &Attached)
+    ensures lists { lists.new.items ≡ kept.lists_under (λ k. not (ended which.now attached.now k)) keys.now.keys lists.old.items }
     ensures len { vec_len lists.new ≤ vec_len lists.old }
     ensures capacity { vec_capacity lists.new ≡ vec_capacity lists.old }
 {
-    let mut keys = keys.iter();
-    lists.retain(|_| match keys.next() {
-        Some(key) => !attached.ends(which, key),
-        None => false,
+    let mut index = 0;
+    lists.retain(|_| {
+        if index >= keys.len() {
+            return false;
+        }
+        let stays = stays(keys, index, which, attached);
+        index += 1;
+        stays
     });
 }
 
@@ -190,13 +204,13 @@ fn keep_each(lists: &mut Vec<Held>, keys: &[Key], which: &Consumers, attached: &
 pub(crate) fn close_each(
     lists: &mut Vec<Held>,
     table: &mut Table,
-    keys: &[Key],
+    keys: &KeySet<Key>,
     which: &Consumers,
     attached: &Attached,
 )
-    requires number { length keys.now ≡ length lists.old.items }
+    requires number { length keys.now.keys ≡ length lists.old.items }
     requires counted { IsCounted table.old (kept.all_rows lists.old.items) }
-    ensures lists { lists.new.items ≡ kept.lists_under (λ k. not (ended which.now attached.now k)) keys.now lists.old.items }
+    ensures lists { lists.new.items ≡ kept.lists_under (λ k. not (ended which.now attached.now k)) keys.now.keys lists.old.items }
     ensures counted { IsCounted table.new (kept.all_rows lists.new.items) }
     ensures messages { KeepsMessages table.old table.new }
     ensures len { vec_len lists.new ≤ vec_len lists.old }

@@ -1,6 +1,6 @@
 //! What is held under each key.
 
-ghost use Rattle.std.specs.Prelude.{◌≡◌, ◌≤◌, ◌<◌, ◌+◌, ◌++◌, [], ◌∷◌, true, false, not, nat_eq, is_some, All, filter, length, map, slice_index_or, Some, None, IfSome, IfOk, OnOk, OnErr};
+ghost use Rattle.std.specs.Prelude.{◌≡◌, ◌≤◌, ◌<◌, ◌+◌, ◌^◌, ◌++◌, [], ◌∷◌, true, false, not, nat_eq, is_some, All, filter, length, map, slice_index_or, Some, None, IfSome, IfOk, OnOk, OnErr};
 ghost use Rattle.std.specs.List.{IsDistinct, remove};
 ghost use Rattle.jm_dest.specs.declared.key.Key.{Key};
 ghost use Rattle.jm_dest.specs.declared.key.Key.TheVariants.{Own};
@@ -23,7 +23,7 @@ use crate::standing::Standing;
 use jm_base::Boxed;
 use jm_dest::{ConsumerId, Key, Moment, SessionId};
 use jm_header::Message;
-use jm_keyed::{Choice, KeySet};
+use jm_indexed::{Choice, KeySet};
 use jm_machine::{Answer, Attached, Consumers, PlacedRow, Row};
 use jm_selector::Selector;
 use std::alloc::{AllocError, Global};
@@ -88,6 +88,20 @@ impl Choice<Key> for Lasting<'_> {
     }
 }
 
+/// Keeps the keys of shared subscriptions that are not durable.
+#[derive(Clone, Copy)]
+struct Shared;
+
+impl Choice<Key> for Shared {
+    ghost use Rattle.jm_stations.specs.Stations.{is_shared};
+
+    ghost kept = { λ shared key. is_shared key };
+
+    fn keeps(&self, key: &Key) -> bool {
+        is_shared(key)
+    }
+}
+
 impl Stations {
     /// Nothing is held under any key, and the first publication will be at place 1. Takes no memory.
     pub fn new(alloc: Global) -> Stations
@@ -108,8 +122,9 @@ impl Stations {
         ensures keys { result ≡ length self.now.keys }
         ensures list { result ≡ length self.now.list }
         ensures once { IsDistinct key_eq self.now.keys }
+        ensures small { length self.now.keys < 2 ^ 63 }
     {
-        self.backlogs.len()
+        self.keys.len()
     }
 
     /// The place of the next publication, from 1.
@@ -139,7 +154,7 @@ impl Stations {
         let backlogs = self.backlogs.copy()?;
         let keys = self
             .keys
-            .copy_with(copies::copy_keys(self.alloc, self.keys.as_slice())?)?;
+            .copy_with(copies::copy_keys(self.alloc, &self.keys)?)?;
         Ok(Stations {
             alloc: self.alloc,
             keys,
@@ -244,7 +259,7 @@ impl Stations {
         ensures message_room { self.old.message_room ≤ self.new.message_room }
         ensures key_room { self.old.key_room ≤ self.new.key_room }
     {
-        drop(self.keys.remove(index));
+        self.keys.remove(index);
         // The length is what says that each key stands once.
         let _number = self.keys.len();
         self.backlogs.remove(index);
@@ -299,11 +314,11 @@ impl Stations {
         ensures message_room { self.old.message_room ≤ self.new.message_room }
         ensures key_room { self.old.key_room ≤ self.new.key_room }
     {
-        self.backlogs.close(self.keys.as_slice(), which, attached);
+        self.backlogs.close(&self.keys, which, attached);
         self.keys.retain(&Lasting { which, attached });
         // The length is what says that each key stands once.
         let _number = self.keys.len();
-        self.shares = are_shared(self.keys.as_slice());
+        self.shares = self.keys.any(&Shared);
     }
 
     /// Makes room for that many more messages, and for as many more rows under each key with one of those indexes.
@@ -621,19 +636,12 @@ impl Stations {
         self.backlogs.holder_from(index, place)
     }
 
-    /// The keys in order of creation. Each stands once.
-    pub fn keys(&self) -> &[Key]
-        ensures { result.now ≡ self.now.keys }
-    {
-        self.keys.as_slice()
-    }
-
-    /// The key with that index.
+    /// The key with that index, in order of creation.
     pub fn key_at(&self, index: usize) -> &Key
         requires { index < length self.now.list }
         ensures { (d : Key) → result.now ≡ slice_index_or self.now.keys index d }
     {
-        &self.keys.as_slice()[index]
+        self.keys.key_at(index)
     }
 
     /// How many publications were missed under the key with that index, since it was at its limit; at
@@ -662,16 +670,4 @@ fn or_shared(shares: bool, key: &Key) -> bool
     ensures key { result ≡ false → is_shared key.now ≡ false }
 {
     shares || is_shared(key)
-}
-
-/// Whether one of the keys is so.
-fn are_shared(keys: &[Key]) -> bool
-    ensures { result ≡ false → NoneShared keys.now }
-{
-    for key in keys {
-        if is_shared(key) {
-            return true;
-        }
-    }
-    false
 }

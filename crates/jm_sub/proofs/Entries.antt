@@ -5,7 +5,7 @@ use Rattle.std.specs.List.{IsDistinct, AllByRecursion}
 use Rattle.std.specs.Map.{keys_of, lookup, values_of}
 use Rattle.std.specs.Prelude.{◌==◌, filter, map, not, option_and_then, slice_get}
 use Rattle.std.specs.Cmp.{IsEquivalence}
-use Rattle.jm_keyed.specs.Entries.{set_value_at}
+use Rattle.jm_indexed.specs.Entries.{set_value_at}
 use Rattle.jm_sub.specs.Channels.{at_least_one}
 
 -- a list that is not empty

@@ -1,8 +1,8 @@
 -- How many of the subscriptions are shared and not durable, and which end with one consumer.
-use Rattle.std.proofs.Common.{◌≡◌, ◌+◌, ◌≤◌, ℕ, length, Bool, true, false, cond, List, [], ◌∷◌, ◌++◌, Some, refl, sym, ap, ◌∙◌, arith}
+use Rattle.std.proofs.Common.{◌≡◌, ◌+◌, ◌<◌, ◌≤◌, ℕ, length, get_or, take, Bool, true, false, cond, List, [], ◌∷◌, ◌++◌, Some, refl, sym, ap, ◌∙◌, arith}
 use Rattle.std.specs.Prelude.{count_by, not}
 use Rattle.std.specs.Map.{keys_of, lookup, remove_entry}
-use Rattle.std.proofs.lemmas.List.Sums.{count_by-le-length, sum_by-append, sum_by-cons}
+use Rattle.std.proofs.lemmas.List.Sums.{count_by-le-length, count_by_more_no, count_by_more_yes, sum_by-append, sum_by-cons}
 use Rattle.jm_dest.specs.declared.session.SessionId.{SessionId}
 use Rattle.jm_dest.specs.declared.key.Key.{Key}
 use Rattle.jm_dest.specs.declared.key.Key.TheVariants.{Queue, Own, SharedOwn, Durable}
@@ -17,6 +17,18 @@ use Rattle.jm_sub.specs.Subscriptions.{Subscription, is_shared_own, number_of_sh
 -- what a key adds
 abbrev weight : Key → ℕ
 weight key = cond (is_shared_own key) 1 0
+
+-- one key more is looked at
+pub count_more : (keys : List Key) (i : ℕ) (key : Key) (n : ℕ) → i < length keys → key ≡ get_or keys i key → n ≡ weight key → count_by is_shared_own (take (i + 1) keys) ≡ count_by is_shared_own (take i keys) + n
+count_more keys i key n within here is = go (is_shared_own key) refl
+  where
+    go : (b : Bool) → is_shared_own key ≡ b → count_by is_shared_own (take (i + 1) keys) ≡ count_by is_shared_own (take i keys) + n
+    go true e =
+        let one : n ≡ 1 = is ∙ ap (λ b. cond b 1 0) e in
+        omega (arith, one, count_by_more_yes is_shared_own keys i key within (ap is_shared_own (sym here) ∙ e))
+    go false e =
+        let none : n ≡ 0 = is ∙ ap (λ b. cond b 1 0) e in
+        omega (arith, none, count_by_more_no is_shared_own keys i key within (ap is_shared_own (sym here) ∙ e))
 
 -- the first, and those behind it
 number_next : (s : Subscription) (ss : List Subscription) → number_of_shared (s ∷ ss) ≡ cond (is_shared_own s.key) 1 0 + number_of_shared ss

@@ -18,7 +18,7 @@ use crate::channels::Channels;
 use crate::definition::wants;
 use jm_dest::{ClientId, Key, Name};
 use jm_header::Message;
-use jm_keyed::KeyMap;
+use jm_indexed::KeyMap;
 use jm_selector::{Literal, law_literal, literals};
 use std::alloc::{AllocError, Global};
 use std::collections::LinkedList;

@@ -8,12 +8,12 @@ ghost use Rattle.jm_sub.specs.declared.channel.Channel.{Channel};
 use crate::channel::Channel;
 use crate::ending::Ending;
 use jm_dest::Key;
-use jm_keyed::{EntryChoice, KeyMap};
+use jm_indexed::{EntryChoice, KeyMap};
 use std::alloc::{AllocError, Global};
 use std::collections::LinkedList;
 
 /// The keys of the subscriptions of each channel, in order of creation, found by halves. A channel without subscriptions has
-/// no entry; where one goes, what stands behind it moves up. Keys are linked one behind the other, so that a key which has its
+/// no entry. Keys are linked one behind the other, so that a key which has its
 /// memory already joins its channel without more.
 pub(crate) struct Channels {
     alloc: Global,

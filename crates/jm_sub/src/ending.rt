@@ -6,7 +6,7 @@ ghost use Rattle.jm_sub.specs.Channels as spec;
 
 use crate::channel::Held;
 use jm_dest::Key;
-use jm_keyed::EntryChoice;
+use jm_indexed::{Choice, EntryChoice};
 use jm_machine::{Attached, Consumers};
 
 /// Which subscriptions end with a change.
@@ -27,6 +27,17 @@ impl Ending<'_> {
             Ending::With(which, attached) => attached.ends(which, key),
             Ending::Of(other) => key.is(other),
         }
+    }
+}
+
+impl Choice<Key> for Ending<'_> {
+    ghost use Rattle.jm_sub.specs.Channels.{ends};
+
+    ghost kept = { λ ending key. ends ending key };
+
+    /// Whether it is a key that ends.
+    fn keeps(&self, key: &Key) -> bool {
+        self.ends(key)
     }
 }
 

@@ -29,7 +29,7 @@ use crate::sharing::Sharing;
 use jm_base::{Boxed, Refusal, Str};
 use jm_dest::{ClientId, ConsumerId, Destination, Key, Name, SessionId};
 use jm_header::Message;
-use jm_keyed::KeyMap;
+use jm_indexed::KeyMap;
 use jm_machine::{Attached, Consumers, Definition};
 use std::alloc::{AllocError, Global};
 use std::collections::LinkedList;
@@ -109,7 +109,7 @@ fn put_last(items: &mut KeyMap<Key, Held>, key: Key, created: Held)
 fn is_any_ending(items: &KeyMap<Key, Held>, ending: &Ending) -> bool
     ensures { result ≡ list_any (ends ending.now) (keys_of items.now.entries) }
 {
-    items.keys().iter().any(|key| ending.ends(key))
+    items.any_key(ending)
 }
 
 /// How many of them are shared and not durable.
@@ -117,8 +117,8 @@ fn number_of_shared(items: &KeyMap<Key, Held>) -> usize
     ensures { result ≡ count_by spec.is_shared_own (keys_of items.now.entries) }
 {
     let mut number = 0;
-    for key in items.keys() {
-        number += shared_own(key);
+    for at in 0..items.len() {
+        number += shared_own(items.key_at(at));
     }
     number
 }
@@ -418,8 +418,8 @@ impl Subs {
         self.add(decision);
     }
 
-    /// Ends the subscription of the key, if there is one. It is found by halves, those behind it move up, and in the table of
-    /// channels only the keys of its channel are gone over. Takes no memory.
+    /// Ends the subscription of the key, if there is one. It is found by halves, no other moves, and in the table of channels
+    /// only the keys of its channel are gone over. Takes no memory.
     pub fn delete(&mut self, key: &Key)
         ensures list { self.new.list ≡ without key.now self.old.list }
         ensures spare { self.old.spare ≤ self.new.spare }

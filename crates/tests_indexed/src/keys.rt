@@ -4,6 +4,7 @@ ghost use Rattle.std.specs.Prelude.{◌+◌, ◌<◌, ◌^◌};
 
 use crate::told::is_number;
 use jm_indexed::{Choice, KeySet};
+use jm_shared::SharedStr;
 use std::alloc::{AllocError, Global};
 
 /// What is asked of a set of numbers.
@@ -229,4 +230,42 @@ fn first_numbers_go_as_new_ones_come(rt: HostRuntime) {
 #[test]
 fn first_number_of_one_goes_as_a_new_one_comes(rt: HostRuntime) {
     is_number(&rt, 0, 1, found_after_turns(rt.alloc(), 1, 50));
+}
+
+/// Names in order of coming, and where each stands in the end: one comes twice.
+static NAMES: [(&str, usize); 6] = [
+    ("orders", 0),
+    ("", 1),
+    ("order", 2),
+    ("orders", 0),
+    ("\u{e4}", 3),
+    ("Orders", 4),
+];
+
+fn add_name(alloc: Global, set: &mut KeySet<SharedStr>, name: &str) -> Result<(), AllocError> {
+    set.reserve(1)?;
+    let name = SharedStr::from_str(alloc, name)?;
+    if set.index_of(&name).is_none() {
+        set.insert(name);
+    }
+    Ok(())
+}
+
+fn index_of_name(alloc: Global, set: &KeySet<SharedStr>, name: &str) -> usize {
+    match SharedStr::from_str(alloc, name) {
+        Ok(name) => set.index_of(&name).unwrap_or(NONE),
+        Err(_) => MEMORY,
+    }
+}
+
+#[test]
+fn names_stand_in_order_of_coming(rt: HostRuntime) {
+    let mut set = KeySet::new(rt.alloc());
+    for (name, _) in &NAMES {
+        let _ = add_name(rt.alloc(), &mut set, name);
+    }
+    is_number(&rt, 100, 5, set.len());
+    for (row, (name, wanted)) in NAMES.iter().enumerate() {
+        is_number(&rt, row, *wanted, index_of_name(rt.alloc(), &set, name));
+    }
 }

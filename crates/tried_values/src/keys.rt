@@ -1,7 +1,7 @@
 //! Keys in order of coming.
 
 use jm_base::Refusal;
-use jm_keyed::{KeyMap, KeySet};
+use jm_indexed::{KeyMap, KeySet};
 use std::alloc::{AllocError, Global};
 use tried::{Answer, Called, Made, Trial, tell, two};
 
@@ -42,10 +42,19 @@ fn reserved(set: &mut KeySet<u64>) -> Answer {
     }
 }
 
+/// A copy of the set.
+fn copy_of(alloc: Global, set: &KeySet<u64>) -> Result<KeySet<u64>, AllocError> {
+    let mut keys = Vec::with_capacity(alloc, set.len())?;
+    for index in 0..set.len() {
+        keys.push(*set.key_at(index))?;
+    }
+    set.copy_with(keys)
+}
+
 /// The index of the second key in the copy.
 fn copied(alloc: Global, set: &KeySet<u64>) -> Answer {
-    let keys = Vec::from_slice(alloc, set.as_slice())?;
-    Ok(set.copy_with(keys)?.index_of(&20).unwrap_or(9) as u64)
+    let copy = copy_of(alloc, set)?;
+    Ok(copy.index_of(&20).unwrap_or(9) as u64)
 }
 
 impl Keys {
@@ -67,11 +76,11 @@ impl Trial for Keys {
     fn call(&mut self) -> Called {
         match self.number {
             0 => Called {
-                name: "jm_keyed KeySet::reserve",
+                name: "jm_indexed KeySet::reserve",
                 answer: reserved(&mut self.set),
             },
             1 => Called {
-                name: "jm_keyed KeySet::copy_with",
+                name: "jm_indexed KeySet::copy_with",
                 answer: copied(self.alloc, &self.set),
             },
             _ => Called::NONE,
@@ -122,7 +131,7 @@ impl Trial for Entries {
             Err(AllocError) => Err(Refusal::Memory),
         };
         Called {
-            name: "jm_keyed KeyMap::reserve",
+            name: "jm_indexed KeyMap::reserve",
             answer,
         }
     }

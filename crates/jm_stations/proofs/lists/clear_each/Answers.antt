@@ -14,7 +14,7 @@ use Rattle.jm_stations.proofs.lists.clear_each.Goals as goal
 pub loop-index-init : goal.loop-index-init
 loop-index-init c = record {
   number = refl;
-  lists = cleared_none (ended c.args.which.now c.args.attached.now) c.args.keys.now c.args.lists.now.items;
+  lists = cleared_none (ended c.args.which.now c.args.attached.now) c.args.keys.now.keys c.args.lists.now.items;
   counted = c.requires.counted;
   messages = keeps_all c.args.table.now;
   capacity = refl;
@@ -34,13 +34,13 @@ loop-index-preserved c =
     let i = c.loop-index.index in
     let init = c.args.lists.now.items in
     let lists = c.loop-index.lists.items in
-    let keys = c.args.keys.now in
+    let keys = c.args.keys.now.keys in
     let p = ended c.args.which.now c.args.attached.now in
-    let key : Key = c.index-keys-index.result in
+    let key : Key = c.key_at.result.now in
     let inside : i < length lists = omega (arith, c.loop-index.invariant.number) in
     let within : i < length keys = omega (arith, c.requires.number) in
     let value : h ≡ get_or lists i h = c.index_mut-held.ensures.value in
-    let goes : c.ends-ends.result ≡ p (get_or keys i key) = c.ends-ends.ensures.left ∙ ap p c.index-keys-index.is in
+    let goes : c.ends-ends.result ≡ p (get_or keys i key) = c.ends-ends.ensures.left ∙ ap p (c.key_at.ensures key) in
     let after : h' ≡ cleared (p (get_or keys i key)) h = c.clear_where.ensures.rows ∙ ap (λ b. cleared b h) goes in
     let more = cleared_more p keys init i key h h' within c.requires.number (value ∙ ap (λ (xs : List Held). get_or xs i h) c.loop-index.invariant.lists) after in
     record {
@@ -53,4 +53,4 @@ loop-index-preserved c =
 
 pub returns-clause-lists : goal.returns-clause-lists
 returns-clause-lists c =
-    c.loop-index.invariant.lists ∙ ap (λ (ks : List Key). cleared_under (ended c.args.which.now c.args.attached.now) ks c.args.lists.now.items) (take_all c.loop-index.index c.args.keys.now (omega (arith, c.requires.number)))
+    c.loop-index.invariant.lists ∙ ap (λ (ks : List Key). cleared_under (ended c.args.which.now c.args.attached.now) ks c.args.lists.now.items) (take_all c.loop-index.index c.args.keys.now.keys (omega (arith, c.requires.number)))

@@ -9,7 +9,7 @@ use Rattle.jm_stations.proofs.lists.clear_each.Given as goal
 abbrev pub invariant-loop-index : goal.invariant-loop-index
 invariant-loop-index l = record {
   number : length l.lists.items ≡ length l.initial.lists.items;
-  lists : l.lists.items ≡ cleared_under (ended l.which l.attached) (take l.index l.keys) l.initial.lists.items;
+  lists : l.lists.items ≡ cleared_under (ended l.which l.attached) (take l.index l.keys.keys) l.initial.lists.items;
   counted : IsCounted l.table (all_rows l.lists.items);
   messages : KeepsMessages l.initial.table l.table;
   capacity : vec_capacity l.lists ≡ vec_capacity l.initial.lists;

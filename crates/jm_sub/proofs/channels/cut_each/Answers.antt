@@ -1,7 +1,7 @@
 use Rattle.std.proofs.Common.{◌≡◌, ◌+◌, ◌∙◌, ap, arith, length, sym, suc, Some}
 use Rattle.std.specs.Prelude.{slice_get}
 use Rattle.std.specs.Map.{values_of}
-use Rattle.jm_keyed.specs.Entries.{set_value_at}
+use Rattle.jm_indexed.specs.Entries.{set_value_at}
 use Rattle.jm_sub.specs.Channels.{left}
 use Rattle.jm_sub.proofs.Entries.{all_cut, first_cut, length-first_cut, next_cut}
 use Rattle.jm_sub.proofs.channels.cut_each.Goals as goal

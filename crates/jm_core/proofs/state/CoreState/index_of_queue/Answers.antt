@@ -13,4 +13,4 @@ pub returns-in-Some : goal.returns-in-Some
 returns-in-Some c =
     let i = c.self.inside in
     let p = of_parts i.opening i.limit i.sessions i.subs i.stations i.queues in
-    rw (c.keys-subscriptions.ensures, ← c.self.view_is) (queue_at i.limit i.stations.next_place p c.self.invariant.0 c.args.key.now c.in-Some.index (sym c.in-Some.ensures.index))
+    rw (c.len-subscriptions.ensures.keys, ← c.self.view_is) (queue_at i.limit i.stations.next_place p c.self.invariant.0 c.args.key.now c.in-Some.index (sym c.in-Some.ensures.index))

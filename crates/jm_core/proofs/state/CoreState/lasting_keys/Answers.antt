@@ -1,4 +1,4 @@
-use Rattle.std.proofs.Common.{List, ap, get_or, subst, sym, ◌∙◌}
+use Rattle.std.proofs.Common.{List, subst, sym}
 use Rattle.jm_dest.specs.declared.key.Key.{Key}
 use Rattle.jm_core.specs.Provider.{state_of}
 use Rattle.jm_core.specs.Reading.{AreLasting}
@@ -15,8 +15,8 @@ returns-in-Queue c =
     let h = rw (← c.self.view_is) at c.requires in
     let routed = rw c.in-Queue.is at h.1.aimed.routed in
     let queued = rw c.in-Queue.is at h.1.aimed.queued in
-    let k = c.index-keys-index.result in
-    let there = c.index-keys-index.is ∙ ap (λ (ks : List Key). get_or ks c.in-Queue.index k) c.keys.ensures in
+    let k = c.key_at.result.now in
+    let there = c.key_at.ensures k in
     let lasting = lasting_queue i.limit i.stations.next_place p c.self.invariant.0 m c.in-Queue.index k k routed queued there in
     rw (← c.self.view_is) (when_ok _ _ (λ keys e. subst (λ (ks : List Key). AreLasting (state_of p) m ks) (sym e) lasting) c.one_key.result c.one_key.ensures)
 

@@ -1,5 +1,5 @@
-use Rattle.std.proofs.Common.{arith, refl, rules}
-use Rattle.std.proofs.lemmas.Bool.Decides.{nat_tests}
+use Rattle.std.proofs.Common.{arith, refl}
+use Rattle.jm_core.proofs.Opens.{opens}
 use Rattle.jm_core.proofs.Sound.{sound_none}
 use Rattle.jm_core.proofs.state.CoreState.new.Goals as goal
 
@@ -12,5 +12,5 @@ invariant_of-result c = (
 pub returns : goal.returns
 returns c = (
   rw (c.in_ok-opening.ensures.0, c.new-2.ensures.life, c.new-2.ensures.consumers, c.new-3.ensures, c.new-4.ensures.next_place, c.new-5.ensures.keys) refl,
-  first_of (search rules, grind (arith, nat_tests)),
+  opens c.args.opening c.args.held_limit c.is_limit.result c.in_ok-opening.ensures.1 c.is_limit.ensures c.if-not-is_limit.false,
 )

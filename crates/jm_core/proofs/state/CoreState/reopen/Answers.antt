@@ -1,16 +1,13 @@
-use Rattle.std.proofs.Common.{◌≡◌, ◌∙◌, ap, arith, refl, rules}
-use Rattle.std.specs.Prelude.{true}
-use Rattle.std.proofs.lemmas.Bool.Decides.{nat_tests}
-use Rattle.jm_core.specs.Provider.{may_open}
+use Rattle.std.proofs.Common.{◌∙◌, ap, refl, rules}
 use Rattle.jm_core.specs.Queues.{rows_in}
 use Rattle.jm_core.specs.Stored.{place_after, rows_at}
+use Rattle.jm_core.proofs.Opens.{opens}
 use Rattle.jm_core.proofs.Restored.{made_unlimited, stored_queues, stored_seen, stored_sound}
 use Rattle.jm_core.proofs.state.CoreState.reopen.Goals as goal
 
 pub returns-in_err-add_subscriptions-clause-err : goal.returns-in_err-add_subscriptions-clause-err
 returns-in_err-add_subscriptions-clause-err c =
-    let opens : may_open c.args.opening c.args.held_limit ≡ true = first_of (search rules, grind (arith, nat_tests)) in
-    rw opens (search rules)
+    rw (opens c.args.opening c.args.held_limit c.is_limit.result c.in_ok-opening.ensures.1 c.is_limit.ensures c.if-not-is_limit.false) (search rules)
 
 pub load_messages-requires-clause-unlimited : goal.load_messages-requires-clause-unlimited
 load_messages-requires-clause-unlimited c =
@@ -33,5 +30,5 @@ returns-clause-ok c =
     let stations = stored_seen c.args.subscriptions.items c.args.messages.items c.add_subscriptions.new.subs.list c.add_subscriptions.new.stations.keys c.add_subscriptions.new.stations.list c.load_messages.new.stations.list made.made come.list in
     let queues = stored_queues c.args.messages.items c.new-queues.result c.load_messages.new.queues c.new-queues.ensures.keys come.queues in (
       rw (c.in_ok-opening.ensures.0, c.new-2.ensures.life, c.new-2.ensures.consumers, stations, queues, next) refl,
-      first_of (search rules, grind (arith, nat_tests)),
+      opens c.args.opening c.args.held_limit c.is_limit.result c.in_ok-opening.ensures.1 c.is_limit.ensures c.if-not-is_limit.false,
     )

@@ -22,8 +22,8 @@ pub invariant_of-self : goal.invariant_of-self
 invariant_of-self c =
     let lists = c.self.inside.lists.items in
     let p : Key → Bool = λ k. not (ended c.args.which.now c.args.attached.now k) in
-    let counted : IsCounted c.close_each.new.table (all_rows (lists_under p c.args.keys.now lists)) = rw c.close_each.ensures.lists at c.close_each.ensures.counted in (
-      rw c.close_each.ensures.lists (closed_kept c.self.inside.table c.close_each.new.table c.self.inside.next_place p c.args.keys.now lists c.self.invariant.0 counted c.close_each.ensures.messages),
+    let counted : IsCounted c.close_each.new.table (all_rows (lists_under p c.args.keys.now.keys lists)) = rw c.close_each.ensures.lists at c.close_each.ensures.counted in (
+      rw c.close_each.ensures.lists (closed_kept c.self.inside.table c.close_each.new.table c.self.inside.next_place p c.args.keys.now.keys lists c.self.invariant.0 counted c.close_each.ensures.messages),
       c.look_at.ensures.number ∙ ap length c.as_slice.ensures.value,
       subst (λ (lists : List Held). AreHomeBut c.look_at.new.self.indexes lists) c.as_slice.ensures.value c.look_at.ensures.others,
     )
@@ -32,8 +32,8 @@ pub returns-clause-list : goal.returns-clause-list
 returns-clause-list c =
     let lists = c.self.inside.lists.items in
     let p : Key → Bool = λ k. not (ended c.args.which.now c.args.attached.now k) in
-    let counted : IsCounted c.close_each.new.table (all_rows (lists_under p c.args.keys.now lists)) = rw c.close_each.ensures.lists at c.close_each.ensures.counted in
-    rw (c.close_each.ensures.lists, ← c.self.view_is) (closed_shown c.self.inside.table c.close_each.new.table p c.args.keys.now lists counted c.close_each.ensures.messages)
+    let counted : IsCounted c.close_each.new.table (all_rows (lists_under p c.args.keys.now.keys lists)) = rw c.close_each.ensures.lists at c.close_each.ensures.counted in
+    rw (c.close_each.ensures.lists, ← c.self.view_is) (closed_shown c.self.inside.table c.close_each.new.table p c.args.keys.now.keys lists counted c.close_each.ensures.messages)
 
 pub returns-clause-message_room : goal.returns-clause-message_room
 returns-clause-message_room c = rw (← c.self.view_is) c.close_each.ensures.messages.room

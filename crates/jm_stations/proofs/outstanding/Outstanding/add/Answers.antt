@@ -1,7 +1,7 @@
 use Rattle.std.proofs.Common.{◌≡◌, ◌≢◌, ◌==◌, ◌||◌, ◌-◌, ◌<◌, ◌≤◌, ◌∙◌, ℕ, length, get_or, List, ap, cond, arith}
 use Rattle.std.specs.List.{insert}
 use Rattle.std.specs.Vec.{vec_capacity, vec_len}
-use Rattle.jm_keyed.proofs.Orders.{ok_is}
+use Rattle.jm_indexed.proofs.Lists.{ok_is}
 use Rattle.jm_stations.specs.Backlogs.{is_named}
 use Rattle.jm_stations.specs.Outstanding.{Outstanding, AreRising}
 use Rattle.jm_stations.proofs.Rising.{rising_between, rising_room, named_insert}

@@ -1,5 +1,5 @@
 use Rattle.std.proofs.Common.{◌∙◌, sym, ap, arith, is_some}
-use Rattle.jm_keyed.proofs.Entries.{absent_stays}
+use Rattle.jm_indexed.proofs.Entries.{absent_stays}
 use Rattle.jm_machine.proofs.Keys.{set_eq}
 use Rattle.jm_sub.specs.Entries.{subscriptions_of}
 use Rattle.jm_sub.specs.Subscriptions.{number_of_shared}

@@ -1,4 +1,0 @@
-pub mod Orders
-pub mod Columns
-pub mod Entries
-pub mod Marked

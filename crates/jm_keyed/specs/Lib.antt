@@ -1,4 +1,0 @@
-pub mod Order
-pub mod Keys
-pub mod Entries
-pub mod Lends
