@@ -1,21 +1,24 @@
-"""kept: which wrong bodies were seen refused on this machine, and why.
+"""kept: what was seen proved or refused on this machine, for a kit whose rt ci keeps nothing.
 
-An entry stands under the sum of all that it rests on: the kit, the handles allowed, the text of the crate, each library
-below it as it was built, byte by byte, and the edit. It is written aside and then renamed, so that a run that is ended
-leaves none by half; those longest not asked for go once there are more than MOST.
+An entry stands under the sum of all that it rests on: the kit, the handles allowed, the text of the crate, and each library
+below it as it was built, byte by byte. What is not found whole under that sum is made anew. Entries are written aside and
+then renamed, so that a run that is ended leaves none by half; the oldest go once all take more than ROOM.
 """
 from __future__ import annotations
 
-import contextlib
 import hashlib
 import os
+import shutil
 import tempfile
+import time
 from typing import Any, Iterable, Optional
 
 # Raised where an entry says something else than before.
-FORM = "2"
-MOST = 100_000
-FOLDER = f"{os.environ.get('XDG_CACHE_HOME') or os.path.expanduser('~/.cache')}/cithlwyran-refused"
+FORM = "1"
+ROOM = 24_000_000_000
+# How old what was written aside is, in seconds, before it is taken for what an ended run left.
+ENDED = 14_400
+FOLDER = f"{os.environ.get('XDG_CACHE_HOME') or os.path.expanduser('~/.cache')}/cithlwyran-gate"
 
 
 def files_below(path: str) -> Iterable[str]:
@@ -43,7 +46,7 @@ def sum_of_files(path: str) -> str:
 
 
 class Kept:
-    """What earlier runs saw refused, and what this run adds; with anew, nothing of what they saw is taken."""
+    """What earlier runs saw, and what this run adds; with anew, nothing of what they saw is taken."""
 
     def __init__(self, rt: Any, anew: bool, folder: str = FOLDER):
         self.rt, self.anew, self.folder = rt, anew, folder
@@ -53,7 +56,7 @@ class Kept:
         os.makedirs(folder, exist_ok=True)
 
     def library(self, crate: Any) -> str:
-        """Returns a sum of a library as it was built."""
+        """Returns a sum of a library as this run built it, or took it."""
         if crate.name not in self.built:
             self.built[crate.name] = sum_of_files(crate.rlib)
         return self.built[crate.name]
@@ -64,27 +67,54 @@ class Kept:
         below = [(it.name, self.library(it)) for it in crate.below()]
         return sum_of(self.base, repr(sorted(crate.said.items())), repr(texts), repr(below))
 
+    def take(self, name: str, to: str) -> bool:
+        """Puts what was kept under a name into a folder, and returns whether there was any."""
+        entry = f"{self.folder}/{name}"
+        if self.anew or not os.path.isdir(entry):
+            return False
+        shutil.copytree(entry, to, dirs_exist_ok=True)
+        os.utime(entry)
+        return True
+
+    def keep(self, name: str, folder: str, parts: Iterable[str]) -> None:
+        """Keeps these files and folders of a folder under a name."""
+        room = tempfile.mkdtemp(prefix="aside-", dir=self.folder)
+        for it in parts:
+            path = f"{folder}/{it}"
+            copy = shutil.copytree if os.path.isdir(path) else shutil.copy2
+            os.makedirs(os.path.dirname(f"{room}/{it}"), exist_ok=True)
+            copy(path, f"{room}/{it}")
+        shutil.rmtree(f"{self.folder}/{name}", ignore_errors=True)
+        try:
+            os.rename(room, f"{self.folder}/{name}")
+        except OSError:
+            # (another run has just kept the same)
+            shutil.rmtree(room, ignore_errors=True)
+
     def of_edit(self, path: str, key: str) -> str:
         """Returns the name under which the verdict on an edit is kept."""
         return sum_of("edit", key, os.path.basename(path), sum_of_files(path))
 
     def refused(self, name: str) -> Optional[str]:
         """Returns why an earlier run saw an edit refused, if one did."""
-        if self.anew:
+        if self.anew or not os.path.isfile(f"{self.folder}/{name}/why"):
             return None
-        with contextlib.suppress(FileNotFoundError), open(f"{self.folder}/{name}", encoding="utf-8") as it:
-            os.utime(it.fileno())
+        os.utime(f"{self.folder}/{name}")
+        with open(f"{self.folder}/{name}/why", encoding="utf-8") as it:
             return it.read()
-        return None
 
     def keep_refused(self, name: str, why: str) -> None:
         """Keeps that an edit was refused, and why."""
-        with tempfile.NamedTemporaryFile("w", prefix="aside-", dir=self.folder, delete=False, encoding="utf-8") as it:
-            it.write(why)
-        os.replace(it.name, f"{self.folder}/{name}")
+        with tempfile.TemporaryDirectory() as room:
+            with open(f"{room}/why", "w", encoding="utf-8") as it:
+                it.write(why)
+            self.keep(name, room, ["why"])
 
     def drop_oldest(self) -> None:
-        """Drops what was longest not asked for, down to MOST."""
-        entries = sorted(os.scandir(self.folder), key=lambda it: -it.stat().st_mtime)
-        for it in entries[MOST:]:
-            os.remove(it.path)
+        """Drops what was longest not asked for, down to ROOM, and what ended runs left."""
+        held = 0
+        for it in sorted(os.scandir(self.folder), key=lambda it: -it.stat().st_mtime):
+            held += sum(map(os.path.getsize, files_below(it.path)))
+            is_left = it.name.startswith("aside-") and time.time() - it.stat().st_mtime > ENDED
+            if held > ROOM or is_left:
+                shutil.rmtree(it.path, ignore_errors=True)

@@ -39,6 +39,11 @@ class Gate(unittest.TestCase):
         self.assertEqual((lines[-1], status), ("3 passed, 0 failed", 0))
         self.assertIn("proved", lines)
 
+    def test_the_repository_s_own_tool_proves(self) -> None:
+        lines, status = said("echo '3 passed, 0 failed'", "--anew", prove="import sys; print(*sys.argv[1:]); print('4 passed, 0 failed')")
+        self.assertEqual((lines[-1], status), ("4 passed, 0 failed", 0))
+        self.assertIn("--anew", lines)
+
     def test_what_fails_is_counted(self) -> None:
         lines, status = said("echo '3 passed, 2 failed'; exit 1")
         self.assertEqual((lines[-1], status), ("3 passed, 2 failed", 1))
