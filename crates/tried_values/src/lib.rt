@@ -1,4 +1,4 @@
-//! The calls of texts, slots, keys, names, properties, drafts and messages that take memory, or that copy what several own, each with what it is made on.
+//! The calls of texts, lists, keys, names, properties, drafts and messages that take memory, or that copy what several own, each with what it is made on.
 //!
 //! # Contract
 //!

@@ -1,6 +1,7 @@
-//! Texts, lists, boxes and slots.
+//! Texts, lists, boxes, slots, and lists of which items go.
 
 use jm_base::{Boxed, List, Refusal, Str};
+use jm_gaps::GapList;
 use jm_slots::Slots;
 use std::alloc::{AllocError, Global};
 use tried::{Answer, Called, Made, Trial, tell, two};
@@ -111,10 +112,58 @@ impl Trial for Items {
     }
 }
 
+/// Two items in a list, of which one went.
+#[derive(Drop)]
+struct Gaps {
+    list: GapList<u64>,
+}
+
+fn list_two(list: &mut GapList<u64>) -> Result<(), AllocError> {
+    list.reserve(2)?;
+    list.push(7);
+    list.push(8);
+    let _ = list.remove(0);
+    Ok(())
+}
+
+impl Gaps {
+    fn new(alloc: Global) -> Result<Gaps, Refusal> {
+        let mut list = GapList::new(alloc);
+        match list_two(&mut list) {
+            Ok(()) => Ok(Gaps { list }),
+            Err(AllocError) => Err(Refusal::Memory),
+        }
+    }
+}
+
+impl Trial for Gaps {
+    /// How many items there are, and the first of them.
+    fn state(&self) -> u64 {
+        let first = if self.list.is_empty() {
+            0
+        } else {
+            *self.list.at(0) as usize
+        };
+        two(self.list.len(), first)
+    }
+
+    fn call(&mut self) -> Called {
+        let answer = match self.list.reserve(100) {
+            Ok(()) => Ok(self.list.len() as u64),
+            Err(AllocError) => Err(Refusal::Memory),
+        };
+        Called {
+            name: "jm_gaps GapList::reserve",
+            answer,
+        }
+    }
+}
+
 /// Makes the call of that number.
 pub fn made(alloc: Global, number: usize) -> Made {
     match number {
         3 => tell(Items::new(alloc)),
+        4 => tell(Gaps::new(alloc)),
         _ => tell(Lists::new(alloc, number)),
     }
 }
