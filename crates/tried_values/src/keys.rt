@@ -1,5 +1,6 @@
 //! Keys in order of coming.
 
+use crate::groups;
 use jm_base::Refusal;
 use jm_indexed::{KeyMap, KeySet};
 use std::alloc::{AllocError, Global};
@@ -141,6 +142,7 @@ impl Trial for Entries {
 pub fn made(alloc: Global, number: usize) -> Made {
     match number {
         2 => tell(Entries::new(alloc)),
+        3 | 4 => groups::made(alloc, number),
         _ => tell(Keys::new(alloc, number)),
     }
 }

@@ -1,4 +1,5 @@
-//! The calls of texts, lists, keys, names, properties, drafts and messages that take memory, or that copy what several own, each with what it is made on.
+//! The calls of texts, lists, keys, names, properties, drafts and messages that take memory, or that copy what several own, each with
+//! what it is made on.
 //!
 //! # Contract
 //!
@@ -7,6 +8,7 @@
 
 pub mod destinations;
 pub mod drafts;
+mod groups;
 pub mod keys;
 pub mod lists;
 pub mod messages;
