@@ -3,8 +3,8 @@ use Rattle.std.proofs.Common.{◌≡◌, inl, inr, ℕ, true, List, [], ◌∷�
 use Rattle.std.specs.List.{Contains}
 use Rattle.std.specs.declared.cmp.Ordering.{Ordering}
 use Rattle.std.proofs.lemmas.List.{length_push}
+use Rattle.jm_slots.proofs.Items.{sides}
 use Rattle.jm_grouped.specs.Order.{IsOrder, IsRising, is_taken}
-use Rattle.jm_grouped.proofs.Lists.{sides}
 use Rattle.jm_grouped.proofs.Taken.{taken_kept, taken_push, taken_within}
 
 module _ {T V : Type 0} {cmp : T → T → Ordering} (xs : List T) (slots : List (Option V)) (order : List ℕ) (it : IsOrder cmp xs slots order) where
@@ -17,7 +17,7 @@ module _ {T V : Type 0} {cmp : T → T → Ordering} (xs : List T) (slots : List
         let h' : is_taken (slots ++ Some v ∷ []) i ≡ true = ap (λ os. is_taken os i) (sym slots_are) ∙ h in
         elim (sides i (length xs)) [
           | inl old ↦ others i (it.whole i (taken_push slots v i (omega (arith, old, even)) h'))
-          | inr (inl same) ↦ subst (Contains more) same there
+          | inr (inl same) ↦ subst (Contains more) (sym same) there
           | inr (inr past) ↦ absurd (let l = taken_within (slots ++ Some v ∷ []) i h' in omega (arith, l, past, even, length_push slots (Some v)))
         ];
   }

@@ -12,36 +12,36 @@ use Rattle.jm_grouped.proofs.Taken.{Contains-indexes, IsSlotOf, index_inside, it
 
 -- ---- numbers that rise
 
+-- the first of numbers that rise is the least
+least : (x y : ℕ) (ys : List ℕ) → AllPairs (λ i j. i < j) (y ∷ ys) → Contains (y ∷ ys) x → y ≤ x
+least x y ys rise (zero, l, is) = omega (arith, is)
+least x y ys rise (suc k, l, is) = let up = rise 0 (suc k) x (omega arith) l in omega (arith, up, is)
+
+tail_rises : (x : ℕ) (xs : List ℕ) → AllPairs (λ i j. i < j) (x ∷ xs) → AllPairs (λ i j. i < j) xs
+tail_rises x xs rise i j d l m = rise (suc i) (suc j) d (omega (arith, l)) (omega (arith, m))
+
+-- a later member stands in the tail
+behind : (x y : ℕ) (ys : List ℕ) → x < y → Contains (x ∷ ys) y → Contains ys y
+behind x y ys l (zero, m, is) = absurd (omega (arith, l, is))
+behind x y ys l (suc k, m, is) = (k, omega (arith, m), is)
+
 -- two lists that rise and have the same members are one
-module _ where
-  least : (x y : ℕ) (xs ys : List ℕ) → AllPairs (λ i j. i < j) (y ∷ ys) → Contains (y ∷ ys) x → y ≤ x
-  least x y xs ys rise (zero, l, is) = omega (arith, is)
-  least x y xs ys rise (suc k, l, is) = let up = rise 0 (suc k) x (omega arith) l in omega (arith, up, is)
-
-  tail_rises : (x : ℕ) (xs : List ℕ) → AllPairs (λ i j. i < j) (x ∷ xs) → AllPairs (λ i j. i < j) xs
-  tail_rises x xs rise i j d l m = rise (suc i) (suc j) d (omega (arith, l)) (omega (arith, m))
-
-  -- a later member stands in the tail
-  behind : (x y : ℕ) (ys : List ℕ) → x < y → Contains (x ∷ ys) y → Contains ys y
-  behind x y ys l (zero, m, is) = absurd (omega (arith, l, is))
-  behind x y ys l (suc k, m, is) = (k, omega (arith, m), is)
-
-  pub same_members : (xs ys : List ℕ) → AllPairs (λ i j. i < j) xs → AllPairs (λ i j. i < j) ys → All (Contains ys) xs → All (Contains xs) ys → xs ≡ ys
-  same_members [] [] a b f h = refl
-  same_members [] (y ∷ ys) a b f h = let k = h 0 y (omega arith) in absurd (omega (arith, k.1))
-  same_members (x ∷ xs) [] a b f h = let k = f 0 x (omega arith) in absurd (omega (arith, k.1))
-  same_members (x ∷ xs) (y ∷ ys) a b f h =
-      let same : x ≡ y = omega (arith, least x y xs ys b (f 0 x (omega arith)), least y x ys xs a (h 0 y (omega arith))) in
-      let rest = same_members xs ys (tail_rises x xs a) (tail_rises y ys b)
-      (λ k d l.
-      let there = f (suc k) d (omega (arith, l)) in
-      let up = a 0 (suc k) d (omega arith) (omega (arith, l)) in
-      behind y (get_or xs k d) ys (omega (arith, up, same)) there)
-      (λ k d l.
-      let there = h (suc k) d (omega (arith, l)) in
-      let up = b 0 (suc k) d (omega arith) (omega (arith, l)) in
-      behind x (get_or ys k d) xs (omega (arith, up, same)) there) in
-      λ i. same i ∷ rest i
+pub same_members : (xs ys : List ℕ) → AllPairs (λ i j. i < j) xs → AllPairs (λ i j. i < j) ys → All (Contains ys) xs → All (Contains xs) ys → xs ≡ ys
+same_members [] [] a b f h = refl
+same_members [] (y ∷ ys) a b f h = let k = h 0 y (omega arith) in absurd (omega (arith, k.1))
+same_members (x ∷ xs) [] a b f h = let k = f 0 x (omega arith) in absurd (omega (arith, k.1))
+same_members (x ∷ xs) (y ∷ ys) a b f h =
+    let same : x ≡ y = omega (arith, least x y ys b (f 0 x (omega arith)), least y x xs a (h 0 y (omega arith))) in
+    let rest = same_members xs ys (tail_rises x xs a) (tail_rises y ys b)
+    (λ k d l.
+    let there = f (suc k) d (omega (arith, l)) in
+    let up = a 0 (suc k) d (omega arith) (omega (arith, l)) in
+    behind y (get_or xs k d) ys (omega (arith, up, same)) there)
+    (λ k d l.
+    let there = h (suc k) d (omega (arith, l)) in
+    let up = b 0 (suc k) d (omega arith) (omega (arith, l)) in
+    behind x (get_or ys k d) xs (omega (arith, up, same)) there) in
+    λ i. same i ∷ rest i
 
 -- ---- the indexes of equal items
 

@@ -1,10 +1,8 @@
 -- Facts on lists.
-use Rattle.std.proofs.Common.{◌≡◌, ◌+◌, ◌-◌, ◌<◌, ◌≤◌, ◌⊎◌, inl, inr, ℕ, Bool, true, false, cond, List, [], ◌∷◌, length, get_or, arith, refl, sym, ◌∙◌, ap, subst, suc, zero}
+use Rattle.std.proofs.Common.{◌≡◌, ◌+◌, ◌-◌, ◌<◌, ◌≤◌, inl, inr, ℕ, Bool, true, false, cond, List, [], ◌∷◌, length, get_or, arith, refl, sym, ◌∙◌, ap, subst, suc, zero}
 use Rattle.std.specs.List.{AllPairs, Contains, filter, insert}
 use Rattle.std.proofs.lemmas.List.Edits.{length-insert, get_or-insert_below, get_or-insert_at, get_or-insert_above}
-
-pub sides : (k at : ℕ) → (k < at) ⊎ ((at ≡ k) ⊎ (at < k))
-sides k at = grind arith
+use Rattle.jm_slots.proofs.Items.{sides}
 
 -- a test that cannot be true is false
 pub refuted : (b : Bool) → (b ≡ true → ⊥) → b ≡ false
@@ -19,7 +17,7 @@ module _ {X : Type 0} where
   pub AllPairs-insert : (R : X → X → Type 0) (xs : List X) (at : ℕ) (y : X) → AllPairs R xs → at ≤ length xs → ((k : ℕ) (d : X) → k < at → R (get_or xs k d) y) → ((k : ℕ) (d : X) → at ≤ k → k < length xs → R y (get_or xs k d)) → AllPairs R (insert xs at y)
   AllPairs-insert R xs at y h within low high j k d less last = elim (sides k at) [
     | inl below ↦ apart R _ _ _ _ (get_or-insert_below xs at y d j (omega (arith, less, below)) within) (get_or-insert_below xs at y d k below within) (h j k d less (omega (arith, below, within)))
-    | inr (inl same) ↦ apart R _ _ _ _ (get_or-insert_below xs at y d j (omega (arith, less, same)) within) (ap (λ n. get_or (insert xs at y) n d) (sym same) ∙ get_or-insert_at xs at y d within) (low j d (omega (arith, less, same)))
+    | inr (inl same) ↦ apart R _ _ _ _ (get_or-insert_below xs at y d j (omega (arith, less, same)) within) (ap (λ n. get_or (insert xs at y) n d) same ∙ get_or-insert_at xs at y d within) (low j d (omega (arith, less, same)))
     | inr (inr above) ↦ (
         let behind : at ≤ k - 1 = omega (arith, above) in
         let inside : k - 1 < length xs = omega (arith, above, last, length-insert xs at y within) in
@@ -27,7 +25,7 @@ module _ {X : Type 0} where
         ap (λ n. get_or (insert xs at y) n d) (omega (arith, above)) ∙ get_or-insert_above xs at y d (k - 1) behind within in
         elim (sides j at) [
           | inl below ↦ apart R _ _ _ _ (get_or-insert_below xs at y d j below within) here (h j (k - 1) d (omega (arith, below, above)) inside)
-          | inr (inl same) ↦ apart R _ _ _ _ (ap (λ n. get_or (insert xs at y) n d) (sym same) ∙ get_or-insert_at xs at y d within) here (high (k - 1) d behind inside)
+          | inr (inl same) ↦ apart R _ _ _ _ (ap (λ n. get_or (insert xs at y) n d) same ∙ get_or-insert_at xs at y d within) here (high (k - 1) d behind inside)
           | inr (inr over) ↦ apart R _ _ _ _ (ap (λ n. get_or (insert xs at y) n d) (omega (arith, over)) ∙ get_or-insert_above xs at y d (j - 1) (omega (arith, over)) within) here (h (j - 1) (k - 1) d (omega (arith, over, less)) inside)
         ])
   ]

@@ -9,8 +9,9 @@ use Rattle.std.proofs.lemmas.Cmp.{alike_right, tied_back}
 use Rattle.std.proofs.lemmas.List.{get_or_append_left, get_or_default, get_or_push, length_push}
 use Rattle.std.proofs.lemmas.List.Edits.{get_or-between, length-between}
 use Rattle.std.proofs.lemmas.List.Elements.{All-append, All-cons, All-drop, All-take, All-weaker}
+use Rattle.jm_slots.proofs.Items.{sides}
 use Rattle.jm_grouped.specs.Order.{IsBefore, IsGroup, IsRising, is_counted}
-use Rattle.jm_grouped.proofs.Lists.{AllPairs-insert, refuted, sides}
+use Rattle.jm_grouped.proofs.Lists.{AllPairs-insert, refuted}
 
 -- ---- how an item stands to a value
 
@@ -77,14 +78,14 @@ module _ {T : Type 0} {cmp : T → T → Ordering} (o : IsTotalOrder cmp) where
       pub low_half : is_counted cmp items value w (get_or order middle 0) ≡ true → (k : ℕ) → k < middle + 1 → is_counted cmp items value w (get_or order k 0) ≡ true
       low_half first k l = elim (sides k middle) [
         | inl below ↦ counts_down w _ _ value ((it.rising k middle 0 below inside).not_above value) first
-        | inr (inl same) ↦ subst (λ n. is_counted cmp items value w (get_or order n 0) ≡ true) same first
+        | inr (inl same) ↦ subst (λ n. is_counted cmp items value w (get_or order n 0) ≡ true) (sym same) first
         | inr (inr above) ↦ absurd (omega (arith, l, above))
       ]
 
       pub high_half : is_counted cmp items value w (get_or order middle 0) ≡ false → (k : ℕ) → middle ≤ k → k < length order → is_counted cmp items value w (get_or order k 0) ≡ false
       high_half later k l m = elim (sides k middle) [
         | inl below ↦ absurd (omega (arith, l, below))
-        | inr (inl same) ↦ subst (λ n. is_counted cmp items value w (get_or order n 0) ≡ false) same later
+        | inr (inl same) ↦ subst (λ n. is_counted cmp items value w (get_or order n 0) ≡ false) (sym same) later
         | inr (inr above) ↦ refuted _ (λ hit. let both = counts_down w _ _ value ((it.rising middle k 0 above m).not_above value) hit in cc)
       ]
 
