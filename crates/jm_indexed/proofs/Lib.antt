@@ -7,4 +7,3 @@ pub mod Columns
 pub mod Entries
 pub mod Distinct
 pub mod Copied
-pub mod Sections

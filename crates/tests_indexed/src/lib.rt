@@ -6,8 +6,6 @@ mod keys;
 #[cfg(test)]
 mod map;
 #[cfg(test)]
-mod sections;
-#[cfg(test)]
 mod shared;
 #[cfg(test)]
 mod told;

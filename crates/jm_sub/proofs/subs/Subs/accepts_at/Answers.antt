@@ -4,7 +4,7 @@ use Rattle.std.specs.Option.{option_copied}
 use Rattle.jm_machine.specs.Machine.{accepts}
 use Rattle.jm_sub.specs.Subscriptions.{publisher, takes}
 use Rattle.jm_sub.proofs.Listed.{entry_at}
-use Rattle.jm_sub.proofs.Changed.{length_subscriptions}
+use Rattle.jm_sub.proofs.Table.{length_subscriptions}
 use Rattle.jm_sub.proofs.subs.Subs.accepts_at.Goals as goal
 
 pub entry_at-requires : goal.entry_at-requires

@@ -2,7 +2,7 @@ use Rattle.std.proofs.Common.{◌∙◌, ap, arith, length, sym, Some}
 use Rattle.std.specs.Prelude.{option_map}
 use Rattle.jm_sub.specs.Subscriptions.{Subscription}
 use Rattle.jm_sub.proofs.Listed.{entry_at}
-use Rattle.jm_sub.proofs.Changed.{length_subscriptions}
+use Rattle.jm_sub.proofs.Table.{length_subscriptions}
 use Rattle.jm_sub.proofs.subs.Subs.definition_at.Goals as goal
 
 pub entry_at-requires : goal.entry_at-requires
