@@ -7,3 +7,4 @@ pub mod Columns
 pub mod Entries
 pub mod Distinct
 pub mod Copied
+pub mod Sections

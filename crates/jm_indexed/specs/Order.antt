@@ -1,8 +1,9 @@
 -- Where keys stand, and the order of their slots.
-use Rattle.std.specs.Prelude.{◌≡◌, ℕ, ◌<◌, ◌≤◌, ◌+◌, Bool, true, List, [], ◌∷◌, length, position, slice_index_or, is_some, Option, if◌then◌else◌}
+use Rattle.std.specs.Prelude.{◌≡◌, ℕ, ◌<◌, ◌≤◌, ◌+◌, Bool, true, false, List, [], ◌∷◌, length, position, slice_index, slice_index_or, is_some, Option, if◌then◌else◌}
 use Rattle.std.specs.List.{All, AllPairs, Contains}
 use Rattle.std.specs.Ordering.{is_lt}
 use Rattle.std.specs.declared.cmp.Ordering.{Ordering}
+use Rattle.std.specs.declared.cmp.Ordering.TheVariants.{Equal}
 use Rattle.jm_slots.specs.Items.{item_in}
 
 -- where the key stands among those: the first that is equal to it
@@ -47,6 +48,20 @@ pub record IsSlotOf {K V : Type 0} (eq : K → K → Bool) (keys : List K) (slot
 -- no slot that has a value has a key that is equal to that one
 abbrev pub IsNowhere : {K V : Type 0} → (K → K → Bool) → List K → List (Option V) → K → Type 0
 IsNowhere eq keys slots key = (slot : ℕ) → IsSlotOf eq keys slots key slot → ⊥
+
+-- at that place of the order stands a slot that has a value, and its key is in the section
+pub record IsInsideAt {K V : Type 0} (place : K → Ordering) (keys : List K) (slots : List (Option V)) (order : List ℕ) (at : ℕ) : Type 0 where
+  pub within : at < length order
+  pub value : has_value slots (slice_index order at) ≡ true
+  pub inside : (d : K) → place (slice_index_or keys (slice_index order at) d) ≡ Equal
+
+-- from that place on there is none
+abbrev pub IsOutsideFrom : {K V : Type 0} → (K → Ordering) → List K → List (Option V) → List ℕ → ℕ → Type 0
+IsOutsideFrom place keys slots order first = (at : ℕ) → first ≤ at → IsInsideAt place keys slots order at → ⊥
+
+-- from that place on no key comes before the section
+abbrev pub IsBegun : {K : Type 0} → (K → Ordering) → List K → List ℕ → ℕ → Type 0
+IsBegun {K} place keys order first = (at : ℕ) (d : K) → first ≤ at → at < length order → is_lt (place (slice_index_or keys (slice_index order at) d)) ≡ false
 
 -- for each how many of those that stay stand before it, where so many stand before them all; or the mark of one that goes
 abbrev pub marks_of : {K : Type 0} → (K → Bool) → ℕ → ℕ → List K → List ℕ

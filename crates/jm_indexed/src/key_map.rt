@@ -1,16 +1,19 @@
 //! Maps of keys in order of coming.
 
-ghost use Rattle.std.specs.Prelude.{◌≡◌, ◌+◌, ◌<◌, ◌≤◌, ◌^◌, ◌==◌, ◌++◌, [], ◌∷◌, filter, length, is_some, slice_get, slice_index_or, IfOk, IfSome, IsOk, OnOk, None, Some};
+ghost use Rattle.std.specs.Prelude.{◌≡◌, ◌+◌, ◌<◌, ◌≤◌, ◌^◌, ◌==◌, ◌++◌, [], ◌∷◌, filter, length, is_some, slice_get, slice_index_or, IfNone, IfOk, IfSome, IsOk, OnOk, None, Some, false};
 ghost use Rattle.std.specs.Borrow.{sem};
 ghost use Rattle.std.specs.List.{IsDistinct, list_any, remove};
 ghost use Rattle.std.specs.Map.{keys_of, lookup, remove_entry, values_of};
 ghost use Rattle.std.specs.Option.{option_copied, option_copied_mut};
+ghost use Rattle.std.specs.Ordering.{is_eq};
+ghost use Rattle.std.specs.declared.cmp.Ordering.TheVariants.{Equal};
 ghost use Rattle.jm_indexed.specs.Entries.{Updates};
 ghost use Rattle.jm_indexed.specs.Order.{index_in};
 
 use crate::choice::{Choice, EntryChoice};
 use crate::copy::{copy_order, units};
 use crate::order::{any_kept, find_slot, insert_slot};
+use crate::section::{Section, place_inside};
 use crate::sweep::{keep_entries, sweep_for_room, sweep_to_leave};
 use jm_slots::Slots;
 use std::alloc::{AllocError, Global};
@@ -149,7 +152,13 @@ impl<K: Ord, V> KeyMap<K, V> {
     pub fn contains_key(&self, key: &K) -> bool
         ensures { result ≡ is_some (lookup (K.eq key.now) self.now.entries) }
     {
-        self.index_of(key).is_some()
+        find_slot(
+            self.keys.as_slice(),
+            &self.values,
+            self.order.as_slice(),
+            key,
+        )
+        .is_some()
     }
 
     /// Whether the choice keeps some key. Each slot is looked at once at most.
@@ -159,12 +168,37 @@ impl<K: Ord, V> KeyMap<K, V> {
         any_kept(self.keys.as_slice(), &self.values, choice)
     }
 
+    /// Where a key of the section stands, if there is one, from 0 in order of coming: the first in the order of the keys from the
+    /// guessed place of the order on, or else the first of all. The next guess is behind it, so that a section whose keys are taken
+    /// out one by one is gone over once.
+    pub fn index_in<S: Section<K>>(&self, section: &S, guess: &mut usize) -> Option<usize>
+        ensures within { IfSome result (λ i. i < length self.now.entries) }
+        ensures found { IfSome result (λ i. (d : K) → S.place section.now (slice_index_or (keys_of self.now.entries) i d) ≡ Equal) }
+        ensures none { IfNone result (list_any (λ key. is_eq (S.place section.now key)) (keys_of self.now.entries) ≡ false) }
+    {
+        let order = self.order.as_slice();
+        match place_inside(self.keys.as_slice(), &self.values, order, section, *guess) {
+            Some(place) => {
+                *guess = place + 1;
+                Some(self.values.index_of(order[place]))
+            }
+            None => None,
+        }
+    }
+
     /// The value of the key, if it is there. It is found by halves.
     pub fn get(&self, key: &K) -> Option<&V>
         ensures { option_copied result ≡ lookup (K.eq key.now) self.now.entries }
     {
-        let index = self.index_of(key)?;
-        Some(self.values.at(index))
+        match find_slot(
+            self.keys.as_slice(),
+            &self.values,
+            self.order.as_slice(),
+            key,
+        ) {
+            Some(slot) => self.values.get(slot),
+            None => None,
+        }
     }
 
     /// The value at that index, counted from 0 in order of coming, to write.
@@ -182,8 +216,13 @@ impl<K: Ord, V> KeyMap<K, V> {
         ensures* writes_back { sem 𝓛 (lends_get K.row V.row K.Ord self.entry key.now result) }
         ensures value { option_copied_mut result ≡ lookup (K.eq key.now) self.old.entries }
     {
-        match self.index_of(key) {
-            Some(index) => Some(self.value_mut(index)),
+        match find_slot(
+            self.keys.as_slice(),
+            &self.values,
+            self.order.as_slice(),
+            key,
+        ) {
+            Some(slot) => Some(self.values.get_mut(slot)),
             None => None,
         }
     }
@@ -228,9 +267,10 @@ impl<K: Ord + Drop, V: Drop> KeyMap<K, V> {
         }
     }
 
-    /// Takes out the entry at that index, and gives its value. No other moves, but for one call in so many that an eighth of the
-    /// entries can go before the next one. Takes no memory.
-    pub(crate) fn remove_at(&mut self, index: usize) -> V
+    /// Takes out the entry at that index, counted from 0 in order of coming, and gives its value; those behind it have their
+    /// indexes one less. No other moves, but for one call in so many that an eighth of the entries can go before the next one.
+    /// Takes no memory.
+    pub fn remove_at(&mut self, index: usize) -> V
         requires { index < length self.old.entries }
         ensures value { slice_get (values_of self.old.entries) index ≡ Some result }
         ensures entries { self.new.entries ≡ remove self.old.entries index }

@@ -1,11 +1,14 @@
 //! Sets of keys in order of coming.
 
-ghost use Rattle.std.specs.Prelude.{◌≡◌, ◌+◌, ◌<◌, ◌≤◌, ◌^◌, ◌==◌, ◌++◌, [], ◌∷◌, filter, length, slice_index_or, IfOk, IfSome, OnOk, IsOk, None};
+ghost use Rattle.std.specs.Prelude.{◌≡◌, ◌+◌, ◌<◌, ◌≤◌, ◌^◌, ◌==◌, ◌++◌, [], ◌∷◌, filter, length, slice_index_or, IfNone, IfOk, IfSome, OnOk, IsOk, None, false};
 ghost use Rattle.std.specs.List.{IsDistinct, list_any, remove};
+ghost use Rattle.std.specs.Ordering.{is_eq};
+ghost use Rattle.std.specs.declared.cmp.Ordering.TheVariants.{Equal};
 ghost use Rattle.jm_indexed.specs.Order.{index_in};
 
 use crate::choice::{Choice, EntryChoice};
 use crate::key_map::KeyMap;
+use crate::section::Section;
 use std::alloc::{AllocError, Global};
 use std::marker::Model;
 
@@ -102,6 +105,17 @@ impl<K: Ord> KeySet<K> {
         ensures within { IfSome result (λ i. i < length self.now.keys) }
     {
         self.map.index_near(key, guess)
+    }
+
+    /// Where a key of the section stands, if there is one, from 0 in order of coming: the first in the order of the keys from the
+    /// guessed place of the order on, or else the first of all. The next guess is behind it, so that a section whose keys are taken
+    /// out one by one is gone over once.
+    pub fn index_in<S: Section<K>>(&self, section: &S, guess: &mut usize) -> Option<usize>
+        ensures within { IfSome result (λ i. i < length self.now.keys) }
+        ensures found { IfSome result (λ i. (d : K) → S.place section.now (slice_index_or self.now.keys i d) ≡ Equal) }
+        ensures none { IfNone result (list_any (λ key. is_eq (S.place section.now key)) self.now.keys ≡ false) }
+    {
+        self.map.index_in(section, guess)
     }
 
     /// Whether the choice keeps some key. Each slot is looked at once at most.

@@ -6,6 +6,8 @@ mod keys;
 #[cfg(test)]
 mod map;
 #[cfg(test)]
+mod sections;
+#[cfg(test)]
 mod shared;
 #[cfg(test)]
 mod told;

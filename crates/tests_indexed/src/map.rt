@@ -16,6 +16,8 @@ enum Ask {
     At(usize),
     /// Takes the key out, and answers what stood under it.
     Remove(u32),
+    /// Takes out what stands at that index, where something does, and answers its value.
+    RemoveAt(usize),
     /// Leaves those whose values are not below it; answers how many there are.
     Keep(u32),
     /// 1 where the key is there, else 0.
@@ -37,7 +39,7 @@ const NONE: usize = 1000;
 const MEMORY: usize = 2000;
 
 /// What is asked in turn of one map, and what is answered.
-static ROWS: [(Ask, usize); 42] = [
+static ROWS: [(Ask, usize); 53] = [
     (Ask::IsEmpty, 1),
     (Ask::Get(3), NONE),
     (Ask::Put(30, 5), 1),
@@ -78,6 +80,17 @@ static ROWS: [(Ask, usize); 42] = [
     (Ask::Keep(8), 2),
     (Ask::Get(20), NONE),
     (Ask::Find(5), 1),
+    (Ask::Put(40, 12), 3),
+    (Ask::Put(25, 11), 4),
+    (Ask::RemoveAt(4), NONE),
+    (Ask::RemoveAt(1), 9),
+    (Ask::Get(5), NONE),
+    (Ask::Get(10), 8),
+    (Ask::Get(40), 12),
+    (Ask::Contains(5), 0),
+    (Ask::RemoveAt(0), 8),
+    (Ask::Find(40), 0),
+    (Ask::Get(25), 11),
     (Ask::Keep(100), 0),
     (Ask::IsEmpty, 1),
 ];
@@ -141,6 +154,14 @@ fn key_at(map: &KeyMap<u32, u32>, index: usize) -> usize {
     }
 }
 
+fn removed_at(map: &mut KeyMap<u32, u32>, index: usize) -> usize {
+    if index < map.len() {
+        map.remove_at(index) as usize
+    } else {
+        NONE
+    }
+}
+
 fn kept(map: &mut KeyMap<u32, u32>, least: u32) -> usize {
     map.retain(&NotBelow { least });
     map.len()
@@ -153,6 +174,7 @@ fn answer(map: &mut KeyMap<u32, u32>, ask: &Ask) -> usize {
         Ask::Find(key) => map.index_of(key).unwrap_or(NONE),
         Ask::At(index) => at(map, *index),
         Ask::Remove(key) => map.remove(key).map_or(NONE, |value| value as usize),
+        Ask::RemoveAt(index) => removed_at(map, *index),
         Ask::Keep(least) => kept(map, *least),
         Ask::Contains(key) => usize::from(map.contains_key(key)),
         Ask::IsEmpty => usize::from(map.is_empty()),

@@ -1,17 +1,21 @@
-use Rattle.std.proofs.Common.{◌≡◌, ◌∙◌, Some, ap, arith, length, sym}
-use Rattle.std.specs.List.{slice_get}
-use Rattle.std.specs.Map.{values_of}
-use Rattle.jm_indexed.proofs.Slotted.{length-entries, value_at}
+use Rattle.std.proofs.Common.{◌∙◌, subst, sym}
+use Rattle.jm_indexed.specs.Order.{IsNowhere, IsSlotOf}
+use Rattle.jm_indexed.proofs.Distinct.{none_found, value_found}
 use Rattle.jm_indexed.proofs.key_map.KeyMap.get.Goals as goal
 
-pub at-requires : goal.at-requires
-at-requires g c =
-    let within = c.in_ok-index.ensures.within in
-    omega (arith, within, ap (λ m. length m.entries) c.self.view_is, length-entries c.self.inside.keys.items c.self.inside.values.slots c.self.invariant.even)
+pub returns-in-Some : goal.returns-in-Some
+returns-in-Some g c =
+    let keys = c.self.inside.keys.items in
+    let slots = c.self.inside.values.slots in
+    let there = subst (λ ks. IsSlotOf g.K.PartialEq.eq ks slots c.args.key.now c.in-Some.slot) c.as_slice.ensures.value c.in-Some.ensures in
+    rw (← c.self.view_is)
+    (c.get.ensures
+    ∙ sym (value_found g.met.K.Ord.total keys slots c.self.inside.order.items c.self.invariant.ordered g.met.K.Ord.matches_eq c.self.invariant.even c.args.key.now g.met.K.Eq.laws c.in-Some.slot there))
 
-pub returns : goal.returns
-returns g c =
-    let there : slice_get (values_of c.args.self.now.entries) c.in_ok-index.index ≡ Some c.at.result.now =
-    ap (λ m. slice_get (values_of m.entries) c.in_ok-index.index) (sym c.self.view_is)
-    ∙ value_at c.self.inside.keys.items c.self.inside.values.slots c.in_ok-index.index c.at.result.now c.self.invariant.even c.at.ensures in
-    sym there ∙ c.in_ok-index.ensures.value
+pub returns-in-None : goal.returns-in-None
+returns-in-None g c =
+    let keys = c.self.inside.keys.items in
+    let slots = c.self.inside.values.slots in
+    let none = subst (λ ks. IsNowhere g.K.PartialEq.eq ks slots c.args.key.now) c.as_slice.ensures.value c.in-None.ensures in
+    rw (← c.self.view_is)
+    (sym (none_found g.met.K.Ord.total keys slots c.self.inside.order.items c.self.invariant.ordered g.met.K.Ord.matches_eq c.self.invariant.even c.args.key.now g.met.K.Eq.laws none))
