@@ -4,6 +4,7 @@ pub mod Outside
 pub mod Reaches
 pub mod Order
 pub mod Keys
+pub mod Sections
 pub mod Counts
 pub mod Ends
 pub mod Bare

@@ -5,6 +5,8 @@ pub mod Machine
 pub mod Accepted
 pub mod Reopened
 pub mod Attached
+pub mod Sections
+pub mod SectionsRise
 pub mod Wants
 pub mod Entries
 pub mod Client

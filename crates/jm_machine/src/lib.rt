@@ -7,7 +7,7 @@
 //! The types of calls, answers and the state, with exact copies, and the definitions, among them the states that the
 //! provider reaches, from a new core or from one that is made of what was stored (`Reached`); look-ups by number in
 //! lists of them (`find`), the consumers that one step is about (`Consumers`), and what a delivery hands out of a
-//! row, all of which take no memory.
+//! row, all of which take no memory. The own keys of such consumers are a section of the keys in their order.
 //!
 //! `Attached` is seen as the number of active consumers at each key of a subscription that has a name (`number_at`),
 //! and for how many more keys there is room: `join` and `leave` count one more and one less, `number` is found by the
