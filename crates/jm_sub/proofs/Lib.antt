@@ -1,9 +1,9 @@
-mod Left
-mod Entries
-mod SameChannel
-mod Table
+mod SameLiteral
+mod Changed
 mod Shared
+mod Ended
 mod Listed
 mod Topics
 mod Places
 mod Heard
+pub mod AcceptingPlaces

@@ -1,9 +1,8 @@
 -- The entries as a list of subscriptions: what is found in it, and a copy that grows.
 use Rattle.std.proofs.Common.{◌≡◌, ◌+◌, ℕ, zero, suc, length, Bool, true, false, cond, List, [], ◌∷◌, ◌++◌, None, Some, refl, sym, ap, subst, ◌∙◌, add-one, take}
-use Rattle.std.specs.Prelude.{option_map, slice_get, position, nat_lt}
+use Rattle.std.specs.Prelude.{slice_get, position, nat_lt}
 use Rattle.std.specs.List.{IsDistinct, AllByRecursion, position_or_len}
-use Rattle.std.specs.Map.{keys_of, lookup, values_of}
-use Rattle.std.proofs.lemmas.Option.{slice_get-map}
+use Rattle.std.specs.Map.{keys_of, lookup}
 use Rattle.jm_dest.specs.declared.key.Key.{Key}
 use Rattle.jm_dest.specs.Keys.{key_eq}
 use Rattle.jm_machine.specs.declared.state.Definition.{Definition}
@@ -11,10 +10,6 @@ use Rattle.jm_sub.specs.Entries.{IsNew, subscription_of, subscriptions_of}
 use Rattle.jm_sub.specs.Subscriptions as spec
 use Rattle.jm_sub.specs.Subscriptions.{Subscription}
 use Rattle.jm_machine.proofs.Keys.{key_sym, set_eq, set_is}
-
--- what is found under a key
-pub lookup_key : (k : Key) (es : List (Key × Definition)) → lookup (set_eq k) es ≡ lookup (key_eq k) es
-lookup_key k es = λ i. lookup (λ x. set_is k x i) es
 
 -- a key that stands further on is another
 pub apart_at : (P : Key → Type 0) (es : List (Key × Definition)) (at : ℕ) (e : Key × Definition) → AllByRecursion P (keys_of es) → slice_get es at ≡ Some e → P e.0
@@ -69,7 +64,3 @@ definition_found key (e ∷ es) = by (set_eq key e.0) refl (definition_found key
     by : (b : Bool) → set_eq key e.0 ≡ b → lookup (set_eq key) es ≡ spec.definition_at key (subscriptions_of es) → lookup (set_eq key) (e ∷ es) ≡ spec.definition_at key (subscriptions_of (e ∷ es))
     by true this rest = rw (this, key_sym e.0 key ∙ sym (set_is key e.0) ∙ this) refl
     by false other rest = rw (other, key_sym e.0 key ∙ sym (set_is key e.0) ∙ other) rest
-
--- what stands where the key was found is what is found under the key
-pub found_at : (key : Key) (entries : List (Key × Definition)) (at : ℕ) (e : Key × Definition) → slice_get (values_of entries) at ≡ lookup (set_eq key) entries → slice_get entries at ≡ Some e → lookup (key_eq key) entries ≡ Some e.1
-found_at key entries at e value there = sym (lookup_key key entries) ∙ sym value ∙ slice_get-map (λ (x : Key × Definition). x.1) entries at ∙ ap (option_map (λ (x : Key × Definition). x.1)) there

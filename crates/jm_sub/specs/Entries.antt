@@ -1,12 +1,9 @@
 -- The subscriptions, each under its key.
-use Rattle.std.specs.Prelude.{◌≡◌, ℕ, Bool, false, List, [], ◌∷◌, map, Option, None, Some}
-use Rattle.std.specs.Map.{lookup}
+use Rattle.std.specs.Prelude.{◌≡◌, ℕ, false, List, [], ◌∷◌, map}
 use Rattle.jm_dest.specs.declared.key.Key.{Key}
 use Rattle.jm_dest.specs.Keys.{key_eq}
-use Rattle.jm_header.specs.declared.content.Content.{Content}
 use Rattle.jm_machine.specs.declared.state.Definition.{Definition}
-use Rattle.jm_machine.specs.Machine.{Publisher}
-use Rattle.jm_sub.specs.Subscriptions.{Subscription, wants}
+use Rattle.jm_sub.specs.Subscriptions.{Subscription}
 
 -- a subscription, of the key under which it stands
 abbrev pub subscription_of : Key × Definition → Subscription
@@ -19,15 +16,6 @@ subscriptions_of entries = map subscription_of entries
 -- the topics that the subscriptions are to, in order of creation
 abbrev pub topics_of : List (Key × Definition) → List (List ℕ)
 topics_of entries = map (λ e. e.1.topic) entries
-
--- what was found under the key wants the publisher's message
-abbrev pub found_wants : Key → Option Definition → Publisher → Content → Bool
-found_wants key None sender m = false
-found_wants key (Some d) sender m = wants key d sender m
-
--- the subscription of the key wants the publisher's message
-abbrev pub wanting : List (Key × Definition) → Publisher → Content → Key → Bool
-wanting entries sender m key = found_wants key (lookup (key_eq key) entries) sender m
 
 -- no subscription has the key
 abbrev pub IsNew : Key → List Subscription → Type 0

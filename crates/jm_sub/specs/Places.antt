@@ -1,8 +1,7 @@
 -- The places of the subscriptions that want a message, found by the channels of the message.
-use Rattle.std.specs.Prelude.{ℕ, Bool, true, false, not, ◌&&◌, ◌+◌, nat_eq, nat_lt, slice_get, if◌then◌else◌, List, [], ◌∷◌, map, Option, None, Some}
+use Rattle.std.specs.Prelude.{ℕ, Bool, false, ◌&&◌, List, ◌∷◌, map, Option, None, Some}
 use Rattle.std.specs.Set.{is_member}
 use Rattle.jm_dest.specs.declared.key.Key.{Key}
-use Rattle.jm_dest.specs.Keys.{key_eq}
 use Rattle.jm_header.specs.declared.content.Content.{Content}
 use Rattle.jm_machine.specs.declared.state.Definition.{Definition}
 use Rattle.jm_machine.specs.Machine.{Publisher}
@@ -16,10 +15,6 @@ use Rattle.jm_sub.specs.declared.channel.Channel.{Channel}
 abbrev pub passes : {X : Type 0} → (X → Bool) → Option X → Bool
 passes test None = false
 passes test (Some x) = test x
-
--- the entry has one of the keys, and wants the publisher's message
-abbrev pub meant_among : List Key → Publisher → Content → Key × Definition → Bool
-meant_among keys sender m e = is_member key_eq keys e.0 && wants e.0 e.1 sender m
 
 -- it stands in one of the channels, and wants the publisher's message
 abbrev pub heard_in : List Channel → Publisher → Content → Key × Definition → Bool
@@ -40,19 +35,3 @@ channels_with topic literals = open_channel topic ∷ map (literal_channel topic
 -- those whose subscriptions may want a message to that topic
 abbrev pub channels_of : List ℕ → Content → List Channel
 channels_of topic m = channels_with topic (literals_of m)
-
--- the key of an entry, if there is one, before those keys
-abbrev pub with_key : Option (Key × Definition) → List Key → List Key
-with_key None keys = keys
-with_key (Some e) keys = e.0 ∷ keys
-
--- the keys of the entries at the places, where one below that number is left out, and one that is not behind each before it
-abbrev pub keys_from : List (Key × Definition) → ℕ → List ℕ → List Key
-keys_from entries next [] = []
-keys_from entries next (place ∷ places) =
-    if nat_lt place next then keys_from entries next places else with_key (slice_get entries place) (keys_from entries (place + 1) places)
-
--- the places do not fall, from that number on
-abbrev pub rises : ℕ → List ℕ → Bool
-rises last [] = true
-rises last (place ∷ places) = not (nat_lt place last) && rises place places

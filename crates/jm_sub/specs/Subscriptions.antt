@@ -1,5 +1,5 @@
 -- Subscriptions in order of creation, at most one a key.
-use Rattle.std.specs.Prelude.{ℕ, Bool, true, false, ◌&&◌, not, Option, None, Some, List, [], ◌∷◌, ◌++◌, filter, find, is_some, map, option_map, count_by, if◌then◌else◌}
+use Rattle.std.specs.Prelude.{ℕ, ◌+◌, Bool, true, false, ◌&&◌, not, Option, None, Some, List, [], ◌∷◌, ◌++◌, filter, find, is_some, map, option_map, count_by, if◌then◌else◌}
 use Rattle.std.specs.Set.{distinct_count}
 use Rattle.jm_base.specs.declared.refusal.Refusal.{Refusal}
 use Rattle.jm_base.specs.declared.refusal.Refusal.TheVariants.{InvalidDestination, SubscriptionInUse}
@@ -11,6 +11,7 @@ use Rattle.jm_header.specs.declared.content.Content.{Content}
 use Rattle.jm_machine.specs.declared.state.Definition.{Definition}
 use Rattle.jm_machine.specs.declared.consumers.Consumers.{Consumers}
 use Rattle.jm_machine.specs.Attached.{Counts, ended}
+use Rattle.jm_machine.specs.Sections.{is_own_of}
 use Rattle.jm_machine.specs.Machine.{Publisher, accepts, first_cause, is_local, is_same, unless}
 use Rattle.jm_selector.specs.Selectors.{matches}
 
@@ -40,6 +41,17 @@ takes sender m s = accepts s.key s.definition sender m
 abbrev pub accepting : Publisher → Content → List Subscription → List Key
 accepting sender m subscriptions = map (λ s. s.key) (filter (takes sender m) subscriptions)
 
+-- where those stand that accept the publisher's message, where they are counted from that number on
+abbrev pub accepting_from : Publisher → Content → ℕ → List Subscription → List ℕ
+accepting_from sender m first [] = []
+accepting_from sender m first (s ∷ subscriptions) =
+    if takes sender m s then first ∷ accepting_from sender m (first + 1) subscriptions
+    else accepting_from sender m (first + 1) subscriptions
+
+-- where those stand that accept the publisher's message, from 0 in order of creation
+abbrev pub accepting_places : Publisher → Content → List Subscription → List ℕ
+accepting_places sender m subscriptions = accepting_from sender m 0 subscriptions
+
 -- what the subscription of the key asks for, if there is one
 abbrev pub definition_at : Key → List Subscription → Option Definition
 definition_at key subscriptions = option_map (λ s. s.definition) (find (λ s. key_eq s.key key) subscriptions)
@@ -60,6 +72,10 @@ without key subscriptions = filter (λ s. not (key_eq s.key key)) subscriptions
 -- a new subscription, in place of any other of its key
 abbrev pub put : Subscription → List Subscription → List Subscription
 put s subscriptions = without s.key subscriptions ++ s ∷ []
+
+-- all but the own subscriptions of these consumers
+abbrev pub without_own : Consumers → List Subscription → List Subscription
+without_own which subscriptions = filter (λ s. not (is_own_of which s.key)) subscriptions
 
 -- all but those that end once these consumers are closed, where so many active ones are left at each key
 abbrev pub without_ended : Consumers → Counts → List Subscription → List Subscription

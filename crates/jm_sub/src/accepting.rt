@@ -1,137 +1,49 @@
 //! Which subscriptions accept a message, by the channels of the message.
 
-ghost use Rattle.std.specs.Prelude.{◌≡◌, ◌<◌, ◌||◌, ℕ, [], ◌∷◌, length, filter, nat_eq, position, slice_get, true, if◌then◌else◌, IfOk, OnOk, None};
+ghost use Rattle.std.specs.Prelude.{◌≡◌, ◌<◌, ◌↔◌, ◌||◌, ℕ, [], ◌∷◌, length, map, nat_eq, slice_get, Some, IfOk, IsTrue, OnOk, All};
+ghost use Rattle.std.specs.List.Sorted.{IsStrictlyIncreasing};
 ghost use Rattle.std.specs.Map.{keys_of};
 ghost use Rattle.std.specs.Option.{option_copied};
 ghost use Rattle.std.specs.Set.{is_member};
-ghost use Rattle.jm_dest.specs.Keys.{key_eq};
 ghost use Rattle.jm_dest.specs.declared.destination.Destination.TheVariants.{Topic};
-ghost use Rattle.jm_selector.specs.Literals.{literals_of};
-ghost use Rattle.jm_sub.specs.Channels.{IsTableOf};
-ghost use Rattle.jm_sub.specs.Entries.{subscriptions_of, wanting};
-ghost use Rattle.jm_sub.specs.Places.{channels_with, heard_in, keys_from, meant_among, open_channel, passes, rises};
+ghost use Rattle.jm_sub.specs.Channels.{channels_in};
+ghost use Rattle.jm_sub.specs.Entries.{subscriptions_of};
+ghost use Rattle.jm_sub.specs.Places.{channels_with, heard_in, open_channel, passes};
 ghost use Rattle.jm_sub.specs.Subscriptions as spec;
 ghost use Rattle.jm_sub.specs.Subscriptions.{publisher};
 
-use crate::channel::{Channel, Held};
-use crate::channels::Channels;
+use crate::channel::Channel;
 use crate::definition::wants;
+use jm_base::Boxed;
 use jm_dest::{ClientId, Key, Name};
+use jm_grouped::GroupedList;
 use jm_header::Message;
 use jm_indexed::KeyMap;
+use jm_machine::Definition;
 use jm_selector::{Literal, law_literal, literals};
 use std::alloc::{AllocError, Global};
-use std::collections::LinkedList;
 
-/// Whether there is a subscription of the key that wants the message of that publisher. It is looked for at the guessed place
-/// first; the next guess is the place behind it.
-fn wants_near(
-    items: &KeyMap<Key, Held>,
-    key: &Key,
-    guess: &mut usize,
-    message: &Message,
-    client: Option<&ClientId>,
-) -> bool
-    ensures { result ≡ wanting items.now.entries (publisher message.now (option_copied client.entry)) message.now key.now }
-{
-    match items.index_near(key, *guess) {
-        None => false,
-        Some(at) => {
-            *guess = at.saturating_add(1);
-            let (_, held) = items.entry_at(at);
-            wants(key, held.definition(), message, client)
-        }
-    }
-}
-
-/// Those of the keys whose subscriptions want the message of that publisher. The keys come in the order of the items, so that
-/// each is looked for behind the one before.
-fn selected(
-    alloc: Global,
-    items: &KeyMap<Key, Held>,
-    keys: &LinkedList<Key>,
-    message: &Message,
-    client: Option<&ClientId>,
-) -> Result<Vec<Key>, AllocError>
-    ensures { IfOk result (λ selected. selected.items ≡ filter (wanting items.now.entries (publisher message.now (option_copied client.entry)) message.now) keys.now) }
-{
-    let mut selected = Vec::new(alloc);
-    let mut guess = 0;
-    for key in keys {
-        if wants_near(items, key, &mut guess, message, client) {
-            selected.push(key.copy()?)?;
-        }
-    }
-    Ok(selected)
-}
-
-/// Where the subscription of the key stands, if it wants the message of that publisher. It is looked for at the guessed place
-/// first; the next guess is the place behind it.
-fn wanting_place(
-    items: &KeyMap<Key, Held>,
-    key: &Key,
-    guess: &mut usize,
-    message: &Message,
-    client: Option<&ClientId>,
-) -> Option<usize>
-    ensures { result ≡ (if wanting items.now.entries (publisher message.now (option_copied client.entry)) message.now key.now then position (λ k. key_eq k key.now) (keys_of items.now.entries) else None) }
-{
-    match items.index_near(key, *guess) {
-        None => None,
-        Some(at) => {
-            *guess = at.saturating_add(1);
-            let (_, held) = items.entry_at(at);
-            if wants(key, held.definition(), message, client) {
-                Some(at)
-            } else {
-                None
-            }
-        }
-    }
-}
-
-/// Adds the places of those of the keys whose subscriptions want the message of that publisher. The keys come in the order of
-/// the items, so that each is looked for behind the one before.
-fn add_places(
-    items: &KeyMap<Key, Held>,
-    keys: &LinkedList<Key>,
-    message: &Message,
-    client: Option<&ClientId>,
-    places: &mut Vec<usize>,
-) -> Result<(), AllocError>
-    ensures { OnOk result ((at : ℕ) → is_member nat_eq places.new.items at ≡ (is_member nat_eq places.old.items at
-        || passes (meant_among keys.now (publisher message.now (option_copied client.entry)) message.now) (slice_get items.now.entries at))) }
-{
-    // The length is what says that each key stands once.
-    let _number = items.len();
-    let mut guess = 0;
-    for key in keys {
-        if let Some(place) = wanting_place(items, key, &mut guess, message, client) {
-            places.push(place)?;
-        }
-    }
-    Ok(())
-}
-
-/// Adds the places of the subscriptions of the channel that want the message of that publisher.
+/// Adds the places of the channel's subscriptions that want the message of that publisher, in their order.
 fn add_channel(
-    items: &KeyMap<Key, Held>,
-    channels: &Channels,
+    items: &KeyMap<Key, Boxed<Definition>>,
+    channels: &GroupedList<Channel>,
     channel: &Channel,
     message: &Message,
     client: Option<&ClientId>,
     places: &mut Vec<usize>,
 ) -> Result<(), AllocError>
-    requires { IsTableOf (subscriptions_of items.now.entries) channels.now }
+    requires { channels.now.items ≡ channels_in items.now.entries }
     ensures { OnOk result ((at : ℕ) → is_member nat_eq places.new.items at ≡ (is_member nat_eq places.old.items at
-        || passes (heard_in (channel.now ∷ []) (publisher message.now (option_copied client.entry)) message.now) (slice_get items.now.entries at))) }
+        || passes (heard_in (channel.now ∷ []) (publisher message.now (option_copied client.entry)) message.now)
+        (slice_get items.now.entries at))) }
 {
-    // The length is what says that each key stands once.
-    let _number = items.len();
-    match channels.keys(channel) {
-        None => Ok(()),
-        Some(keys) => add_places(items, keys, message, client, places),
+    for place in channels.indexes_of(channel) {
+        let (key, definition) = items.entry_at(place);
+        if wants(key, definition.get(), message, client) {
+            places.push(place)?;
+        }
     }
+    Ok(())
 }
 
 /// The channel of the topic's subscriptions that ask for no literal. `AllocError` where the topic's text has
@@ -149,16 +61,17 @@ fn open(topic: &Name) -> Result<Channel, AllocError>
 /// of each of the literals: those of each channel in their order.
 fn heard_places(
     alloc: Global,
-    items: &KeyMap<Key, Held>,
-    channels: &Channels,
+    items: &KeyMap<Key, Boxed<Definition>>,
+    channels: &GroupedList<Channel>,
     topic: &Name,
     literals: Vec<Literal>,
     message: &Message,
     client: Option<&ClientId>,
 ) -> Result<Vec<usize>, AllocError>
-    requires { IsTableOf (subscriptions_of items.now.entries) channels.now }
+    requires { channels.now.items ≡ channels_in items.now.entries }
     ensures { IfOk result (λ places. (at : ℕ) → is_member nat_eq places.items at
-        ≡ passes (heard_in (channels_with topic.now literals.items) (publisher message.now (option_copied client.entry)) message.now) (slice_get items.now.entries at)) }
+        ≡ passes (heard_in (channels_with topic.now literals.items) (publisher message.now (option_copied client.entry)) message.now)
+        (slice_get items.now.entries at)) }
 {
     let mut places = Vec::new(alloc);
     let none = open(topic)?;
@@ -173,99 +86,62 @@ fn heard_places(
     Ok(places)
 }
 
-/// Whether no place is below the one before it.
+/// Whether each place is below the next one.
 fn is_rising(places: &[usize]) -> bool
-    ensures { result ≡ rises 0 places.now }
+    ensures { IsTrue result ↔ IsStrictlyIncreasing places.now }
 {
-    let mut last = 0;
-    for place in places {
-        if *place < last {
+    for index in 1..places.len() {
+        if places[index] <= places[index - 1] {
             return false;
         }
-        last = *place;
     }
     true
 }
 
-/// Puts the places in order.
+/// Puts the places in order, where equal ones count once.
 fn put_in_order(places: &mut Vec<usize>)
-    ensures order { rises 0 places.new.items ≡ true }
+    ensures order { IsStrictlyIncreasing places.new.items }
     ensures same { (at : ℕ) → is_member nat_eq places.new.items at ≡ is_member nat_eq places.old.items at }
 {
     if !is_rising(places.as_slice()) {
         places.sort_unstable();
+        places.dedup();
     }
 }
 
-/// The keys that stand at the places, which are in order; of equal places one counts.
-fn keys_at(
+/// Where the subscriptions stand that accept the message of that publisher, which goes to the topic, from 0 in order of creation.
+pub(crate) fn accepting_places(
     alloc: Global,
-    items: &KeyMap<Key, Held>,
-    places: &[usize],
-) -> Result<Vec<Key>, AllocError>
-    requires { (at : ℕ) → is_member nat_eq places.now at ≡ true → at < length items.now.entries }
-    ensures { IfOk result (λ keys. keys.items ≡ keys_from items.now.entries 0 places.now) }
-{
-    // The length is what says that a place can be counted.
-    let _number = items.len();
-    let mut keys = Vec::new(alloc);
-    let mut next = 0;
-    for place in places {
-        if *place >= next {
-            let (key, _) = items.entry_at(*place);
-            keys.push(key.copy()?)?;
-            next = *place + 1;
-        }
-    }
-    Ok(keys)
-}
-
-/// The keys of the subscriptions that accept the message of that publisher, which goes to the topic and has no literal, in order
-/// of creation.
-fn accepting_any(
-    alloc: Global,
-    items: &KeyMap<Key, Held>,
-    channels: &Channels,
+    items: &KeyMap<Key, Boxed<Definition>>,
+    channels: &GroupedList<Channel>,
     topic: &Name,
     message: &Message,
     client: Option<&ClientId>,
-) -> Result<Vec<Key>, AllocError>
-    requires table { IsTableOf (subscriptions_of items.now.entries) channels.now }
+) -> Result<Vec<usize>, AllocError>
+    requires channels { channels.now.items ≡ channels_in items.now.entries }
     requires to { message.now.destination ≡ Topic topic.now }
-    requires bare { literals_of message.now ≡ [] }
-    ensures { IfOk result (λ keys. keys.items ≡ spec.accepting (publisher message.now (option_copied client.entry)) message.now (subscriptions_of items.now.entries)) }
+    ensures { IfOk result (λ places. places.items ≡ spec.accepting_places (publisher message.now (option_copied client.entry))
+        message.now (subscriptions_of items.now.entries)) }
 {
     law_literal();
-    // The length is what says that each key stands once.
-    let _number = items.len();
-    let channel = open(topic)?;
-    match channels.keys(&channel) {
-        None => Ok(Vec::new(alloc)),
-        Some(keys) => selected(alloc, items, keys, message, client),
-    }
-}
-
-/// The keys of the subscriptions that accept the message of that publisher, which goes to the topic, in order of creation.
-pub(crate) fn accepting(
-    alloc: Global,
-    items: &KeyMap<Key, Held>,
-    channels: &Channels,
-    topic: &Name,
-    message: &Message,
-    client: Option<&ClientId>,
-) -> Result<Vec<Key>, AllocError>
-    requires table { IsTableOf (subscriptions_of items.now.entries) channels.now }
-    requires to { message.now.destination ≡ Topic topic.now }
-    ensures { IfOk result (λ keys. keys.items ≡ spec.accepting (publisher message.now (option_copied client.entry)) message.now (subscriptions_of items.now.entries)) }
-{
-    law_literal();
-    // The length is what says that each key stands once.
-    let _number = items.len();
     let literals = literals(alloc, message)?;
-    if literals.is_empty() {
-        return accepting_any(alloc, items, channels, topic, message, client);
-    }
     let mut places = heard_places(alloc, items, channels, topic, literals, message, client)?;
     put_in_order(&mut places);
-    keys_at(alloc, items, places.as_slice())
+    Ok(places)
+}
+
+/// The keys that stand at the places, in their order.
+pub(crate) fn keys_at(
+    alloc: Global,
+    items: &KeyMap<Key, Boxed<Definition>>,
+    places: &[usize],
+) -> Result<Vec<Key>, AllocError>
+    requires { All (λ place. place < length items.now.entries) places.now }
+    ensures { IfOk result (λ keys. map Some keys.items ≡ map (slice_get (keys_of items.now.entries)) places.now) }
+{
+    let mut keys = Vec::with_capacity(alloc, places.len())?;
+    for place in places {
+        keys.push_reserved(items.key_at(*place).copy()?);
+    }
+    Ok(keys)
 }

@@ -1,5 +1,5 @@
 //! The subscriptions of topics: which of them accept a message. A subscription is found by its key, and those that may
-//! accept a message by the table of channels, so that a publication costs what the subscriptions of its channels cost,
+//! accept a message by their channels, so that a publication costs what the subscriptions of its channels cost,
 //! however many others there are.
 //!
 //! # Contract
@@ -18,33 +18,31 @@
 //! deleted, told the same, and takes no memory.
 //!
 //! `apply` puts a new one last, in place of any other of its key, `delete` ends the one of a key, and neither takes
-//! memory; `definition_of` finds by halves under a key what its subscription asks for; `accepting` gives the keys of
-//! those that accept a message, published on the connection of its sender, whose client is handed in, in that order;
-//! `accepts_at` says it of one, and takes no memory; `close` ends those subscriptions that end once consumers are
-//! closed (`ended`), and takes none.
+//! memory; `definition_of` finds by halves under a key what its subscription asks for; `accepting_places` answers where
+//! those stand that accept a message, published on the connection of its sender, whose client is handed in: from 0, in
+//! that order; `accepting` gives their keys; `accepts_at` says it of one, and takes no memory; `close` ends those
+//! subscriptions that end once consumers are closed (`ended`), and takes none.
 //!
 //! `topics` is the number of distinct topics of the definitions (`number_of_topics`), counted in a walk over all, which looks
 //! behind each for another of its topic.
 //!
 //! Inside, a subscription is found by halves by its key. It stands in a channel: that of its topic and of the literal that
-//! its selector asks by `=` of every message (`Selector::literal`), or of its topic and no literal. The keys of each channel
-//! stand in order of creation under the channel's entry in a table, found by halves, where a channel without subscriptions
-//! has no entry (`IsTableOf`, an invariant of the type). So `position` does not scan, and `accepting` evaluates the
-//! selectors of two kinds of channels alone: that of the message's topic and no literal, and that of its topic and each
-//! literal of the message (`literals`). A subscription of any other channel asks for a literal that the message lacks, and
-//! does not accept it (`law_literal`). The places of those that want the message are put in order where they are not.
+//! its selector asks by `=` of every message (`Selector::literal`), or of its topic and no literal. The channels stand in a
+//! list of their own, that of each subscription at its index (an invariant of the type), in which the indexes of all that are
+//! equal are found together (`GroupedList`). So `position` does not scan, and `accepting_places` evaluates the selectors of two
+//! kinds of channels alone: that of the message's topic and no literal, and that of its topic and each literal of the message
+//! (`literals`). A subscription of any other channel asks for a literal that the message lacks, and does not accept it
+//! (`law_literal`). The places of those that want the message are put in order where they are not. No key is looked for.
 //!
-//! `delete`, `apply` where the key stood before, and `close` of one consumer go over the keys of one channel alone;
-//! `close` of several, and of one where a subscription is shared and not durable, looks through all keys, and changes
-//! the list and the table in a walk over each only where one ends. That no other is looked at is read in the code,
-//! not proved.
+//! `delete`, `apply` where the key stood before, and `close` of one consumer look for one key. `close` of those of a session
+//! or a connection finds their own subscriptions one by one, since these stand together in the order of the keys (`Section`).
+//! Only where a subscription is shared and not durable does a `close` look at all keys. What ends is taken out of the
+//! list and of the channels at its index, and no other moves. That no other is looked at is read in the code, not proved.
 #![tactic(auto)]
 
 mod accepting;
 mod channel;
-mod channels;
 mod definition;
-mod ending;
 mod sharing;
 mod subs;
 

@@ -1,10 +1,12 @@
 //! How subscriptions that have names are shared.
 
-ghost use Rattle.std.specs.Prelude.{◌≡◌};
+ghost use Rattle.std.specs.Prelude.{◌≡◌, if◌then◌else◌};
 ghost use Rattle.std.specs.Option.{option_copied};
 ghost use Rattle.jm_sub.specs.Sharing as spec;
+ghost use Rattle.jm_sub.specs.Subscriptions.{is_shared_own};
 
 use crate::definition::{is_same, is_same_kind};
+use jm_dest::Key;
 use jm_machine::Definition;
 
 /// How a subscription that has a name is shared (Jakarta Messaging 3.1, section 8.3).
@@ -49,5 +51,15 @@ impl Sharing {
             }
             Sharing::Shared => held.is_none() || is_same(held, asked),
         }
+    }
+}
+
+/// How many shared subscriptions that are not durable have the key: one, or none by its kind.
+pub(crate) fn shared_own(key: &Key) -> usize
+    ensures { result ≡ (if is_shared_own key.now then 1 else 0) }
+{
+    match key {
+        Key::SharedOwn(_, _) => 1,
+        Key::Queue(_) | Key::Own(_, _) | Key::Durable(_, _) => 0,
     }
 }

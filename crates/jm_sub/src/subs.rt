@@ -1,47 +1,41 @@
 //! The subscriptions in order of creation.
 
-ghost use Rattle.std.specs.Prelude.{◌≡◌, ◌≢◌, ◌+◌, ◌<◌, ◌≤◌, ◌==◌, ◌++◌, [], ◌∷◌, true, false, length, not, filter, count_by, slice_get, option_map, drop, position, IfOk, IfErr, IfSome, MatchResult, OnOk, None, Some};
-ghost use Rattle.std.specs.List.{list_any};
+ghost use Rattle.std.specs.Prelude.{◌≡◌, ◌≢◌, ◌+◌, ◌<◌, ◌≤◌, ◌==◌, ◌++◌, [], ◌∷◌, true, false, length, slice_get, option_map, drop, position, IfOk, IfErr, IfSome, MatchResult, OnOk, None, Some};
+ghost use Rattle.std.specs.List.{remove};
 ghost use Rattle.std.specs.Option.{option_copied};
-ghost use Rattle.std.specs.Map.{keys_of};
 ghost use Rattle.std.specs.Set.{distinct_count, is_member};
 ghost use Rattle.jm_dest.specs.Names.{text_eq};
 ghost use Rattle.jm_base.specs.declared.refusal.Refusal.TheVariants.{Memory, SubscriptionInUse};
 ghost use Rattle.jm_dest.specs.declared.key.Key.{Key};
-ghost use Rattle.jm_dest.specs.declared.key.Key.TheVariants.{Own};
 ghost use Rattle.jm_dest.specs.Keys.{key_eq};
-ghost use Rattle.jm_machine.specs.declared.consumers.Consumers.TheVariants.{One};
 ghost use Rattle.jm_machine.specs.Machine as machine;
 ghost use Rattle.jm_machine.specs.Machine.{first_cause, unless};
 ghost use Rattle.jm_selector.specs.Selectors.{selector_refusal};
 ghost use Rattle.jm_sub.specs.Entries.{IsNew, subscriptions_of, topics_of};
 ghost use Rattle.jm_sub.specs.Sharing.{is_shared, may};
 ghost use Rattle.jm_sub.specs.Subscriptions as spec;
-ghost use Rattle.jm_sub.specs.Subscriptions.{needed, number_of_topics, publisher, put, takes, unsubscribe_refusal, without, without_ended};
-ghost use Rattle.jm_sub.specs.Channels.{ends};
+ghost use Rattle.jm_sub.specs.Subscriptions.{needed, number_of_topics, publisher, put, takes, unsubscribe_refusal, without, without_ended, without_own};
 
-use crate::accepting::accepting;
-use crate::channel::{Channel, Held};
-use crate::channels::Channels;
+use crate::accepting::{accepting_places, keys_at};
+use crate::channel::Channel;
 use crate::definition::{accepts, defined, is_same};
-use crate::ending::{Ending, shared_own};
-use crate::sharing::Sharing;
+use crate::sharing::{Sharing, shared_own};
 use jm_base::{Boxed, Refusal, Str};
-use jm_dest::{ClientId, ConsumerId, Destination, Key, Name, SessionId};
+use jm_dest::{ClientId, Destination, Key, Name};
+use jm_grouped::GroupedList;
 use jm_header::Message;
 use jm_indexed::KeyMap;
 use jm_machine::{Attached, Consumers, Definition};
 use std::alloc::{AllocError, Global};
-use std::collections::LinkedList;
 use std::marker::Model;
 
-/// The subscriptions in order of creation, each found by its key, and those of each channel by the table of channels;
-/// `shared` is how many are shared and not durable: such a one may end with any consumer. Contracts see the list of keys
-/// and definitions, and `spare`, for how many more there is room.
+/// The subscriptions in order of creation, each found by its key, and those of each channel by the list of channels, which has
+/// the channel of each at the same index; `shared` is how many are shared and not durable: such a one may end with any
+/// consumer. Contracts see the list of keys and definitions, and `spare`, for how many more there is room.
 pub struct Subs {
     alloc: Global,
-    items: KeyMap<Key, Held>,
-    channels: Channels,
+    items: KeyMap<Key, Boxed<Definition>>,
+    channels: GroupedList<Channel>,
     shared: usize,
 }
 
@@ -60,31 +54,30 @@ impl Model for Subs {
     ghost use Rattle.std.specs.Prelude.{◌≡◌, min};
     ghost use Rattle.jm_sub.specs.Entries.{subscriptions_of};
     ghost use Rattle.jm_sub.specs.Subscriptions.{Subscriptions, number_of_shared};
-    ghost use Rattle.jm_sub.specs.Channels.{IsTableOf, room};
+    ghost use Rattle.jm_sub.specs.Channels.{channels_in};
 
     ghost Value = { Subscriptions };
 
     ghost view = { λ s. record {
       list = subscriptions_of s.items.entries;
-      spare = min s.items.spare (room s.channels);
+      spare = min s.items.spare s.channels.spare;
     } };
 
-    ghost invariant = { λ s. IsTableOf (subscriptions_of s.items.entries) s.channels
+    ghost invariant = { λ s. (s.channels.items ≡ channels_in s.items.entries)
         × (s.shared ≡ number_of_shared (subscriptions_of s.items.entries)) };
 }
 
-/// A change that was decided: the creation of a subscription, with all that the table of channels takes for
-/// it. Contracts see that subscription.
+/// A change that was decided: the creation of a subscription, with the channel in which it stands. Both are boxed, so that
+/// little moves where one comes. Contracts see that subscription.
 #[derive(Drop)]
 pub struct Decision {
     key: Key,
-    created: Held,
+    created: Boxed<Definition>,
     channel: Boxed<Channel>,
-    keys: LinkedList<Key>,
 }
 
 impl Model for Decision {
-    ghost use Rattle.std.specs.Prelude.{◌≡◌, [], ◌∷◌};
+    ghost use Rattle.std.specs.Prelude.{◌≡◌};
     ghost use Rattle.jm_sub.specs.Channels.{channel_of};
     ghost use Rattle.jm_sub.specs.Subscriptions.{Subscription};
 
@@ -92,11 +85,11 @@ impl Model for Decision {
 
     ghost view = { λ d. record { key = d.key; definition = d.created } };
 
-    ghost invariant = { λ d. (d.channel ≡ channel_of d.created) × (d.keys ≡ d.key ∷ []) };
+    ghost invariant = { λ d. d.channel ≡ channel_of d.created };
 }
 
 /// Puts the subscription last, of which no other has the key. There is room for it.
-fn put_last(items: &mut KeyMap<Key, Held>, key: Key, created: Held)
+fn put_last(items: &mut KeyMap<Key, Boxed<Definition>>, key: Key, created: Boxed<Definition>)
     requires room { 0 < items.old.spare }
     requires new { IsNew key (subscriptions_of items.old.entries) }
     ensures items { items.new.entries ≡ items.old.entries ++ (key, created) ∷ [] }
@@ -105,31 +98,13 @@ fn put_last(items: &mut KeyMap<Key, Held>, key: Key, created: Held)
     items.insert(key, created);
 }
 
-/// Whether the key of one of them ends.
-fn is_any_ending(items: &KeyMap<Key, Held>, ending: &Ending) -> bool
-    ensures { result ≡ list_any (ends ending.now) (keys_of items.now.entries) }
-{
-    items.any_key(ending)
-}
-
-/// How many of them are shared and not durable.
-fn number_of_shared(items: &KeyMap<Key, Held>) -> usize
-    ensures { result ≡ count_by spec.is_shared_own (keys_of items.now.entries) }
-{
-    let mut number = 0;
-    for at in 0..items.len() {
-        number += shared_own(items.key_at(at));
-    }
-    number
-}
-
 /// Whether a subscription at that place or behind it is to the topic.
-fn is_topic_from(items: &KeyMap<Key, Held>, place: usize, topic: &Name) -> bool
+fn is_topic_from(items: &KeyMap<Key, Boxed<Definition>>, place: usize, topic: &Name) -> bool
     ensures { result ≡ is_member text_eq (topics_of (drop place items.now.entries)) topic.now }
 {
     for at in place..items.len() {
-        let (_, held) = items.entry_at(at);
-        if *topic == held.definition().topic {
+        let (_, definition) = items.entry_at(at);
+        if *topic == definition.get().topic {
             return true;
         }
     }
@@ -137,27 +112,17 @@ fn is_topic_from(items: &KeyMap<Key, Held>, place: usize, topic: &Name) -> bool
 }
 
 /// How many topics the subscriptions have, where those of one topic count once, as the last of them.
-fn number_of_topics(items: &KeyMap<Key, Held>) -> usize
+fn number_of_topics(items: &KeyMap<Key, Boxed<Definition>>) -> usize
     ensures { result ≡ distinct_count text_eq (topics_of items.now.entries) }
 {
     let mut number = 0;
     for at in 0..items.len() {
-        let (_, held) = items.entry_at(at);
-        if !is_topic_from(items, at + 1, &held.definition().topic) {
+        let (_, definition) = items.entry_at(at);
+        if !is_topic_from(items, at + 1, &definition.get().topic) {
             number += 1;
         }
     }
     number
-}
-
-/// The key, as a list of its own.
-fn link(alloc: Global, key: &Key) -> Result<LinkedList<Key>, AllocError>
-    ensures { IfOk result (λ keys. keys ≡ key.now ∷ []) }
-{
-    let key = key.copy()?;
-    let mut keys = LinkedList::new(alloc);
-    keys.push_back(key)?;
-    Ok(keys)
 }
 
 /// The creation of an equal subscription under the key.
@@ -169,15 +134,15 @@ fn decision_of(alloc: Global, key: &Key, definition: &Definition) -> Result<Deci
     Decision::new(alloc, key, created)
 }
 
-/// Equal subscriptions, with a table of their own.
-fn copied(alloc: Global, items: &KeyMap<Key, Held>) -> Result<Subs, AllocError>
+/// Equal subscriptions, with a list of channels of their own.
+fn copied(alloc: Global, items: &KeyMap<Key, Boxed<Definition>>) -> Result<Subs, AllocError>
     ensures { IfOk result (λ copy. copy.list ≡ subscriptions_of items.now.entries) }
 {
     let mut copy = Subs::new(alloc);
     for at in 0..items.len() {
-        let (key, held) = items.entry_at(at);
+        let (key, definition) = items.entry_at(at);
         copy.reserve()?;
-        let decision = decision_of(alloc, key, held.definition())?;
+        let decision = decision_of(alloc, key, definition.get())?;
         copy.add(decision);
     }
     Ok(copy)
@@ -188,15 +153,13 @@ impl Decision {
     fn new(alloc: Global, key: Key, created: Definition) -> Result<Decision, AllocError>
         ensures { IfOk result (λ d. d ≡ record { key = key; definition = created }) }
     {
-        let keys = link(alloc, &key)?;
-        let created = Held::new(alloc, created)?;
-        let channel = created.channel().copy()?;
+        let channel = Channel::of(&created)?;
         let channel = Boxed::new(alloc, channel)?;
+        let created = Boxed::new(alloc, created)?;
         Ok(Decision {
             key,
             created,
             channel,
-            keys,
         })
     }
 
@@ -204,7 +167,7 @@ impl Decision {
     pub fn definition(&self) -> &Definition
         ensures { result.now ≡ self.now.definition }
     {
-        self.created.definition()
+        self.created.get()
     }
 }
 
@@ -216,7 +179,7 @@ impl Subs {
         Subs {
             alloc,
             items: KeyMap::new(alloc),
-            channels: Channels::new(alloc),
+            channels: GroupedList::new(alloc),
             shared: 0,
         }
     }
@@ -263,8 +226,8 @@ impl Subs {
         requires { at < length self.now.list }
         ensures { option_map (λ s. s.definition) (slice_get self.now.list at) ≡ Some result.now }
     {
-        let (_, held) = self.items.entry_at(at);
-        held.definition()
+        let (_, definition) = self.items.entry_at(at);
+        definition.get()
     }
 
     /// What the subscription of the key asks for, if there is one. It is found by halves.
@@ -273,7 +236,7 @@ impl Subs {
     {
         match self.items.get(key) {
             None => None,
-            Some(held) => Some(held.definition()),
+            Some(definition) => Some(definition.get()),
         }
     }
 
@@ -286,8 +249,8 @@ impl Subs {
         requires { at < length self.now.list }
         ensures { option_map (takes (publisher message.now (option_copied client.entry)) message.now) (slice_get self.now.list at) ≡ Some result }
     {
-        let (key, held) = self.items.entry_at(at);
-        accepts(key, held.definition(), message, client)
+        let (key, definition) = self.items.entry_at(at);
+        accepts(key, definition.get(), message, client)
     }
 
     /// The keys of the subscriptions that accept the message, in order of creation; `client` is the client
@@ -301,10 +264,25 @@ impl Subs {
         ensures ok { IfOk result (λ keys. keys.items ≡ spec.accepting (publisher message.now (option_copied client.entry)) message.now self.now.list) }
         ensures err { IfErr result (λ refusal. refusal ≡ Memory) }
     {
+        let places = self.accepting_places(message, client)?;
+        Ok(keys_at(self.alloc, &self.items, places.as_slice())?)
+    }
+
+    /// Where the subscriptions stand that accept the message, from 0 in order of creation, as `accepting` gives their keys: no
+    /// key is looked for.
+    pub fn accepting_places(
+        &self,
+        message: &Message,
+        client: Option<&ClientId>,
+    ) -> Result<Vec<usize>, Refusal>
+        ensures ok { IfOk result (λ places.
+            places.items ≡ spec.accepting_places (publisher message.now (option_copied client.entry)) message.now self.now.list) }
+        ensures err { IfErr result (λ refusal. refusal ≡ Memory) }
+    {
         let Destination::Topic(topic) = message.destination() else {
             return Ok(Vec::new(self.alloc));
         };
-        Ok(accepting(
+        Ok(accepting_places(
             self.alloc,
             &self.items,
             &self.channels,
@@ -320,7 +298,7 @@ impl Subs {
         ensures ok { OnOk result (0 < self.new.spare) }
     {
         self.items.reserve(1)?;
-        self.channels.reserve()
+        self.channels.reserve(1)
     }
 
     /// Decides the creation of an empty subscription of that key to the topic. It reads the selector,
@@ -418,19 +396,16 @@ impl Subs {
         self.add(decision);
     }
 
-    /// Ends the subscription of the key, if there is one. It is found by halves, no other moves, and in the table of channels
-    /// only the keys of its channel are gone over. Takes no memory.
+    /// Ends the subscription of the key, if there is one. It is found by halves, and no other is looked at. Takes no memory.
     pub fn delete(&mut self, key: &Key)
         ensures list { self.new.list ≡ without key.now self.old.list }
         ensures spare { self.old.spare ≤ self.new.spare }
     {
         // The length is what says that each key stands once.
         let _number = self.items.len();
-        let Some(held) = self.items.remove(key) else {
-            return;
-        };
-        self.shared -= shared_own(key);
-        self.channels.leave(held.channel(), &Ending::Of(key));
+        if let Some(index) = self.items.index_of(key) {
+            self.take_out(index);
+        }
     }
 
     /// Ends the subscriptions that end once these consumers are closed, where `attached` has the numbers of those that
@@ -439,35 +414,47 @@ impl Subs {
         ensures list { self.new.list ≡ without_ended which.now attached.now self.old.list }
         ensures spare { self.old.spare ≤ self.new.spare }
     {
+        self.delete_own(which);
+        if self.shared > 0 {
+            self.delete_ended(which, attached);
+        }
+    }
+
+    /// Ends the own subscriptions of these consumers: that of one is found by halves, and so is each of those of a session or a
+    /// connection, which stand together in the order of the keys. Takes no memory.
+    fn delete_own(&mut self, which: &Consumers)
+        ensures list { self.new.list ≡ without_own which.now self.old.list }
+        ensures spare { self.old.spare ≤ self.new.spare }
+    {
         match which {
-            Consumers::One(session, id) => self.close_one(session, *id, attached),
-            Consumers::OfConnection(_) | Consumers::OfSession(_) => {
-                self.remove(&Ending::With(which, attached));
+            Consumers::One(session, id) => self.delete(&Key::Own(*session, *id)),
+            Consumers::OfConnection(_) | Consumers::OfSession(_) => self.delete_each(which),
+        }
+    }
+
+    /// Ends the own subscriptions of these consumers, one after the other. Takes no memory.
+    fn delete_each(&mut self, which: &Consumers)
+        ensures list { self.new.list ≡ without_own which.now self.old.list }
+        ensures spare { self.old.spare ≤ self.new.spare }
+    {
+        let mut guess = 0;
+        while let Some(index) = self.items.index_in(which, &mut guess) {
+            self.take_out(index);
+        }
+    }
+
+    /// Ends the subscriptions that end once these consumers are closed, in a walk over all, from the last one on. Takes no memory.
+    fn delete_ended(&mut self, which: &Consumers, attached: &Attached)
+        ensures list { self.new.list ≡ without_ended which.now attached.now self.old.list }
+        ensures spare { self.old.spare ≤ self.new.spare }
+    {
+        let mut end = self.items.len();
+        while end > 0 {
+            end -= 1;
+            if attached.ends(which, self.items.key_at(end)) {
+                self.take_out(end);
             }
         }
-    }
-
-    /// Ends the subscriptions that end once that consumer is closed: its own, which is found by halves; the others are
-    /// looked at only where one of them is shared and not durable. Takes no memory.
-    fn close_one(&mut self, session: &SessionId, id: ConsumerId, attached: &Attached)
-        ensures list { self.new.list ≡ without_ended (One session.now id) attached.now self.old.list }
-        ensures spare { self.old.spare ≤ self.new.spare }
-    {
-        self.delete_own(session, id);
-        if self.shared == 0 {
-            return;
-        }
-        let which = Consumers::One(*session, id);
-        self.remove(&Ending::With(&which, attached));
-    }
-
-    /// Ends the own subscription of the session's consumer of that number, if there is one. Takes no memory.
-    fn delete_own(&mut self, session: &SessionId, id: ConsumerId)
-        ensures list { self.new.list ≡ without (Own session.now id) self.old.list }
-        ensures spare { self.old.spare ≤ self.new.spare }
-    {
-        let own = Key::Own(*session, id);
-        self.delete(&own);
     }
 
     /// Adds the subscription that was decided, of which no other has the key. Takes no memory.
@@ -481,27 +468,23 @@ impl Subs {
             key,
             created,
             channel,
-            keys,
         } = decision;
         let more = shared_own(&key);
         put_last(&mut self.items, key, created);
-        // The length is what says that what is as many at most, as the keys of a channel, can be counted.
+        // The length is what says that what is as many at most can be counted.
         let _number = self.items.len();
         self.shared += more;
-        self.channels.join(channel.into_inner(), keys);
+        self.channels.push(channel.into_inner());
     }
 
-    /// Ends the subscriptions that are meant, in a walk over all; the others stay, in their order. Where none is meant,
-    /// that is found in a walk over the keys, and nothing moves. Takes no memory.
-    fn remove(&mut self, ending: &Ending)
-        ensures list { self.new.list ≡ filter (λ s. not (ends ending.now s.key)) self.old.list }
+    /// Takes the subscription at that index out, and its channel: those behind it have their indexes one less. Takes no memory.
+    fn take_out(&mut self, index: usize)
+        requires { index < length self.old.list }
+        ensures list { self.new.list ≡ remove self.old.list index }
         ensures spare { self.old.spare ≤ self.new.spare }
     {
-        if !is_any_ending(&self.items, ending) {
-            return;
-        }
-        self.items.retain(ending);
-        self.channels.remove(ending);
-        self.shared = number_of_shared(&self.items);
+        self.shared -= shared_own(self.items.key_at(index));
+        self.items.remove_at(index);
+        self.channels.remove_at(index);
     }
 }

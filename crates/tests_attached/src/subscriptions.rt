@@ -76,11 +76,24 @@ fn consumers(keys: &[Key]) -> u32 {
     digits
 }
 
+/// Whether the places of the subscriptions that accept the message are those of the keys.
+fn stand_there(subs: &Subs, message: &Message, keys: &[Key]) -> bool {
+    let Ok(places) = subs.accepting_places(message, None) else {
+        return false;
+    };
+    for (key, place) in keys.iter().zip(&places) {
+        if subs.position(key) != Some(*place) {
+            return false;
+        }
+    }
+    places.len() == keys.len()
+}
+
 /// The consumers whose subscriptions accept the message.
 fn takers_of(subs: &Subs, message: &Message) -> Option<u32> {
     match subs.accepting(message, None) {
-        Ok(keys) => Some(consumers(&keys)),
-        Err(_) => None,
+        Ok(keys) if stand_there(subs, message, &keys) => Some(consumers(&keys)),
+        _ => None,
     }
 }
 

@@ -88,6 +88,13 @@ impl Subscriptions {
         }
     }
 
+    fn accepting_places(&self) -> Answer {
+        match self.subs.accepting_places(&self.message, None) {
+            Ok(places) => Ok(places.len() as u64),
+            Err(refusal) => Err(refusal),
+        }
+    }
+
     fn create(&mut self) -> Answer {
         let key = key(self.alloc, "second")?;
         match self
@@ -149,6 +156,10 @@ impl Trial for Subscriptions {
             5 => Called {
                 name: "jm_sub Subs::decide",
                 answer: self.decide(),
+            },
+            6 => Called {
+                name: "jm_sub Subs::accepting_places",
+                answer: self.accepting_places(),
             },
             _ => Called::NONE,
         }

@@ -1,6 +1,5 @@
-use Rattle.std.proofs.Common.{◌≡◌, drop}
-use Rattle.jm_sub.specs.Places.{rises}
+use Rattle.std.proofs.Common.{ℕ, ◌+◌, ◌<◌, get_or}
 use Rattle.jm_sub.proofs.accepting.is_rising.Given as goal
 
-abbrev pub invariant-loop-place : goal.invariant-loop-place
-invariant-loop-place l = rises 0 l.places ≡ rises l.last (drop l.place-index l.places)
+abbrev pub invariant-loop-index : goal.invariant-loop-index
+invariant-loop-index l = (k : ℕ) → k + 1 < l.index → get_or l.places k 0 < get_or l.places (k + 1) 0

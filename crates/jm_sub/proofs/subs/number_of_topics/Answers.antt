@@ -15,12 +15,12 @@ loop-at-preserved c =
     elim c.if-not-is_topic_from.branch [
       | then-not-is_topic_from w ↦
           let there : is_member text_eq (topics_of (drop (c.loop-at.at + 1) es)) e.1.topic ≡ false =
-          ap (λ (d : Definition). is_member text_eq (topics_of (drop (c.loop-at.at + 1) es)) d.topic) (sym c.definition.ensures) ∙ sym c.is_topic_from.ensures ∙ (cc) in
+          ap (λ (d : Definition). is_member text_eq (topics_of (drop (c.loop-at.at + 1) es)) d.topic) (sym c.get.ensures) ∙ sym c.is_topic_from.ensures ∙ (cc) in
           let count = count_next es c.loop-at.at e c.entry_at.ensures false there in
           (omega (arith, w.number-is, c.loop-at.invariant.0, count), omega (arith, w.number-is, c.loop-at.invariant.1))
       | else-not-is_topic_from w ↦
           let there : is_member text_eq (topics_of (drop (c.loop-at.at + 1) es)) e.1.topic ≡ true =
-          ap (λ (d : Definition). is_member text_eq (topics_of (drop (c.loop-at.at + 1) es)) d.topic) (sym c.definition.ensures) ∙ sym c.is_topic_from.ensures ∙ (cc) in
+          ap (λ (d : Definition). is_member text_eq (topics_of (drop (c.loop-at.at + 1) es)) d.topic) (sym c.get.ensures) ∙ sym c.is_topic_from.ensures ∙ (cc) in
           let count = count_next es c.loop-at.at e c.entry_at.ensures true there in
           (omega (arith, w.number-is, c.loop-at.invariant.0, count), omega (arith, w.number-is, c.loop-at.invariant.1))
     ]

@@ -1,4 +1,4 @@
-use Rattle.jm_sub.proofs.Table.{none_found}
+use Rattle.jm_sub.proofs.Changed.{none_found}
 use Rattle.jm_sub.proofs.subs.put_last.Goals as goal
 
 pub insert-requires-clause-absent : goal.insert-requires-clause-absent

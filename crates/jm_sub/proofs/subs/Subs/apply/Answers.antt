@@ -1,4 +1,4 @@
-use Rattle.jm_sub.proofs.Table.{new_without}
+use Rattle.jm_sub.proofs.Changed.{new_without}
 use Rattle.jm_sub.proofs.subs.Subs.apply.Goals as goal
 
 pub add-requires-clause-new : goal.add-requires-clause-new

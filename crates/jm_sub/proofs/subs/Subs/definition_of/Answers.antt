@@ -8,4 +8,4 @@ returns-in-None c = rw (← c.self.view_is) (ap option_copied (sym c.in-None.is)
 
 pub returns-in-Some : goal.returns-in-Some
 returns-in-Some c =
-    rw (← c.self.view_is) (ap (λ d. Some d) c.definition.ensures ∙ ap option_copied (sym c.in-Some.is) ∙ c.get.ensures ∙ definition_found c.args.key.now c.self.inside.items.entries)
+    rw (← c.self.view_is) (ap (λ d. Some d) c.get-in-Some.ensures ∙ ap option_copied (sym c.in-Some.is) ∙ c.get.ensures ∙ definition_found c.args.key.now c.self.inside.items.entries)
