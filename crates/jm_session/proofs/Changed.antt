@@ -14,19 +14,8 @@ use Rattle.jm_machine.specs.Life.{closed_where}
 use Rattle.jm_machine.specs.Machine.{closed_consumer}
 use Rattle.jm_machine.proofs.Keys.{session_same}
 use Rattle.jm_session.specs.declared.number.ConsumerNumber.{ConsumerNumber}
-use Rattle.jm_session.specs.Numbers.{IsNumbered, number_of, with_changed}
+use Rattle.jm_session.specs.Numbers.{IsNumbered, number_of}
 use Rattle.jm_session.proofs.Found.{found_at, number_eq}
-
-module _ {K V : Type 0} (f : V → V) where
-  -- the values of changed entries
-  pub values_changed : (entries : List (K × V)) → values_of (with_changed f entries) ≡ map f (values_of entries)
-  values_changed [] = refl
-  values_changed (e ∷ entries) = ap (λ vs. f e.1 ∷ vs) (values_changed entries)
-
-  -- a change that leaves the numbers leaves each value under its own
-  pub numbered_changed : (number : V → K) → ((x : V) → number (f x) ≡ number x) → (entries : List (K × V)) → IsNumbered number entries → IsNumbered number (with_changed f entries)
-  numbered_changed number keeps [] h = tt
-  numbered_changed number keeps (e ∷ entries) h = (h.0 ∙ sym (keeps e.1), numbered_changed number keeps entries h.1)
 
 -- two that pass
 both : (a b : Bool) → (a && b) ≡ true → (a ≡ true) × (b ≡ true)
@@ -115,19 +104,6 @@ module _ {K V : Type 0} (eq : K → K → Bool) (symmetric : (a b : K) → eq a 
       past : (n m : ℕ) (b : Bool) → nat_lt n m ≡ b → cond b (Some n) None ≡ None → m ≤ n
       past n m true e none = cc
       past n m false e none = grind (arith, nat_tests)
-
--- a change under a test leaves what the change leaves
-left : {A B : Type 0} (h : A → B) (b : Bool) (x y : A) → h x ≡ h y → h (cond b x y) ≡ h y
-left h true x y e = e
-left h false x y e = refl
-
--- a session that closes keeps its number
-pub session_keeps : (p : SessionId → Bool) (x : SessionState) → (closed_where p x).id ≡ x.id
-session_keeps p x = left (λ (y : SessionState). y.id) (p x.id) (record x { is_open = false }) x refl
-
--- a consumer that closes keeps its number
-pub consumer_keeps : (p : SessionId → ℕ → Bool) (x : Consumer) → number_of (closed_consumer p x) ≡ number_of x
-consumer_keeps p x = left number_of (p x.session x.id) (record x { is_active = false }) x refl
 
 -- a session that is closed stays as it is where it closes
 pub session_stays : (p : SessionId → Bool) (x : SessionState) → x.is_open ≡ false → closed_where p x ≡ x

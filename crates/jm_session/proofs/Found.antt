@@ -12,6 +12,7 @@ use Rattle.jm_dest.specs.Names.{session_eq}
 use Rattle.jm_machine.specs.declared.state.ConnectionState.{ConnectionState}
 use Rattle.jm_machine.specs.declared.state.SessionState.{SessionState}
 use Rattle.jm_machine.specs.Life.{Life, connection_of, session_of}
+use Rattle.jm_machine.proofs.Keys.{session_refl}
 use Rattle.jm_session.specs.declared.number.ConsumerNumber.{ConsumerNumber}
 use Rattle.jm_session.specs.Numbers.{IsNumbered}
 
@@ -37,6 +38,9 @@ session_sym a b = λ i. num_sym a.connection b.connection i && num_sym a.number 
 -- two numbers of consumers are the same
 abbrev pub number_eq : ConsumerNumber → ConsumerNumber → Bool
 number_eq a b = session_eq a.session b.session && (a.consumer == b.consumer)
+
+pub number_refl : (a : ConsumerNumber) → number_eq a a ≡ true
+number_refl a = (λ i. session_refl a.session i && (a.consumer == a.consumer)) ∙ eq-eqb a.consumer a.consumer refl
 
 pub number_sym : (a b : ConsumerNumber) → number_eq a b ≡ number_eq b a
 number_sym a b = λ i. session_sym a.session b.session i && num_sym a.consumer b.consumer i

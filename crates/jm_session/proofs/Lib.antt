@@ -3,4 +3,5 @@ mod Changed
 mod Counts
 mod Found
 mod Counted
-mod Walked
+mod Opened
+mod Closed

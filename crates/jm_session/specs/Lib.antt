@@ -1,6 +1,6 @@
 pub mod Clients
 pub mod Known
 pub mod Numbers
-pub mod Positions
+pub mod Opened
 pub mod Sends
 pub mod Sources

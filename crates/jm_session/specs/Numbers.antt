@@ -13,10 +13,6 @@ IsNumbered number (e ∷ entries) = (e.0 ≡ number e.1) × IsNumbered number en
 abbrev pub number_of : Consumer → ConsumerNumber
 number_of x = record { session = x.session; consumer = x.id }
 
--- the entries, with each value changed
-abbrev pub with_changed : {K V : Type 0} → (V → V) → List (K × V) → List (K × V)
-with_changed f entries = map (λ e. (e.0, f e.1)) entries
-
 -- where each value stands under its own number, each is changed, and stands under its number again
 abbrev pub IsChanged : {K V : Type 0} → (V → K) → (V → V) → List (K × V) → List (K × V) → Type 0
 IsChanged number f old new = IsNumbered number old → (values_of new ≡ map f (values_of old)) × IsNumbered number new

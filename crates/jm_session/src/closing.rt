@@ -1,19 +1,20 @@
-//! What is closed stays known: it is marked where it stands.
+//! What is closed stays known: it is marked where it stands, and stands no more among the numbers of what is open.
 
-ghost use Rattle.std.specs.Prelude.{◌≡◌, ◌≤◌, ◌==◌, false};
+ghost use Rattle.std.specs.Prelude.{◌≡◌, ◌≤◌, ◌==◌, false, map};
 ghost use Rattle.indexmap.specs.IndexMap.{spare, values};
-ghost use Rattle.indexmap.specs.IndexSet as index_set;
 ghost use Rattle.jm_dest.specs.Names.{session_eq};
 ghost use Rattle.jm_machine.specs.Attached.{AreCounted};
 ghost use Rattle.jm_machine.specs.Life as life;
 ghost use Rattle.jm_machine.specs.Machine as machine;
-ghost use Rattle.jm_session.specs.Numbers.{IsChanged, number_of, with_changed};
-ghost use Rattle.jm_session.specs.Positions.{AreActive, AreOpen};
+ghost use Rattle.jm_session.specs.Numbers.{IsNumbered, number_of};
+ghost use Rattle.jm_session.specs.Opened.{AreActive, AreOpen};
 ghost use Rattle.jm_session.specs.Sources.{IsFollowed};
 
 use crate::number::ConsumerNumber;
-use indexmap::{IndexMap, IndexSet};
+use crate::sections::SessionsOf;
+use indexmap::IndexMap;
 use jm_dest::{ConnectionId, SessionId};
+use jm_indexed::KeySet;
 use jm_machine::{Attached, Consumer, Consumers, SessionState, is_named};
 
 /// Closes the consumer, which is counted no more.
@@ -28,95 +29,134 @@ fn close(consumer: &mut Consumer, attached: &mut Attached)
     consumer.is_active = false;
 }
 
-/// Closes the consumers that are meant, which are counted no more, in a walk over the active ones.
+/// Marks the consumer of that number as closed, where it was made; it is counted no more.
+fn mark_closed(
+    consumers: &mut IndexMap<ConsumerNumber, Consumer>,
+    attached: &mut Attached,
+    number: ConsumerNumber,
+)
+    requires numbered { IsNumbered number_of consumers.old.entries }
+    requires counted { AreCounted (values consumers.old) attached.old }
+    ensures values { values consumers.new ≡ map (machine.closed_consumer (machine.of_number number.session number.consumer)) (values consumers.old) }
+    ensures numbered { IsNumbered number_of consumers.new.entries }
+    ensures counted { AreCounted (values consumers.new) attached.new }
+    ensures spare { spare consumers.old ≤ spare consumers.new }
+    ensures counts_spare { attached.old.spare ≤ attached.new.spare }
+{
+    if let Some(at) = consumers.get_index_of(&number) {
+        close(&mut consumers[at], attached);
+    }
+}
+
+/// Closes the consumers that are meant, which are counted no more. No other is looked at.
 pub(crate) fn close_consumers(
     consumers: &mut IndexMap<ConsumerNumber, Consumer>,
-    active: &mut IndexSet<usize>,
+    active: &mut KeySet<ConsumerNumber>,
     attached: &mut Attached,
     which: &Consumers,
 )
+    requires numbered { IsNumbered number_of consumers.old.entries }
     requires counted { AreCounted (values consumers.old) attached.old }
-    requires positions { AreActive (values consumers.old) active.old }
-    ensures entries { consumers.new.entries ≡ with_changed (machine.closed_consumer (machine.are_meant which.now)) consumers.old.entries }
+    requires active { AreActive (values consumers.old) active.old }
+    ensures values { values consumers.new ≡ map (machine.closed_consumer (machine.are_meant which.now)) (values consumers.old) }
+    ensures numbered { IsNumbered number_of consumers.new.entries }
     ensures counted { AreCounted (values consumers.new) attached.new }
-    ensures positions { AreActive (values consumers.new) active.new }
+    ensures active { AreActive (values consumers.new) active.new }
     ensures spare { spare consumers.old ≤ spare consumers.new }
-    ensures positions_spare { index_set.spare active.old ≤ index_set.spare active.new }
+    ensures active_spare { active.old.spare ≤ active.new.spare }
     ensures counts_spare { attached.old.spare ≤ attached.new.spare }
 {
-    let mut passed = 0;
-    while passed < active.len() {
-        let at = active[passed];
-        let consumer = &consumers[at];
-        if which.include(&consumer.session, consumer.id) {
-            close(&mut consumers[at], attached);
-            active.swap_remove_index(passed);
-        } else {
-            passed += 1;
-        }
+    let mut guess = 0;
+    while let Some(index) = active.index_in(which, &mut guess) {
+        // The length is what says that each number stands once.
+        let _length = active.len();
+        let number = *active.key_at(index);
+        active.remove(index);
+        mark_closed(consumers, attached, number);
     }
 }
 
 /// Closes the consumer of that number, where it was made; it is counted no more.
 pub(crate) fn close_consumer(
     consumers: &mut IndexMap<ConsumerNumber, Consumer>,
-    active: &mut IndexSet<usize>,
+    active: &mut KeySet<ConsumerNumber>,
     attached: &mut Attached,
     number: ConsumerNumber,
 )
+    requires numbered { IsNumbered number_of consumers.old.entries }
     requires counted { AreCounted (values consumers.old) attached.old }
-    requires positions { AreActive (values consumers.old) active.old }
-    ensures entries { IsChanged number_of (machine.closed_consumer (machine.of_number number.session number.consumer)) consumers.old.entries consumers.new.entries }
+    requires active { AreActive (values consumers.old) active.old }
+    ensures values { values consumers.new ≡ map (machine.closed_consumer (machine.of_number number.session number.consumer)) (values consumers.old) }
+    ensures numbered { IsNumbered number_of consumers.new.entries }
     ensures counted { AreCounted (values consumers.new) attached.new }
-    ensures positions { AreActive (values consumers.new) active.new }
+    ensures active { AreActive (values consumers.new) active.new }
     ensures spare { spare consumers.old ≤ spare consumers.new }
-    ensures positions_spare { index_set.spare active.old ≤ index_set.spare active.new }
+    ensures active_spare { active.old.spare ≤ active.new.spare }
     ensures counts_spare { attached.old.spare ≤ attached.new.spare }
 {
-    if let Some(at) = consumers.get_index_of(&number) {
-        close(&mut consumers[at], attached);
-        active.swap_remove(&at);
+    mark_closed(consumers, attached, number);
+    // The length is what says that each number stands once.
+    let _length = active.len();
+    if let Some(index) = active.index_of(&number) {
+        active.remove(index);
     }
 }
 
-/// Closes the sessions of the connection, in a walk over the open ones.
+/// Marks the session of that number as closed, where it was opened.
+fn mark_session_closed(sessions: &mut IndexMap<SessionId, SessionState>, id: &SessionId)
+    requires { IsNumbered (λ x. x.id) sessions.old.entries }
+    ensures values { values sessions.new ≡ map (life.closed_where (λ t. session_eq t id.now)) (values sessions.old) }
+    ensures numbered { IsNumbered (λ x. x.id) sessions.new.entries }
+    ensures spare { spare sessions.old ≤ spare sessions.new }
+{
+    if let Some(at) = sessions.get_index_of(id) {
+        sessions[at].is_open = false;
+    }
+}
+
+/// Closes the sessions of the connection. No other is looked at.
 pub(crate) fn close_sessions(
     sessions: &mut IndexMap<SessionId, SessionState>,
-    opened: &mut IndexSet<usize>,
+    opened: &mut KeySet<SessionId>,
     connection: ConnectionId,
 )
-    requires { AreOpen (values sessions.old) opened.old }
-    ensures entries { sessions.new.entries ≡ with_changed (life.closed_where (λ s. s.connection == connection)) sessions.old.entries }
-    ensures positions { AreOpen (values sessions.new) opened.new }
+    requires numbered { IsNumbered (λ x. x.id) sessions.old.entries }
+    requires opened { AreOpen (values sessions.old) opened.old }
+    ensures values { values sessions.new ≡ map (life.closed_where (λ s. s.connection == connection)) (values sessions.old) }
+    ensures numbered { IsNumbered (λ x. x.id) sessions.new.entries }
+    ensures opened { AreOpen (values sessions.new) opened.new }
     ensures spare { spare sessions.old ≤ spare sessions.new }
-    ensures positions_spare { index_set.spare opened.old ≤ index_set.spare opened.new }
+    ensures opened_spare { opened.old.spare ≤ opened.new.spare }
 {
-    let mut passed = 0;
-    while passed < opened.len() {
-        let at = opened[passed];
-        if sessions[at].id.connection == connection {
-            sessions[at].is_open = false;
-            opened.swap_remove_index(passed);
-        } else {
-            passed += 1;
-        }
+    let section = SessionsOf { connection };
+    let mut guess = 0;
+    while let Some(index) = opened.index_in(&section, &mut guess) {
+        // The length is what says that each number stands once.
+        let _length = opened.len();
+        let id = *opened.key_at(index);
+        opened.remove(index);
+        mark_session_closed(sessions, &id);
     }
 }
 
 /// Closes the session of that number, where it was opened.
 pub(crate) fn close_session(
     sessions: &mut IndexMap<SessionId, SessionState>,
-    opened: &mut IndexSet<usize>,
+    opened: &mut KeySet<SessionId>,
     id: &SessionId,
 )
-    requires { AreOpen (values sessions.old) opened.old }
-    ensures entries { IsChanged (λ x. x.id) (life.closed_where (λ t. session_eq t id.now)) sessions.old.entries sessions.new.entries }
-    ensures positions { AreOpen (values sessions.new) opened.new }
+    requires numbered { IsNumbered (λ x. x.id) sessions.old.entries }
+    requires opened { AreOpen (values sessions.old) opened.old }
+    ensures values { values sessions.new ≡ map (life.closed_where (λ t. session_eq t id.now)) (values sessions.old) }
+    ensures numbered { IsNumbered (λ x. x.id) sessions.new.entries }
+    ensures opened { AreOpen (values sessions.new) opened.new }
     ensures spare { spare sessions.old ≤ spare sessions.new }
-    ensures positions_spare { index_set.spare opened.old ≤ index_set.spare opened.new }
+    ensures opened_spare { opened.old.spare ≤ opened.new.spare }
 {
-    if let Some(at) = sessions.get_index_of(id) {
-        sessions[at].is_open = false;
-        opened.swap_remove(&at);
+    mark_session_closed(sessions, id);
+    // The length is what says that each number stands once.
+    let _length = opened.len();
+    if let Some(index) = opened.index_of(id) {
+        opened.remove(index);
     }
 }

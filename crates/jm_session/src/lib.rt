@@ -22,10 +22,12 @@
 //! key has none. Look-ups by number do not scan and take no memory, nor do `start`, `stop` and the three closes, and
 //! no call does for which room was reserved.
 //!
-//! Where the active consumers and the open sessions stand is kept (`AreActive`, `AreOpen`, invariants of the types),
-//! so a close looks at those alone, and a consumer that closes alone is found by its number. What is closed stays
-//! known, and its number is never free again; closing it again does nothing. `of_one` holds the connection, the
-//! session and the consumer that are given, as they are, and nothing else.
+//! The numbers of the active consumers and of the open sessions are kept in their order (`AreActive`, `AreOpen`,
+//! invariants of the types), in which those of a session or of a connection stand together. So a close touches what it
+//! closes, and looks at no other consumer or session, open or closed: it finds by halves where they stand, and marks
+//! each. Only once in so many closes that an eighth of the numbers went with them are the rest of the numbers moved.
+//! What is closed stays known, and its number is never free again; closing it again does nothing. `of_one` holds the
+//! connection, the session and the consumer that are given, as they are, and nothing else.
 //!
 //! `Sends` is seen as a function from sessions to how many sends of each were stamped, and the room that is left: it
 //! gives the number of the next send, `None` where the count is at its end, and counts one; that takes memory at a
@@ -34,10 +36,12 @@
 
 mod clients;
 mod closing;
+mod copies;
 mod marks;
 mod number;
 mod one;
 mod roster;
+mod sections;
 mod sends;
 mod sessions;
 mod source;

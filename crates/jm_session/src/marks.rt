@@ -2,10 +2,12 @@
 
 ghost use Rattle.std.specs.Prelude.{◌≡◌, ◌≤◌};
 ghost use Rattle.indexmap.specs.IndexMap.{spare, values};
+ghost use Rattle.jm_indexed.specs.Keys.{Keys};
 ghost use Rattle.jm_machine.specs.Attached.{AreCounted, Counts};
 ghost use Rattle.jm_machine.specs.Machine as machine;
 ghost use Rattle.jm_session.specs.Numbers.{IsChanged, number_of};
-ghost use Rattle.jm_session.specs.Positions.{AreActive, Positions};
+ghost use Rattle.jm_session.specs.declared.number.ConsumerNumber.{ConsumerNumber};
+ghost use Rattle.jm_session.specs.Opened.{AreActive};
 
 use crate::number::ConsumerNumber;
 use indexmap::IndexMap;
@@ -19,7 +21,7 @@ pub(crate) fn mark_listening(
 )
     ensures entries { IsChanged number_of (machine.listening_if number.session number.consumer on) consumers.old.entries consumers.new.entries }
     ensures counted { (counts : Counts) → AreCounted (values consumers.old) counts → AreCounted (values consumers.new) counts }
-    ensures positions { (positions : Positions) → AreActive (values consumers.old) positions → AreActive (values consumers.new) positions }
+    ensures active { (active : Keys ConsumerNumber) → AreActive (values consumers.old) active → AreActive (values consumers.new) active }
     ensures spare { spare consumers.old ≤ spare consumers.new }
 {
     if let Some(at) = consumers.get_index_of(&number) {
@@ -35,7 +37,7 @@ pub(crate) fn mark_busy(
 )
     ensures entries { IsChanged number_of (machine.busy_if number.session number.consumer on) consumers.old.entries consumers.new.entries }
     ensures counted { (counts : Counts) → AreCounted (values consumers.old) counts → AreCounted (values consumers.new) counts }
-    ensures positions { (positions : Positions) → AreActive (values consumers.old) positions → AreActive (values consumers.new) positions }
+    ensures active { (active : Keys ConsumerNumber) → AreActive (values consumers.old) active → AreActive (values consumers.new) active }
     ensures spare { spare consumers.old ≤ spare consumers.new }
 {
     if let Some(at) = consumers.get_index_of(&number) {

@@ -1,12 +1,13 @@
-//! One connection, session or consumer, or none, by its number, and its position.
+//! One connection, session or consumer, or none, by its number, and the numbers of what is open of it.
 
-ghost use Rattle.std.specs.Prelude.{◌≡◌, ◌==◌, ◌&&◌, ℕ, map, nat_eq, option_to_list, IfOk};
-ghost use Rattle.indexmap.specs.IndexSet.{contains};
+ghost use Rattle.std.specs.Prelude.{◌≡◌, map, option_to_list, IfOk};
 ghost use Rattle.jm_session.specs.Numbers.{number_of};
+ghost use Rattle.jm_session.specs.Opened.{AreActive, AreOpen};
 
 use crate::number::ConsumerNumber;
-use indexmap::{IndexMap, IndexSet};
+use indexmap::IndexMap;
 use jm_dest::{ConnectionId, SessionId};
+use jm_indexed::KeySet;
 use jm_machine::{ConnectionState, Consumer, SessionState};
 use std::alloc::{AllocError, Global};
 
@@ -44,22 +45,44 @@ pub(crate) fn one_consumer(
 {
     let mut one = IndexMap::new(alloc);
     if let Some(consumer) = consumer {
-        let number = ConsumerNumber {
-            session: consumer.session,
-            consumer: consumer.id,
-        };
+        let number = ConsumerNumber::of(&consumer);
         drop(one.insert(number, consumer)?);
     }
     Ok(one)
 }
 
-/// The first position, where what stands there is open.
-pub(crate) fn one_position(alloc: Global, is_open: bool) -> Result<IndexSet<usize>, AllocError>
-    ensures { IfOk result (λ one. (at : ℕ) → contains nat_eq one at ≡ (is_open && (0 == at))) }
+/// The number of the consumer, where there is one and it is active. `AllocError` where a request for memory was refused.
+pub(crate) fn one_active(
+    alloc: Global,
+    consumer: &Option<Consumer>,
+) -> Result<KeySet<ConsumerNumber>, AllocError>
+    ensures { IfOk result (AreActive (option_to_list consumer.now)) }
 {
-    let mut one = IndexSet::new(alloc);
-    if is_open {
-        one.insert(0)?;
+    let mut one = KeySet::new(alloc);
+    match consumer {
+        Some(consumer) if consumer.is_active => {
+            one.reserve(1)?;
+            one.insert(ConsumerNumber::of(consumer));
+        }
+        _ => {}
+    }
+    Ok(one)
+}
+
+/// The number of the session, where there is one and it is open. `AllocError` where a request for memory was refused.
+pub(crate) fn one_open(
+    alloc: Global,
+    session: &Option<SessionState>,
+) -> Result<KeySet<SessionId>, AllocError>
+    ensures { IfOk result (AreOpen (option_to_list session.now)) }
+{
+    let mut one = KeySet::new(alloc);
+    match session {
+        Some(session) if session.is_open => {
+            one.reserve(1)?;
+            one.insert(session.id);
+        }
+        _ => {}
     }
     Ok(one)
 }

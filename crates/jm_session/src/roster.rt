@@ -3,29 +3,30 @@
 ghost use Rattle.std.specs.Prelude.{◌≡◌, ◌+◌, ◌<◌, ◌≤◌, ◌++◌, [], ◌∷◌, map, true, false, is_some, option_to_list, IfOk, OnOk, IsOk};
 ghost use Rattle.std.specs.Option.{option_copied};
 ghost use Rattle.indexmap.specs.IndexMap.{spare, values};
-ghost use Rattle.indexmap.specs.IndexSet as index_set;
 ghost use Rattle.jm_machine.specs.Attached.{AreCounted};
 ghost use Rattle.jm_machine.specs.Machine as machine;
 ghost use Rattle.jm_session.specs.Numbers.{IsNumbered, number_of};
-ghost use Rattle.jm_session.specs.Positions.{AreActive};
+ghost use Rattle.jm_session.specs.Opened.{AreActive};
 
 use crate::closing::{close_consumer, close_consumers};
+use crate::copies::copied_keys;
 use crate::marks::{mark_busy, mark_listening};
 use crate::number::ConsumerNumber;
-use crate::one::{one_consumer, one_position};
+use crate::one::{one_active, one_consumer};
 use crate::source::Source;
-use indexmap::{IndexMap, IndexSet};
+use indexmap::IndexMap;
 use jm_dest::{ConsumerId, SessionId};
+use jm_indexed::KeySet;
 use jm_machine::{Attached, Consumer, Consumers};
 use std::alloc::{AllocError, Global};
 use std::marker::Model;
 
-/// The consumers that were made, each in order and found by its number, where the active ones stand, and of the keys that
+/// The consumers that were made, each in order and found by its number, the numbers of the active ones, and of the keys that
 /// have names how many active ones each has. Contracts see the consumers as the machine's list, and `spare`, for how many
 /// more there is room.
 pub(crate) struct Roster {
     consumers: IndexMap<ConsumerNumber, Consumer>,
-    active: IndexSet<usize>,
+    active: KeySet<ConsumerNumber>,
     attached: Attached,
     /// For so many more keys there is room in `attached`.
     room: usize,
@@ -45,15 +46,14 @@ impl Drop for Roster {
 impl Model for Roster {
     ghost use Rattle.std.specs.Prelude.{◌≤◌, min};
     ghost use Rattle.indexmap.specs.IndexMap.{spare, values};
-    ghost use Rattle.indexmap.specs.IndexSet as index_set;
     ghost use Rattle.jm_machine.specs.Attached.{AreCounted};
     ghost use Rattle.jm_session.specs.Known.{Listed};
     ghost use Rattle.jm_session.specs.Numbers.{IsNumbered, number_of};
-    ghost use Rattle.jm_session.specs.Positions.{AreActive};
+    ghost use Rattle.jm_session.specs.Opened.{AreActive};
 
     ghost Value = { Listed };
 
-    ghost view = { λ r. record { consumers = values r.consumers; spare = min (min (spare r.consumers) (index_set.spare r.active)) r.room } };
+    ghost view = { λ r. record { consumers = values r.consumers; spare = min (min (spare r.consumers) r.active.spare) r.room } };
 
     ghost invariant = { λ r.
         IsNumbered number_of r.consumers.entries
@@ -65,26 +65,23 @@ impl Model for Roster {
 /// Adds the consumer, which is active, and whose number none has yet. Takes no memory.
 fn append(
     consumers: &mut IndexMap<ConsumerNumber, Consumer>,
-    active: &mut IndexSet<usize>,
+    active: &mut KeySet<ConsumerNumber>,
     consumer: Consumer,
 )
     requires room { 0 < spare consumers.old }
-    requires positions_room { 0 < index_set.spare active.old }
+    requires active_room { 0 < active.old.spare }
     requires new { is_some (machine.consumer_of (values consumers.old) consumer.session consumer.id) ≡ false }
     requires numbered { IsNumbered number_of consumers.old.entries }
     requires is_active { consumer.is_active ≡ true }
-    requires positions { AreActive (values consumers.old) active.old }
+    requires active { AreActive (values consumers.old) active.old }
     ensures values { values consumers.new ≡ values consumers.old ++ consumer ∷ [] }
     ensures numbered { IsNumbered number_of consumers.new.entries }
-    ensures positions { AreActive (values consumers.new) active.new }
+    ensures active { AreActive (values consumers.new) active.new }
     ensures spare { spare consumers.old ≤ spare consumers.new + 1 }
-    ensures positions_spare { index_set.spare active.old ≤ index_set.spare active.new + 1 }
+    ensures active_spare { active.old.spare ≤ active.new.spare + 1 }
 {
-    let number = ConsumerNumber {
-        session: consumer.session,
-        consumer: consumer.id,
-    };
-    drop(active.insert(consumers.len()));
+    active.insert(ConsumerNumber::of(&consumer));
+    let number = ConsumerNumber::of(&consumer);
     drop(consumers.insert(number, consumer));
 }
 
@@ -105,7 +102,7 @@ impl Roster {
     {
         Roster {
             consumers: IndexMap::new(alloc),
-            active: IndexSet::new(alloc),
+            active: KeySet::new(alloc),
             attached: Attached::new(alloc),
             room: 0,
         }
@@ -115,11 +112,7 @@ impl Roster {
     pub(crate) fn of_one(alloc: Global, consumer: Option<Consumer>) -> Result<Roster, AllocError>
         ensures { IfOk result (λ one. one.consumers ≡ option_to_list consumer) }
     {
-        let is_active = match &consumer {
-            Some(consumer) => consumer.is_active,
-            None => false,
-        };
-        let active = one_position(alloc, is_active)?;
+        let active = one_active(alloc, &consumer)?;
         let consumers = one_consumer(alloc, consumer)?;
         let attached = Attached::of(alloc, consumers.values().as_slice())?;
         Ok(Roster {
@@ -135,7 +128,7 @@ impl Roster {
         ensures { IfOk result (λ copy. copy.consumers ≡ self.now.consumers) }
     {
         let attached = Attached::of(alloc, self.as_slice())?;
-        let active = self.active.clone()?;
+        let active = copied_keys(alloc, &self.active)?;
         Ok(Roster {
             consumers: copied_consumers(&self.consumers)?,
             active,
@@ -212,7 +205,7 @@ impl Roster {
         }
     }
 
-    /// Closes those that are meant, in a walk over the active ones. Takes no memory.
+    /// Closes those that are meant, and looks at no other. Takes no memory.
     pub(crate) fn close(&mut self, which: &Consumers)
         ensures consumers { self.new.consumers ≡ map (machine.closed_consumer (machine.are_meant which.now)) self.old.consumers }
         ensures spare { self.old.spare ≤ self.new.spare }

@@ -14,24 +14,26 @@ ghost use Rattle.jm_session.specs.Known.{cause, life_set, may_set_busy, open_cau
 
 use crate::clients::Clients;
 use crate::closing::{close_session, close_sessions};
-use crate::one::{one_connection, one_position, one_session};
+use crate::copies::copied_keys;
+use crate::one::{one_connection, one_open, one_session};
 use crate::roster::Roster;
 use crate::source::Source;
-use indexmap::{IndexMap, IndexSet};
+use indexmap::IndexMap;
 use jm_base::{Mode, Refusal};
 use jm_dest::{ClientId, ConnectionId, ConsumerId, Key, SessionId};
+use jm_indexed::KeySet;
 use jm_machine::{Attached, ConnectionState, Consumer, Consumers, SessionState};
 use std::alloc::{AllocError, Global};
 use std::marker::Model;
 
 /// The connections and sessions that were opened, and the consumers that were made in them, each in
-/// order and found by its number, and where the open sessions stand. Contracts see the connections and
+/// order and found by its number, and the numbers of the open sessions. Contracts see the connections and
 /// sessions as the machine's `Life`, the consumers as its list, and `spare`, for how many more calls there is room.
 pub struct Sessions {
     alloc: Global,
     connections: IndexMap<ConnectionId, ConnectionState>,
     sessions: IndexMap<SessionId, SessionState>,
-    opened: IndexSet<usize>,
+    opened: KeySet<SessionId>,
     roster: Roster,
     clients: Clients,
 }
@@ -52,19 +54,18 @@ impl Drop for Sessions {
 impl Model for Sessions {
     ghost use Rattle.std.specs.Prelude.{◌≡◌, min, true};
     ghost use Rattle.indexmap.specs.IndexMap.{spare, values};
-    ghost use Rattle.indexmap.specs.IndexSet as index_set;
     ghost use Rattle.jm_session.specs.Clients.{AreClientsApart, IsIndexOf, room};
     ghost use Rattle.jm_session.specs.Known.{Known};
 
     ghost Value = { Known };
 
     ghost use Rattle.jm_session.specs.Numbers.{IsNumbered};
-    ghost use Rattle.jm_session.specs.Positions.{AreOpen};
+    ghost use Rattle.jm_session.specs.Opened.{AreOpen};
 
     ghost view = { λ s. record {
       life = record { connections = values s.connections; sessions = values s.sessions };
       consumers = s.roster.consumers;
-      spare = min (min (spare s.connections) (room s.clients)) (min (min (spare s.sessions) (index_set.spare s.opened)) s.roster.spare);
+      spare = min (min (spare s.connections) (room s.clients)) (min (min (spare s.sessions) s.opened.spare) s.roster.spare);
     } };
 
     ghost invariant = { λ s.
@@ -117,7 +118,7 @@ impl Sessions {
             alloc,
             connections: IndexMap::new(alloc),
             sessions: IndexMap::new(alloc),
-            opened: IndexSet::new(alloc),
+            opened: KeySet::new(alloc),
             roster: Roster::new(alloc),
             clients: Clients::new(alloc),
         }
@@ -135,11 +136,7 @@ impl Sessions {
         ensures consumers { IfOk result (λ one. one.consumers ≡ option_to_list consumer) }
     {
         let roster = Roster::of_one(alloc, consumer)?;
-        let is_open = match &session {
-            Some(session) => session.is_open,
-            None => false,
-        };
-        let opened = one_position(alloc, is_open)?;
+        let opened = one_open(alloc, &session)?;
         let sessions = one_session(alloc, session)?;
         let connections = one_connection(alloc, connection)?;
         let clients = Clients::of(alloc, connections.values().as_slice())?;
@@ -160,7 +157,7 @@ impl Sessions {
     {
         let clients = Clients::of(self.alloc, self.connections())?;
         let roster = self.roster.copy(self.alloc)?;
-        let opened = self.opened.clone()?;
+        let opened = copied_keys(self.alloc, &self.opened)?;
         let sessions = copied_sessions(&self.sessions)?;
         Ok(Sessions {
             alloc: self.alloc,
@@ -502,8 +499,8 @@ impl Sessions {
     }
 
     /// Closes the connection, its sessions and their consumers, which stay known. `IllegalState` where it
-    /// was never opened; closing a closed one does nothing. Takes no memory. It walks over the open sessions
-    /// and the active consumers.
+    /// was never opened; closing a closed one does nothing. Takes no memory. It looks at those that close, and at no
+    /// other session or consumer.
     pub fn close_connection(&mut self, id: ConnectionId) -> Result<(), Refusal>
         ensures ok { is_ok result ≡ is_some (life.connection_of self.old.life.connections id) }
         ensures refused { IfErr result (λ refusal. refusal ≡ IllegalState) }
@@ -546,14 +543,14 @@ impl Sessions {
         };
         self.sessions.reserve(1)?;
         self.opened.reserve(1)?;
-        drop(self.opened.insert(self.sessions.len()));
+        self.opened.insert(*id);
         drop(self.sessions.insert(*id, session));
         Ok(())
     }
 
     /// Closes the session and its consumers, which stay known. `IllegalState` where it was never opened,
-    /// unless its connection is closed; closing a closed one does nothing. Takes no memory. It walks over
-    /// the active consumers.
+    /// unless its connection is closed; closing a closed one does nothing. Takes no memory. It looks at those that
+    /// close, and at no other session or consumer.
     pub fn close_session(&mut self, id: &SessionId) -> Result<(), Refusal>
         ensures ok { is_ok result ≡ machine.may_close_session self.old.life id.now }
         ensures refused { IfErr result (λ refusal. refusal ≡ IllegalState) }

@@ -1,8 +1,7 @@
 -- Keys that go with what is held under them.
-use Rattle.std.proofs.Common.{◌≡◌, ◌<◌, ◌≤◌, ◌+◌, ◌-◌, ℕ, zero, suc, List, [], ◌∷◌, length, get_or, set, take, drop, Bool, true, false, not, cond, refl, ap, sym, subst, ◌∙◌, arith}
-use Rattle.std.specs.List.{All, filter, items_where_true}
-use Rattle.std.specs.List.Retain.{IsFiltered, ReturnsInTurn}
-use Rattle.std.proofs.lemmas.List.{drop_more, length-drop}
+use Rattle.std.proofs.Common.{◌≡◌, ◌<◌, ◌≤◌, ◌+◌, ℕ, zero, suc, List, [], ◌∷◌, ◌++◌, length, get_or, set, take, drop, Bool, true, false, not, cond, refl, ap, sym, subst, ◌∙◌, arith}
+use Rattle.std.specs.List.{All, filter, remove}
+use Rattle.std.proofs.lemmas.List.{append_assoc, append-nil, drop_all, drop_more, take_all, take_more}
 use Rattle.std.proofs.lemmas.List.Elements.{All-nil, All-cons, All-head, All-tail}
 use Rattle.std.proofs.lemmas.List.Sums.{sum_by-cons}
 use Rattle.jm_dest.specs.declared.key.Key.{Key}
@@ -10,7 +9,7 @@ use Rattle.jm_pending.specs.Rows.{Held}
 use Rattle.jm_lane.specs.Holders.{Messages, KeepsMessages, Follows, rows_at}
 use Rattle.jm_pending.specs.Counts.{all_at, IsCounted}
 use Rattle.jm_stations.specs.Backlogs.{Backlog, kept_under}
-use Rattle.jm_stations.specs.Kept.{all_rows, shown, all_shown, cleared, cleared_under, lists_under, IsBacklog, IsKept, IsTaken}
+use Rattle.jm_stations.specs.Kept.{all_rows, shown, all_shown, cleared, cleared_under, lists_under, IsBacklog, IsKept}
 use Rattle.jm_stations.proofs.Each.{keeps_then}
 use Rattle.jm_stations.proofs.Shown.{all_covered, all_backlogs_kept, all_shown_kept}
 
@@ -110,51 +109,51 @@ as_many_left p (k ∷ keys) (b ∷ list) e = go (p k) (filter p keys) (kept_unde
     go true xs ys e = ap suc e
     go false xs ys e = e
 
--- a list stays where its key, which is taken in its turn, passes
-first_left : (p : Key → Bool) (k : Key) (h : Held) (lists : List Held) (answers : List Bool) (keys : List Key) (b : Bool) → b ≡ p k → items_where_true answers lists ≡ lists_under p keys lists → items_where_true (b ∷ answers) (h ∷ lists) ≡ lists_under p (k ∷ keys) (h ∷ lists)
-first_left p k h lists answers keys true e rest = ap (λ (xs : List Held). h ∷ xs) rest ∙ ap (λ a. cond a (h ∷ lists_under p keys lists) (lists_under p keys lists)) e
-first_left p k h lists answers keys false e rest = rest ∙ ap (λ a. cond a (h ∷ lists_under p keys lists) (lists_under p keys lists)) e
-
-none_left : (p : Key → Bool) (h : Held) (lists : List Held) (answers : List Bool) (b : Bool) → b ≡ false → items_where_true answers lists ≡ lists_under p [] lists → items_where_true (b ∷ answers) (h ∷ lists) ≡ lists_under p [] (h ∷ lists)
-none_left p h lists answers true e rest = cc
-none_left p h lists answers false e rest = rest
-
--- the first of what is left of some items, and what is left behind it
-pub record IsNext {X : Type 0} (xs : List X) (i : ℕ) (x : X) (rest : List X) : Type 0 where
-  pub within : i < length xs
-  pub here : (d : X) → get_or xs i d ≡ x
-  pub behind : drop (i + 1) xs ≡ rest
-
-pub next_left : {X : Type 0} (xs : List X) (i : ℕ) (x : X) (rest : List X) → drop i xs ≡ x ∷ rest → IsNext xs i x rest
-next_left {X} xs i x rest e = record {
-  within = within;
-  here = λ d. ap (λ (ys : List X). get_or ys 0 d) (sym (drop_more xs i d within) ∙ e);
-  behind = ap (λ (ys : List X). drop 1 ys) (sym (drop_more xs i x within) ∙ e);
-}
+-- no more lists are left than there were
+pub left_fewer : (p : Key → Bool) (keys : List Key) (lists : List Held) → length (lists_under p keys lists) ≤ length lists
+left_fewer p [] lists = omega arith
+left_fewer p (k ∷ keys) [] = omega arith
+left_fewer p (k ∷ keys) (h ∷ lists) = go (p k) (left_fewer p keys lists)
   where
-    number : length xs - i ≡ suc (length rest)
-    number = sym (length-drop i xs) ∙ ap length e
+    go : (b : Bool) → length (lists_under p keys lists) ≤ length lists → length (cond b (h ∷ lists_under p keys lists) (lists_under p keys lists)) ≤ suc (length lists)
+    go true fewer = omega (arith, fewer)
+    go false fewer = omega (arith, fewer)
 
-    within : i < length xs
-    within = omega (arith, number)
+-- before a list that goes, and behind it, stands what stood there
+take-removed : {X : Type 0} (xs : List X) (a : ℕ) → take a (remove xs a) ≡ take a xs
+take-removed [] zero = refl
+take-removed [] (suc a) = refl
+take-removed (x ∷ xs) zero = refl
+take-removed (x ∷ xs) (suc a) = ap (λ ys. x ∷ ys) (take-removed xs a)
 
--- nothing is left of some items behind the last
-pub nothing_left : {X : Type 0} (xs : List X) (i : ℕ) → drop i xs ≡ [] → length xs ≤ i
-nothing_left xs i e = let number : length xs - i ≡ 0 = sym (length-drop i xs) ∙ ap length e in omega (arith, number)
+drop-removed : {X : Type 0} (xs : List X) (a : ℕ) → drop a (remove xs a) ≡ drop (suc a) xs
+drop-removed [] zero = refl
+drop-removed [] (suc a) = refl
+drop-removed (x ∷ xs) zero = refl
+drop-removed (x ∷ xs) (suc a) = drop-removed xs a
 
-module _ {F : Type 0} (R : F → Held → Bool → F → Type 0) (p : Key → Bool) (left : F → List Key) (I : F → Type 0) (step : (f : F) (h : Held) (b : Bool) (f' : F) → I f → R f h b f' → I f' × IsTaken p (left f) (left f') b) where
-  told_in_turn : (answers : List Bool) (lists : List Held) (keys : List Key) (f q : F) → I f → left f ≡ keys → length answers ≡ length lists → ReturnsInTurn R f answers lists q → items_where_true answers lists ≡ lists_under p keys lists
-  told_in_turn [] [] [] f q i e l k = refl
-  told_in_turn [] [] (a ∷ keys) f q i e l k = refl
-  told_in_turn [] (h ∷ lists) keys f q i e l k = absurd (omega (arith, l))
-  told_in_turn (b ∷ answers) [] keys f q i e l k = absurd k
-  told_in_turn (b ∷ answers) (h ∷ lists) [] f q i e l k =
-      let one = step f h b k.0 i k.1 in
-      none_left p h lists answers b (one.1.none e).0 (told_in_turn answers lists [] k.0 q one.0 (one.1.none e).1 (omega (arith, l)) k.2)
-  told_in_turn (b ∷ answers) (h ∷ lists) (a ∷ keys) f q i e l k =
-      let one = step f h b k.0 i k.1 in
-      first_left p a h lists answers keys b (one.1.one a keys e).0 (told_in_turn answers lists keys k.0 q one.0 (one.1.one a keys e).1 (omega (arith, l)) k.2)
+-- a walk over the keys, behind the lists that stay
+module _ (p : Key → Bool) (keys : List Key) (i : ℕ) (d : Key) (lists : List Held) (a : ℕ) (all : List Held) (so_far : take a lists ++ lists_under p (drop i keys) (drop a lists) ≡ all) where
+  -- all were looked at
+  pub left_all : length keys ≤ i → length lists ≤ a → lists ≡ all
+  left_all past end =
+      let keys_end : drop i keys ≡ [] = drop_all i keys past in
+      sym (take_all a lists end) ∙ sym (append-nil (take a lists)) ∙ ap (λ ks. take a lists ++ lists_under p ks (drop a lists)) (sym keys_end) ∙ so_far
 
-  -- what a walk leaves that takes a key for each list
-  pub left_in_turn : (f : F) (lists after : List Held) (keys : List Key) → I f → left f ≡ keys → IsFiltered R f lists after → after ≡ lists_under p keys lists
-  left_in_turn f lists after keys i e k = k.4 ∙ told_in_turn k.0 lists keys f k.1 i e k.2 k.3
+  module _ (h : Held) (l : i < length keys) (m : a < length lists) where
+    abbrev rest : List Held
+    rest = lists_under p (drop (i + 1) keys) (drop (a + 1) lists)
+
+    next_left : (b : Bool) → p (get_or keys i d) ≡ b → take a lists ++ cond b (get_or lists a h ∷ rest) rest ≡ all
+    next_left b test =
+        ap (λ c. take a lists ++ cond c (get_or lists a h ∷ rest) rest) (sym test) ∙ (λ t. take a lists ++ lists_under p (sym (drop_more keys i d l) t) (sym (drop_more lists a h m) t)) ∙ so_far
+
+    -- the list stays
+    pub left_stays : p (get_or keys i d) ≡ true → take (a + 1) lists ++ rest ≡ all
+    left_stays test = ap (λ xs. xs ++ rest) (take_more lists a h m) ∙ append_assoc (take a lists) (get_or lists a h ∷ []) rest ∙ next_left true test
+
+    -- the list goes
+    pub left_goes : p (get_or keys i d) ≡ false → take a (remove lists a) ++ lists_under p (drop (i + 1) keys) (drop a (remove lists a)) ≡ all
+    left_goes test =
+        let one : suc a ≡ a + 1 = omega arith in
+        (λ t. take-removed lists a t ++ lists_under p (drop (i + 1) keys) ((drop-removed lists a ∙ ap (λ n. drop n lists) one) t)) ∙ next_left false test

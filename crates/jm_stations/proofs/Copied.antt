@@ -2,7 +2,7 @@
 use Rattle.std.proofs.Common.{◌≡◌, ◌<◌, ◌≤◌, ◌+◌, ◌-◌, ◌++◌, ℕ, zero, suc, length, get_or, false, not, List, [], ◌∷◌, Option, Some, None, refl, ap, sym, subst, ◌∙◌, arith, map, take, option_map}
 use Rattle.std.specs.Prelude.{IfSome}
 use Rattle.std.specs.List.{filter, find, AllByRecursion, IsDistinct, list_any}
-use Rattle.std.proofs.lemmas.List.{take_more, map-append, length-append}
+use Rattle.std.proofs.lemmas.List.{map-append, length-append}
 use Rattle.std.proofs.lemmas.List.Filters.{length-filter_both}
 use Rattle.std.proofs.lemmas.List.Elements.{All-map, All-weaker}
 use Rattle.jm_dest.specs.declared.key.Key.{Key}
@@ -22,7 +22,7 @@ use Rattle.jm_lane.proofs.Holding.{holder_there}
 use Rattle.std.proofs.lemmas.List.{get_or_default}
 use Rattle.jm_stations.specs.Backlogs as spec
 use Rattle.jm_stations.specs.Kept.{all_rows, all_shown, without_room, IsBacklog, IsKept}
-use Rattle.jm_machine.proofs.Keys.{set_eq, set_is, key_sym}
+use Rattle.jm_machine.proofs.Keys.{key_sym}
 
 -- a key is not among those before it, where all are distinct
 pub none_later : (k : Key) (keys : List Key) (n : ℕ) (d : Key) → AllByRecursion (λ l. key_eq k l ≡ false) keys → n < length keys → key_eq k (get_or keys n d) ≡ false

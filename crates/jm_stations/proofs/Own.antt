@@ -1,97 +1,105 @@
--- The key of a consumer's own subscription, which goes alone where no key is shared.
-use Rattle.std.proofs.Common.{◌≡◌, ◌<◌, ℕ, zero, suc, List, [], ◌∷◌, length, get_or, Bool, true, false, not, cond, ◌||◌, refl, ap, sym, subst, ◌∙◌, arith, Some, None}
-use Rattle.std.specs.List.{All, AllByRecursion, IsDistinct, filter, list_any, remove}
-use Rattle.std.proofs.lemmas.Bool.Decides.{nat_tests}
+-- The keys of consumers' own subscriptions, which go alone where no key is shared.
+use Rattle.std.proofs.Common.{◌≡◌, ◌<◌, ℕ, zero, suc, List, [], ◌∷◌, length, get_or, Bool, true, false, not, cond, ◌||◌, refl, ap, subst, sym, ◌∙◌, arith}
+use Rattle.std.specs.List.{All, filter, list_any, remove}
+use Rattle.std.specs.Ordering.{is_eq}
+use Rattle.std.specs.declared.cmp.Ordering.TheVariants.{Equal}
 use Rattle.std.proofs.lemmas.List.Elements.{All-head, All-tail}
-use Rattle.std.proofs.lemmas.List.Quantifiers.{position-Some}
 use Rattle.jm_dest.specs.declared.key.Key.{Key}
 use Rattle.jm_dest.specs.declared.key.Key.TheVariants.{Queue, Own, SharedOwn, Durable}
-use Rattle.jm_dest.specs.declared.session.SessionId.{SessionId}
-use Rattle.jm_dest.specs.Keys.{key_eq}
 use Rattle.jm_machine.specs.Attached.{Counts, ended}
-use Rattle.jm_machine.specs.declared.consumers.Consumers.TheVariants.{One}
-use Rattle.jm_machine.proofs.Keys.{key_same, key_sym}
+use Rattle.jm_machine.specs.Sections.{is_own_of, key_place}
+use Rattle.jm_machine.specs.declared.consumers.Consumers.{Consumers}
+use Rattle.jm_machine.proofs.Sections.{place_is}
 use Rattle.jm_stations.specs.Backlogs.{Backlog, kept_under}
-use Rattle.jm_stations.specs.Stations.{index_in, is_shared}
-use Rattle.jm_stations.proofs.Copied.{none_later}
-use Rattle.jm_stations.proofs.Indexes.{no_key}
+use Rattle.jm_stations.specs.Stations.{is_shared}
 
--- keys of which none passes stay
-none_goes : (p : Key → Bool) (keys : List Key) → AllByRecursion (λ k. p k ≡ false) keys → filter (λ k. not (p k)) keys ≡ keys
-none_goes p [] h = refl
-none_goes p (k ∷ keys) h = ap (λ b. cond (not b) (k ∷ filter (λ k. not (p k)) keys) (filter (λ k. not (p k)) keys)) h.0 ∙ ap (λ (ks : List Key). k ∷ ks) (none_goes p keys h.1)
+module _ (which : Consumers) where
+  abbrev stays : Key → Bool
+  stays k = not (is_own_of which k)
 
-none_under : (p : Key → Bool) (keys : List Key) (list : List Backlog) → length keys ≡ length list → AllByRecursion (λ k. p k ≡ false) keys → kept_under (λ k. not (p k)) keys list ≡ list
-none_under p [] [] e h = refl
-none_under p [] (b ∷ list) e h = absurd (omega (arith, e))
-none_under p (k ∷ keys) [] e h = refl
-none_under p (k ∷ keys) (b ∷ list) e h = ap (λ a. cond (not a) (b ∷ kept_under (λ k. not (p k)) keys list) (kept_under (λ k. not (p k)) keys list)) h.0 ∙ ap (λ (bs : List Backlog). b ∷ bs) (none_under p keys list (omega (arith, e)) h.1)
+  -- a key in the section is an own one
+  own_there : (k : Key) → key_place which k ≡ Equal → is_own_of which k ≡ true
+  own_there k at = sym (place_is which k) ∙ ap is_eq at
 
--- a key that is elsewhere is another
-another : (own k : Key) (keys : List Key) (i : ℕ) → AllByRecursion (λ l. key_eq k l ≡ false) keys → i < length keys → key_eq (get_or keys i own) own ≡ true → key_eq own k ≡ false
-another own k keys i h l is = key_sym own k ∙ ap (key_eq k) (sym (key_same (get_or keys i own) own is)) ∙ none_later k keys i own h l
+  -- an own key that is there may be taken out first
+  key_taken : (keys : List Key) (at : ℕ) → at < length keys → ((d : Key) → key_place which (get_or keys at d) ≡ Equal) → filter stays (remove keys at) ≡ filter stays keys
+  key_taken [] at within own = absurd (omega (arith, within))
+  key_taken (k ∷ keys) zero within own = rw (own_there k (own k)) refl
+  key_taken (k ∷ keys) (suc at) within own = let rest = key_taken keys at (omega (arith, within)) own in λ i. cond (stays k) (k ∷ rest i) (rest i)
 
-itself : (own k : Key) → key_eq k own ≡ true → key_eq own k ≡ true
-itself own k is = key_sym own k ∙ is
+  -- and what is held under it
+  list_taken : (keys : List Key) (list : List Backlog) (at : ℕ) → length keys ≡ length list → at < length keys → ((d : Key) → key_place which (get_or keys at d) ≡ Equal) →
+      kept_under stays (remove keys at) (remove list at) ≡ kept_under stays keys list
+  list_taken [] list at number within own = absurd (omega (arith, within))
+  list_taken (k ∷ keys) [] at number within own = absurd (omega (arith, number))
+  list_taken (k ∷ keys) (b ∷ list) zero number within own = rw (own_there k (own k)) refl
+  list_taken (k ∷ keys) (b ∷ list) (suc at) number within own =
+      let rest = list_taken keys list at (omega (arith, number)) (omega (arith, within)) own in λ i. cond (stays k) (b ∷ rest i) (rest i)
 
-others : (own k : Key) (keys : List Key) → key_eq k own ≡ true → AllByRecursion (λ l. key_eq k l ≡ false) keys → AllByRecursion (λ l. key_eq own l ≡ false) keys
-others own k keys is h = subst (λ (x : Key). AllByRecursion (λ l. key_eq x l ≡ false) keys) (key_same k own is) h
+  -- where no own key is there all stay
+  no_own : (keys : List Key) → list_any (λ k. is_eq (key_place which k)) keys ≡ false → list_any (is_own_of which) keys ≡ false
+  no_own keys none = sym (λ i. list_any (λ k. place_is which k i) keys) ∙ none
 
--- one of distinct keys goes, and what is held under it
-pub one_goes : (own : Key) (keys : List Key) (i : ℕ) → IsDistinct key_eq keys → i < length keys → key_eq (get_or keys i own) own ≡ true → filter (λ k. not (key_eq own k)) keys ≡ remove keys i
-unfolding IsDistinct
-one_goes own [] i d l is = absurd (omega (arith, l))
-one_goes own (k ∷ keys) zero d l is =
-    ap (λ b. cond (not b) (k ∷ filter (λ k. not (key_eq own k)) keys) (filter (λ k. not (key_eq own k)) keys)) (itself own k is) ∙ none_goes (key_eq own) keys (others own k keys is d.0)
-one_goes own (k ∷ keys) (suc i) d l is =
-    ap (λ b. cond (not b) (k ∷ filter (λ k. not (key_eq own k)) keys) (filter (λ k. not (key_eq own k)) keys)) (another own k keys i d.0 (omega (arith, l)) is)
-    ∙ ap (λ (ks : List Key). k ∷ ks) (one_goes own keys i d.1 (omega (arith, l)) is)
+  all_stay : (keys : List Key) → list_any (is_own_of which) keys ≡ false → filter stays keys ≡ keys
+  all_stay [] none = refl
+  all_stay (k ∷ keys) none = by (is_own_of which k) refl none (all_stay keys)
+    where
+      by : (b : Bool) → is_own_of which k ≡ b → (b || list_any (is_own_of which) keys) ≡ false → (list_any (is_own_of which) keys ≡ false → filter stays keys ≡ keys) → filter stays (k ∷ keys) ≡ k ∷ keys
+      by true own h rest = cc
+      by false other h rest = rw other (ap (λ ks. k ∷ ks) (rest h))
 
-pub one_under : (own : Key) (keys : List Key) (list : List Backlog) (i : ℕ) → length keys ≡ length list → IsDistinct key_eq keys → i < length keys → key_eq (get_or keys i own) own ≡ true → kept_under (λ k. not (key_eq own k)) keys list ≡ remove list i
-unfolding IsDistinct
-one_under own [] list i e d l is = absurd (omega (arith, l))
-one_under own (k ∷ keys) [] i e d l is = absurd (omega (arith, e))
-one_under own (k ∷ keys) (b ∷ list) zero e d l is =
-    ap (λ a. cond (not a) (b ∷ kept_under (λ k. not (key_eq own k)) keys list) (kept_under (λ k. not (key_eq own k)) keys list)) (itself own k is) ∙ none_under (key_eq own) keys list (omega (arith, e)) (others own k keys is d.0)
-one_under own (k ∷ keys) (b ∷ list) (suc i) e d l is =
-    ap (λ a. cond (not a) (b ∷ kept_under (λ k. not (key_eq own k)) keys list) (kept_under (λ k. not (key_eq own k)) keys list)) (another own k keys i d.0 (omega (arith, l)) is)
-    ∙ ap (λ (bs : List Backlog). b ∷ bs) (one_under own keys list i (omega (arith, e)) d.1 (omega (arith, l)) is)
+  no_key_goes : (keys : List Key) → list_any (λ k. is_eq (key_place which k)) keys ≡ false → filter stays keys ≡ keys
+  no_key_goes keys none = all_stay keys (no_own keys none)
 
--- a key that stands nowhere is none of them
-nowhere : (own : Key) (keys : List Key) → list_any (λ k. key_eq k own) keys ≡ false → AllByRecursion (λ k. key_eq own k ≡ false) keys
-nowhere own [] h = tt
-nowhere own (k ∷ keys) h = go (key_eq k own) refl h (nowhere own keys)
-  where
-    go : (b : Bool) → key_eq k own ≡ b → (b || list_any (λ k. key_eq k own) keys) ≡ false → (list_any (λ k. key_eq k own) keys ≡ false → AllByRecursion (λ k. key_eq own k ≡ false) keys) → AllByRecursion (λ k. key_eq own k ≡ false) (k ∷ keys)
-    go true e h rest = cc
-    go false e h rest = (key_sym own k ∙ e, rest h)
+  all_held : (keys : List Key) (list : List Backlog) → length keys ≡ length list → list_any (is_own_of which) keys ≡ false → kept_under stays keys list ≡ list
+  all_held [] [] number none = refl
+  all_held [] (b ∷ list) number none = absurd (omega (arith, number))
+  all_held (k ∷ keys) [] number none = refl
+  all_held (k ∷ keys) (b ∷ list) number none = by (is_own_of which k) refl none (all_held keys list (omega (arith, number)))
+    where
+      by : (c : Bool) → is_own_of which k ≡ c → (c || list_any (is_own_of which) keys) ≡ false → (list_any (is_own_of which) keys ≡ false → kept_under stays keys list ≡ list) → kept_under stays (k ∷ keys) (b ∷ list) ≡ b ∷ list
+      by true own h rest = cc
+      by false other h rest = rw other (ap (λ bs. b ∷ bs) (rest h))
 
-pub no_goes : (own : Key) (keys : List Key) → index_in keys own ≡ None → filter (λ k. not (key_eq own k)) keys ≡ keys
-no_goes own keys h = none_goes (key_eq own) keys (nowhere own keys (no_key (λ k. key_eq k own) keys h))
+  no_list_goes : (keys : List Key) (list : List Backlog) → length keys ≡ length list → list_any (λ k. is_eq (key_place which k)) keys ≡ false → kept_under stays keys list ≡ list
+  no_list_goes keys list number none = all_held keys list number (no_own keys none)
 
-pub no_under : (own : Key) (keys : List Key) (list : List Backlog) → length keys ≡ length list → index_in keys own ≡ None → kept_under (λ k. not (key_eq own k)) keys list ≡ list
-no_under own keys list e h = none_under (key_eq own) keys list e (nowhere own keys (no_key (λ k. key_eq k own) keys h))
+  -- the same of keys and lists that a view shows
+  pub keys_after : (keys shown after : List Key) (at : ℕ) → keys ≡ shown → after ≡ remove shown at → at < length keys → ((d : Key) → key_place which (get_or keys at d) ≡ Equal) → filter stays after ≡ filter stays shown
+  keys_after keys shown after at same gone within own =
+      ap (filter stays) gone ∙ subst (λ (ks : List Key). filter stays (remove ks at) ≡ filter stays ks) same (key_taken keys at within own)
 
--- the key is at the index where it is found
-pub found : (own : Key) (keys : List Key) (i : ℕ) → index_in keys own ≡ Some i → (i < length keys) × (key_eq (get_or keys i own) own ≡ true)
-found own keys i h =
-    let at = position-Some (λ k. key_eq k own) keys i own h in
-    (at.0, at.1)
+  pub lists_after : (keys shown after : List Key) (lists list left : List Backlog) (at : ℕ) → keys ≡ shown → lists ≡ list → after ≡ remove shown at → left ≡ remove list at → length keys ≡ length lists → at < length keys →
+      ((d : Key) → key_place which (get_or keys at d) ≡ Equal) → kept_under stays after left ≡ kept_under stays shown list
+  lists_after keys shown after lists list left at same alike gone taken number within own =
+      (λ i. kept_under stays (gone i) (taken i)) ∙ (λ i. kept_under stays (remove (sym same i) at) (remove (sym alike i) at)) ∙ list_taken keys lists at number within own ∙ (λ i. kept_under stays (same i) (alike i))
 
--- where no key is shared, what ends with one consumer is its own
-ended_own : (s : SessionId) (c : ℕ) (left : Counts) (k : Key) → is_shared k ≡ false → ended (One s c) left k ≡ key_eq (Own s c) k
-ended_own s c left (Queue name) h = refl
-ended_own s c left (Own t d) h = grind (arith, nat_tests)
-ended_own s c left (SharedOwn client name) h = cc
-ended_own s c left (Durable client name) h = refl
+  pub no_shown_goes : (keys shown : List Key) → keys ≡ shown → list_any (λ k. is_eq (key_place which k)) keys ≡ false → filter stays shown ≡ shown
+  no_shown_goes keys shown same none = subst (λ (ks : List Key). filter stays ks ≡ ks) same (no_key_goes keys none)
 
-pub own_ended : (s : SessionId) (c : ℕ) (left : Counts) (keys : List Key) → All (λ k. is_shared k ≡ false) keys → filter (λ k. not (ended (One s c) left k)) keys ≡ filter (λ k. not (key_eq (Own s c) k)) keys
-own_ended s c left [] h = refl
-own_ended s c left (k ∷ keys) h =
-    (λ i. cond (not (ended_own s c left k (All-head (λ k. is_shared k ≡ false) k keys h) i)) (k ∷ own_ended s c left keys (All-tail (λ k. is_shared k ≡ false) k keys h) i) (own_ended s c left keys (All-tail (λ k. is_shared k ≡ false) k keys h) i))
+  pub no_list_shown_goes : (keys shown : List Key) (lists list : List Backlog) → keys ≡ shown → lists ≡ list → length keys ≡ length lists → list_any (λ k. is_eq (key_place which k)) keys ≡ false → kept_under stays shown list ≡ list
+  no_list_shown_goes keys shown lists list same alike number none =
+      (λ i. kept_under stays (sym same i) (sym alike i)) ∙ no_list_goes keys lists number none ∙ alike
 
-pub own_under : (s : SessionId) (c : ℕ) (left : Counts) (keys : List Key) (list : List Backlog) → All (λ k. is_shared k ≡ false) keys → kept_under (λ k. not (ended (One s c) left k)) keys list ≡ kept_under (λ k. not (key_eq (Own s c) k)) keys list
-own_under s c left [] list h = refl
-own_under s c left (k ∷ keys) [] h = refl
-own_under s c left (k ∷ keys) (b ∷ list) h =
-    (λ i. cond (not (ended_own s c left k (All-head (λ k. is_shared k ≡ false) k keys h) i)) (b ∷ own_under s c left keys list (All-tail (λ k. is_shared k ≡ false) k keys h) i) (own_under s c left keys list (All-tail (λ k. is_shared k ≡ false) k keys h) i))
+  -- where no key is shared, what ends with these consumers is their own
+  module _ (left : Counts) where
+    ended_own : (k : Key) → is_shared k ≡ false → ended which left k ≡ is_own_of which k
+    ended_own (Queue name) h = refl
+    ended_own (Own t d) h = refl
+    ended_own (SharedOwn client name) h = cc
+    ended_own (Durable client name) h = refl
+
+    pub own_ended : (keys : List Key) → All (λ k. is_shared k ≡ false) keys → filter (λ k. not (ended which left k)) keys ≡ filter stays keys
+    own_ended [] h = refl
+    own_ended (k ∷ keys) h =
+        let same = ended_own k (All-head (λ k. is_shared k ≡ false) k keys h) in
+        let rest = own_ended keys (All-tail (λ k. is_shared k ≡ false) k keys h) in
+        λ i. cond (not (same i)) (k ∷ rest i) (rest i)
+
+    pub own_under : (keys : List Key) (list : List Backlog) → All (λ k. is_shared k ≡ false) keys → kept_under (λ k. not (ended which left k)) keys list ≡ kept_under stays keys list
+    own_under [] list h = refl
+    own_under (k ∷ keys) [] h = refl
+    own_under (k ∷ keys) (b ∷ list) h =
+        let same = ended_own k (All-head (λ k. is_shared k ≡ false) k keys h) in
+        let rest = own_under keys list (All-tail (λ k. is_shared k ≡ false) k keys h) in
+        λ i. cond (not (same i)) (b ∷ rest i) (rest i)

@@ -1,9 +1,10 @@
 -- Rows that are read where they stand.
-use Rattle.std.proofs.Common.{◌≡◌, ℕ, ◌<◌, ◌≤◌, ◌==◌, nat_le, List, [], ◌∷◌, length, get_or, map, Bool, true, false, not, ◌&&◌, cond, Option, Some, None, refl, ap, sym, subst, ◌∙◌, arith, option_map, is_some}
-use Rattle.std.specs.List.{find, All}
-use Rattle.std.specs.Option.{IfSome, MatchOption}
+use Rattle.std.proofs.Common.{◌≡◌, ℕ, ◌<◌, ◌==◌, nat_le, List, [], ◌∷◌, length, get_or, Bool, true, false, not, ◌&&◌, cond, Option, Some, None, refl, ap, sym, subst, ◌∙◌, arith, option_map, is_some}
+use Rattle.std.specs.List.{find, All, slice_get}
+use Rattle.std.specs.Option.{IfSome}
 use Rattle.std.proofs.lemmas.List.{get_or-map, get_or_default, length-map}
 use Rattle.std.proofs.lemmas.List.Elements.{All-head, All-tail, All-weaker}
+use Rattle.jm_gaps.proofs.Items.{item_read}
 use Rattle.jm_dest.specs.declared.session.SessionId.{SessionId}
 use Rattle.jm_machine.specs.declared.state.PlacedRow.{PlacedRow}
 use Rattle.jm_machine.specs.Rows as machine
@@ -17,7 +18,7 @@ use Rattle.jm_pending.specs.Placed.{placed, all_placed, IsRowOf, AreRowsOf}
 use Rattle.jm_lanes.proofs.Places.{find_has}
 use Rattle.jm_stations.specs.Backlogs.{Backlog}
 use Rattle.jm_stations.specs.Kept.{shown, all_shown, IsKept}
-use Rattle.jm_stations.specs.Standing.{is_at, is_from, lapsed_from, out_from, holds, has_row, IsFirst, IsFirstOf}
+use Rattle.jm_stations.specs.Standing.{is_at, is_from, lapsed_from, out_from, holds, has_row, IsFirstOf}
 use Rattle.jm_stations.proofs.Holders.{covers_one}
 use Rattle.jm_stations.proofs.Receiving.{no_rows, within_shown}
 use Rattle.jm_stations.proofs.Choosing.{all_held}
@@ -50,16 +51,16 @@ found_held t p rs o is c =
     subst (λ (x : Option Row). IfSome x (λ (r : Row). 0 < holders_of t r.place)) (sym is) (find_has (λ (r : Row). 0 < holders_of t r.place) p rs (all_held t rs c))
 
 -- one of many lists
-pub covers_at : (t : Messages) (lists : List Held) (place k : ℕ) (h : Held) → k < length (all_shown t lists) → h ≡ get_or lists k h → IsKept t lists place → Covers t h.rows
-covers_at t lists place k h l is w = subst (λ (x : Held). Covers t x.rows) (sym is) (covers_one t lists k h (within_shown t lists k l) w.counted)
+pub covers_at : (t : Messages) (lists : List Held) (place k : ℕ) (h : Held) → k < length (all_shown t lists) → slice_get lists k ≡ Some h → IsKept t lists place → Covers t h.rows
+covers_at t lists place k h l is w = subst (λ (x : Held). Covers t x.rows) (sym (item_read lists k h is)) (covers_one t lists k h (within_shown t lists k l) w.counted)
 
-pub own_at : (t : Messages) (lists : List Held) (place k : ℕ) (h : Held) → k < length (all_shown t lists) → h ≡ get_or lists k h → IsKept t lists place → AreRowsOf t h.rows
-own_at t lists place k h l is w = subst (λ (x : Held). AreRowsOf t x.rows) (sym is) (w.each k h (within_shown t lists k l)).own
+pub own_at : (t : Messages) (lists : List Held) (place k : ℕ) (h : Held) → k < length (all_shown t lists) → slice_get lists k ≡ Some h → IsKept t lists place → AreRowsOf t h.rows
+own_at t lists place k h l is w = subst (λ (x : Held). AreRowsOf t x.rows) (sym (item_read lists k h is)) (w.each k h (within_shown t lists k l)).own
 
-pub rows_seen : (t : Messages) (lists : List Held) (k : ℕ) (h : Held) (d : Backlog) → k < length (all_shown t lists) → h ≡ get_or lists k h → all_placed t h.rows ≡ (get_or (all_shown t lists) k d).rows
+pub rows_seen : (t : Messages) (lists : List Held) (k : ℕ) (h : Held) (d : Backlog) → k < length (all_shown t lists) → slice_get lists k ≡ Some h → all_placed t h.rows ≡ (get_or (all_shown t lists) k d).rows
 rows_seen t lists k h d l is =
     let inside = within_shown t lists k l in
-    let found : h ≡ get_or lists k no_rows = is ∙ get_or_default lists k h no_rows inside in
+    let found : h ≡ get_or lists k no_rows = item_read lists k h is ∙ get_or_default lists k h no_rows inside in
     ap (λ (x : Held). all_placed t x.rows) found ∙ ap (λ (b : Backlog). b.rows) (sym (get_or-map (shown t) lists k no_rows d inside))
 
 -- a list with a row at the place is seen with one

@@ -1,5 +1,5 @@
 -- A list that goes with its rows.
-use Rattle.std.proofs.Common.{◌≡◌, ◌+◌, ◌-◌, ◌<◌, ◌≤◌, ℕ, Bool, true, false, List, [], length, get_or, refl, subst, ap, ◌∙◌, arith, suc, take, drop}
+use Rattle.std.proofs.Common.{◌≡◌, ◌<◌, ℕ, Bool, true, false, List, [], length, get_or, refl, subst, ap, ◌∙◌, arith, suc, take, drop}
 use Rattle.std.specs.List.{All, list_any, remove}
 use Rattle.std.proofs.lemmas.List.Elements.{All-take, All-drop, All-append}
 use Rattle.std.proofs.lemmas.List.Folds.{list_any_at}
@@ -50,7 +50,3 @@ removed_shown t t' place k d lists l w f =
 pub cleared : (t t' : Messages) (k : ℕ) (h h' : Held) (lists : List Held) → h ≡ get_or lists k h → h' ≡ record h { rows = [] } → Follows t t' h.rows h'.rows → Follows t t' (get_or lists k h).rows []
 cleared t t' k h h' lists is none f =
     subst (λ (x : Held). Follows t t' x.rows []) is (subst (λ (x : Held). Follows t t' h.rows x.rows) none f)
-
--- and leaves room for one more
-pub one_more : (cap len cap' len' : ℕ) → cap' ≡ cap → len' + 1 ≡ len → len ≤ cap → cap' - len' ≡ (cap - len) + 1
-one_more cap len cap' len' same less fits = omega (arith, same, less, fits)

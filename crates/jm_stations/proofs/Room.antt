@@ -1,10 +1,12 @@
 -- Room that is made, in the table and in lists.
-use Rattle.std.proofs.Common.{◌≡◌, ℕ, ◌<◌, ◌≤◌, List, length, get_or, ap, sym, subst, ◌∙◌, arith}
+use Rattle.std.proofs.Common.{◌≡◌, ◌≢◌, ◌⊎◌, inl, inr, ℕ, ◌<◌, ◌≤◌, ◌++◌, ◌∷◌, [], Some, List, length, get_or, set, ap, sym, subst, ◌∙◌, arith}
 use Rattle.std.specs.Prelude.{OnOk}
-use Rattle.std.specs.List.{All}
+use Rattle.std.specs.List.{All, slice_get}
 use Rattle.std.specs.declared.result.Result.{Result}
 use Rattle.std.specs.declared.result.Result.TheVariants.{Ok, Err}
-use Rattle.std.proofs.lemmas.List.{length-map, get_or-map, same_lists}
+use Rattle.std.proofs.lemmas.List.{get_or-map, get_or-set_other, get_or-set_same, get_or_default, length-map, length-set, same_lists}
+use Rattle.std.proofs.lemmas.List.Elements.{All-push}
+use Rattle.jm_gaps.proofs.Items.{item_read}
 use Rattle.jm_lane.specs.declared.row.Row.{Row}
 use Rattle.jm_pending.specs.Rows.{Held}
 use Rattle.jm_lane.specs.Holders.{Messages}
@@ -22,6 +24,37 @@ with_room h n = record h { room = n }
 -- there is room in each list that was named so far
 abbrev pub IsRoomAt : ℕ → List Held → ℕ → Type 0
 IsRoomAt n lists i = (d : Held) → n ≤ (get_or lists i d).room
+
+either : (k i : ℕ) → (k ≡ i) ⊎ (k ≢ i)
+either k i = grind arith
+
+-- one list has more room
+module _ (lists : List Held) (i : ℕ) (h h' : Held) (inside : i < length lists) (found : slice_get lists i ≡ Some h) (same : h' ≡ with_room h h'.room) (more : h.room ≤ h'.room) where
+  there : (d : Held) → h ≡ get_or lists i d
+  there d = item_read lists i h found ∙ get_or_default lists i h d inside
+
+  -- it stands at its index, and at each other the one that stood there
+  at_each : (P : ℕ → Held → Type 0) (k : ℕ) (d : Held) → P i h' → P k (get_or lists k d) → P k (get_or (set lists i h') k d)
+  at_each P k d here other = elim (either k i) [
+    | inl e ↦ subst (λ n. P n (get_or (set lists i h') n d)) (sym e) (subst (P i) (sym (get_or-set_same lists i h' d inside)) here)
+    | inr ne ↦ subst (P k) (sym (get_or-set_other lists i k h' d ne)) other
+  ]
+
+  pub roomier_more : (old : List Held) → HasMoreRoom old lists → HasMoreRoom old (set lists i h')
+  roomier_more old w = record {
+    number = length-set lists i h' ∙ w.number;
+    same = λ k d l.
+        let within : i < length old = omega (arith, inside, w.number) in
+        at_each (λ n x. x ≡ with_room (get_or old n d) x.room) k d (same ∙ ap (λ (x : Held). with_room x h'.room) (there d ∙ w.same i d within)) (w.same k d l);
+    room = λ k d l.
+        let within : i < length old = omega (arith, inside, w.number) in
+        let grown : (get_or old i d).room ≤ h.room = subst (λ (x : Held). (get_or old i d).room ≤ x.room) (sym (there d)) (w.room i d within) in
+        at_each (λ n x. (get_or old n d).room ≤ x.room) k d (omega (arith, grown, more)) (w.room k d l);
+  }
+
+  pub room_more : (n : ℕ) (is : List ℕ) → n ≤ h'.room → All (IsRoomAt n lists) is → All (IsRoomAt n (set lists i h')) (is ++ i ∷ [])
+  room_more n is enough before =
+      All-push (IsRoomAt n (set lists i h')) is i (λ k d l e. at_each (λ _ x. n ≤ x.room) (get_or is k d) e enough (before k d l e)) (λ e. subst (λ (x : Held). n ≤ x.room) (sym (get_or-set_same lists i h' e inside)) enough)
 
 -- the rows are the same
 rows_same_room : (lists after : List Held) → HasMoreRoom lists after → all_rows after ≡ all_rows lists

@@ -14,7 +14,6 @@ use Rattle.jm_pending.specs.Rows.{Held}
 use Rattle.jm_pending.proofs.Counting.{beside_put, counted_released}
 use Rattle.jm_pending.specs.Counts.{IsCounted}
 use Rattle.jm_stations.specs.declared.loading.StoredRow.{StoredRow}
-use Rattle.jm_stations.specs.Backlogs.{Backlog}
 use Rattle.jm_stations.specs.Kept.{FollowsAll, IsBacklog, IsKept, all_rows, all_shown, shown, with_row}
 use Rattle.jm_stations.specs.Loading.{AreLoaded, AreOffered, loaded, stored_at, stored_row, with_stored}
 use Rattle.jm_stations.proofs.Holders.{beside_all, covers_one, keeps_released}

@@ -1,5 +1,5 @@
 -- What is held inside: the rows of each key, over one table of messages.
-use Rattle.std.specs.Prelude.{◌≡◌, ◌≤◌, ◌<◌, ◌+◌, ◌-◌, ◌&&◌, ◌==◌, ℕ, Bool, true, false, not, List, [], ◌∷◌, ◌++◌, map, filter, length, slice_index_or, All, Option, Some, None, option_map, if◌then◌else◌}
+use Rattle.std.specs.Prelude.{◌≡◌, ◌≤◌, ◌<◌, ◌+◌, ◌-◌, ◌&&◌, ◌==◌, ℕ, Bool, true, not, List, [], ◌∷◌, ◌++◌, map, filter, length, slice_index_or, All, Option, Some, None, option_map, if◌then◌else◌}
 use Rattle.jm_dest.specs.Numbers.{long_end}
 use Rattle.jm_dest.specs.declared.key.Key.{Key}
 use Rattle.jm_dest.specs.declared.session.SessionId.{SessionId}
@@ -127,8 +127,3 @@ abbrev pub lists_under : (Key → Bool) → List Key → List Held → List Held
 lists_under p [] lists = []
 lists_under p (k ∷ keys) [] = []
 lists_under p (k ∷ keys) (h ∷ lists) = if p k then h ∷ lists_under p keys lists else lists_under p keys lists
-
--- a key was taken of those that are left, and the answer is whether it passes; where none is left it is `false`
-pub record IsTaken (p : Key → Bool) (before after : List Key) (answer : Bool) : Type 0 where
-  pub none : before ≡ [] → (answer ≡ false) × (after ≡ [])
-  pub one : (k : Key) (keys : List Key) → before ≡ k ∷ keys → (answer ≡ p k) × (after ≡ keys)

@@ -19,6 +19,7 @@ use crate::standing::{self, Standing};
 use crate::{copies, lists};
 use jm_base::Boxed;
 use jm_dest::{ConsumerId, Key, Moment, SessionId};
+use jm_gaps::GapList;
 use jm_header::Message;
 use jm_indexed::KeySet;
 use jm_machine::{Answer, Attached, Consumers, Delivery, PlacedRow, Row as MachineRow, RowState};
@@ -32,7 +33,7 @@ use std::marker::Model;
 /// publication, and for how many more messages and keys there is room.
 pub(crate) struct Backlogs {
     alloc: Global,
-    lists: Vec<Held>,
+    lists: GapList<Held>,
     table: Table,
     next_place: u64,
     outstanding: Outstanding,
@@ -51,7 +52,7 @@ impl Drop for Backlogs {
 }
 
 impl Model for Backlogs {
-    ghost use Rattle.std.specs.Prelude.{◌≡◌, ◌-◌, length, min, vec_capacity, vec_len};
+    ghost use Rattle.std.specs.Prelude.{◌≡◌, length, min};
     ghost use Rattle.jm_stations.specs.Backlogs.{Backlogs as BacklogsShown};
     ghost use Rattle.jm_stations.specs.Kept.{IsKept, all_shown};
     ghost use Rattle.jm_stations.specs.Outstanding.{AreHomeBut};
@@ -62,7 +63,7 @@ impl Model for Backlogs {
       list = all_shown s.table s.lists.items;
       next_place = s.next_place;
       message_room = s.table.spare;
-      list_room = min (vec_capacity s.lists - vec_len s.lists) s.outstanding.room;
+      list_room = min s.lists.spare s.outstanding.room;
     } };
 
     ghost invariant = { λ s. IsKept s.table s.lists.items s.next_place × (s.outstanding.number ≡ length s.lists.items) × AreHomeBut s.outstanding.indexes s.lists.items };
@@ -139,7 +140,7 @@ impl Backlogs {
     {
         Backlogs {
             alloc,
-            lists: Vec::new(alloc),
+            lists: GapList::new(alloc),
             table: Table::new(alloc),
             next_place: 1,
             outstanding: Outstanding::new(alloc),
@@ -178,7 +179,7 @@ impl Backlogs {
         }) }
     {
         let table = self.table.copy()?;
-        let lists = copies::copy_lists(self.alloc, self.lists.as_slice())?;
+        let lists = copies::copy_lists(self.alloc, &self.lists)?;
         let outstanding = self.outstanding.copy(self.alloc)?;
         Ok(Backlogs {
             alloc: self.alloc,
@@ -195,7 +196,7 @@ impl Backlogs {
         requires { index < length self.now.list }
         ensures { (d : Backlog) → IfOk result (λ rows. rows.items ≡ (slice_index_or self.now.list index d).rows) }
     {
-        copies::placed_rows(self.alloc, &self.table, &self.lists[index])
+        copies::placed_rows(self.alloc, &self.table, self.lists.at(index))
     }
 
     /// Whether no row of the list with that index is out. Takes no memory.
@@ -203,7 +204,7 @@ impl Backlogs {
         requires { index < length self.now.list }
         ensures { (d : Backlog) → result ≡ spec.are_home (slice_index_or self.now.list index d).rows }
     {
-        self.lists[index].is_home()
+        self.lists.at(index).is_home()
     }
 
     /// Makes room for one more list. `AllocError` where a request for memory was refused. Either way all but the
@@ -223,20 +224,21 @@ impl Backlogs {
         requires { 0 < self.old.list_room }
         ensures { self.new ≡ record self.old { list = self.old.list ++ spec.empty limit ∷ []; list_room = self.old.list_room - 1 } }
     {
-        self.lists.push_reserved(Held::new(self.alloc, limit));
+        self.lists.push(Held::new(self.alloc, limit));
         self.outstanding.add_list();
     }
 
-    /// The list with that index goes with its rows, and each message that no other list holds with them. Takes no
-    /// memory.
+    /// The list with that index goes with its rows, and each message that no other list holds with them. No other is moved, but
+    /// for one call in so many that an eighth of the lists can go before the next one. Takes no memory.
     pub fn remove(&mut self, index: usize)
         requires { index < length self.old.list }
         ensures removed { self.new ≡ record self.old {
           list = remove self.old.list index;
           message_room = self.new.message_room;
-          list_room = self.old.list_room + 1;
+          list_room = self.new.list_room;
         } }
-        ensures room { self.old.message_room ≤ self.new.message_room }
+        ensures message_room { self.old.message_room ≤ self.new.message_room }
+        ensures list_room { self.old.list_room ≤ self.new.list_room }
     {
         let mut held = self.lists.remove(index);
         held.clear(&mut self.table);
@@ -253,7 +255,7 @@ impl Backlogs {
         ensures list_room { self.old.list_room ≤ self.new.list_room }
     {
         lists::close_each(&mut self.lists, &mut self.table, keys, which, attached);
-        self.outstanding.look_at(self.lists.as_slice());
+        self.outstanding.look_at(&self.lists);
     }
 
     /// Makes room for that many more messages, and for as many more rows in each list with one of those indexes.
@@ -375,7 +377,7 @@ impl Backlogs {
         copy_of(
             self.alloc,
             &self.table,
-            self.lists[index].next(now),
+            self.lists.at(index).next(now),
             settles,
         )
     }
@@ -437,7 +439,7 @@ impl Backlogs {
         ensures copy { (d : Backlog) → IfOk result (λ copy. copy ≡ spec.copy_wanted_where (matches selector.now) settles now self.now.list (slice_index_or self.now.list index d).rows) }
         ensures err { (d : Backlog) → OnErr result (is_some (spec.copy_wanted_where (matches selector.now) settles now self.now.list (slice_index_or self.now.list index d).rows) ≡ true) }
     {
-        let row = self.lists[index].next_where(&self.table, now, selector);
+        let row = self.lists.at(index).next_where(&self.table, now, selector);
         copy_of(self.alloc, &self.table, row, settles)
     }
 
@@ -524,7 +526,7 @@ impl Backlogs {
         ensures room { self.old.message_room ≤ self.new.message_room }
     {
         lists::settle_at(&mut self.lists, &mut self.table, index, which);
-        let is_home = self.lists[index].is_home();
+        let is_home = self.lists.at(index).is_home();
         self.outstanding.remove_where(index, is_home);
     }
 
@@ -537,7 +539,7 @@ impl Backlogs {
         ensures room { self.old.message_room ≤ self.new.message_room }
     {
         lists::give_back_at(&mut self.lists, index, which);
-        let is_home = self.lists[index].is_home();
+        let is_home = self.lists.at(index).is_home();
         self.outstanding.remove_where(index, is_home);
     }
 
@@ -546,7 +548,7 @@ impl Backlogs {
         requires { index < length self.now.list }
         ensures { (d : Backlog) → option_map standing.row_of result ≡ find (standing.is_at place) (slice_index_or self.now.list index d).rows }
     {
-        standing::row_of(&self.table, &self.lists[index], place)
+        standing::row_of(&self.table, self.lists.at(index), place)
     }
 
     /// The first row of the list with that index by place, from that place on.
@@ -555,7 +557,7 @@ impl Backlogs {
         requires place { place ≤ places_end }
         ensures { (d : Backlog) → option_map standing.row_of result ≡ find (standing.is_from place) (slice_index_or self.now.list index d).rows }
     {
-        standing::row_from(&self.table, &self.lists[index], place)
+        standing::row_from(&self.table, self.lists.at(index), place)
     }
 
     /// The first row of the list with that index by place, from that place on, that has lapsed at that moment.
@@ -563,7 +565,7 @@ impl Backlogs {
         requires { index < length self.now.list }
         ensures { (d : Backlog) → option_map standing.row_of result ≡ find (standing.lapsed_from place now) (slice_index_or self.now.list index d).rows }
     {
-        standing::lapsed_from(&self.table, &self.lists[index], place, now)
+        standing::lapsed_from(&self.table, self.lists.at(index), place, now)
     }
 
     /// The first row of the list with that index by place, from that place on, that is out through one of those consumers.
@@ -571,7 +573,7 @@ impl Backlogs {
         requires { index < length self.now.list }
         ensures { (d : Backlog) → option_map standing.row_of result ≡ find (standing.out_from place (are_meant which.now)) (slice_index_or self.now.list index d).rows }
     {
-        standing::out_from(&self.table, &self.lists[index], place, which)
+        standing::out_from(&self.table, self.lists.at(index), place, which)
     }
 
     /// The row of the list with that index that a delivery at that moment would take.
@@ -579,7 +581,7 @@ impl Backlogs {
         requires { index < length self.now.list }
         ensures { (d : Backlog) → option_map standing.row_of result ≡ spec.next_placed now (slice_index_or self.now.list index d).rows }
     {
-        standing::next(&self.table, &self.lists[index], now)
+        standing::next(&self.table, self.lists.at(index), now)
     }
 
     /// The row of the list with that index that a delivery at that moment would take of those whose messages the selector
@@ -588,7 +590,7 @@ impl Backlogs {
         requires { index < length self.now.list }
         ensures { (d : Backlog) → option_map standing.row_of result ≡ next_chosen (matches selector.now) now (slice_index_or self.now.list index d).rows }
     {
-        standing::next_where(&self.table, &self.lists[index], now, selector)
+        standing::next_where(&self.table, self.lists.at(index), now, selector)
     }
 
     /// How many rows of all lists stand at that place, each of them a holder of the message there.
@@ -602,7 +604,7 @@ impl Backlogs {
     pub fn holder_from(&self, index: usize, place: u64) -> Option<usize>
         ensures { standing.IsFirstOf (standing.holds place) index self.now.list result }
     {
-        standing::holder_from(self.lists.as_slice(), index, place)
+        standing::holder_from(&self.lists, index, place)
     }
 
     /// How many publications the list with that index missed at its limit.
@@ -610,6 +612,6 @@ impl Backlogs {
         requires { index < length self.now.list }
         ensures { (d : Backlog) → result ≡ (slice_index_or self.now.list index d).missed }
     {
-        self.lists[index].missed()
+        self.lists.at(index).missed()
     }
 }

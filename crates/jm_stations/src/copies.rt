@@ -6,6 +6,7 @@ ghost use Rattle.jm_pending.specs.Placed as placed;
 ghost use Rattle.jm_stations.specs.Kept as kept;
 
 use jm_dest::Key;
+use jm_gaps::GapList;
 use jm_indexed::KeySet;
 use jm_machine::{PlacedRow, Row as MachineRow};
 use jm_pending::{Held, Row, Table};
@@ -51,12 +52,14 @@ pub(crate) fn placed_rows(
 }
 
 /// Lists with the same rows, and no room.
-pub(crate) fn copy_lists(alloc: Global, lists: &[Held]) -> Result<Vec<Held>, AllocError>
-    ensures { IfOk result (λ copies. copies.items ≡ map kept.without_room lists.now) }
+pub(crate) fn copy_lists(alloc: Global, lists: &GapList<Held>) -> Result<GapList<Held>, AllocError>
+    ensures { IfOk result (λ copies. copies.items ≡ map kept.without_room lists.now.items) }
 {
-    let mut copies = Vec::with_capacity(alloc, lists.len())?;
-    for held in lists {
-        copies.push(held.copy()?)?;
+    let mut copies = GapList::new(alloc);
+    copies.reserve(lists.len())?;
+    for index in 0..lists.len() {
+        let copy = lists.at(index).copy()?;
+        copies.push(copy);
     }
     Ok(copies)
 }

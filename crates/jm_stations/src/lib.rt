@@ -45,6 +45,12 @@
 //! an index on under which one does; `key_at` the key of an index, `keys` all of them in order of creation.
 //!
 //! `settle_at` and `give_back_at` do what `settle` and `give_back` do under one key alone, and look at no other.
+//!
+//! # Costs
+//!
+//! A key is found by halves, and what is held under it by its index, by halves among those that went. `remove` moves what is held
+//! under no other key, but for one call in so many that an eighth of the keys can go before the next one; so it costs the same
+//! among few keys and among many, but that it looks at the index of each key under which rows may be out.
 #![tactic(auto)]
 
 mod backlogs;

@@ -1,6 +1,6 @@
 //! Many lists of rows over one table.
 
-ghost use Rattle.std.specs.Prelude.{◌≡◌, ◌≤◌, ◌<◌, ◌+◌, ◌-◌, ℕ, [], true, not, nat_eq, All, length, slice_index_or, map, option_map, OnOk, vec_capacity, vec_len};
+ghost use Rattle.std.specs.Prelude.{◌≡◌, ◌≤◌, ◌<◌, ℕ, [], true, not, nat_eq, All, length, slice_index_or, map, option_map, OnOk};
 ghost use Rattle.std.specs.List.{IsDistinct};
 ghost use Rattle.jm_dest.specs.Numbers.{long_end};
 ghost use Rattle.jm_dest.specs.declared.key.Key.TheVariants.{Queue};
@@ -16,6 +16,7 @@ ghost use Rattle.jm_stations.specs.Backlogs.{changed_at};
 ghost use Rattle.jm_stations.specs.Kept as kept;
 
 use jm_dest::{ConsumerId, Key, Moment, SessionId};
+use jm_gaps::GapList;
 use jm_indexed::KeySet;
 use jm_machine::{Attached, Consumers};
 use jm_pending::{Held, Row, Table, Taken};
@@ -23,7 +24,7 @@ use jm_selector::Selector;
 use std::alloc::AllocError;
 
 /// Adds a row to each of the lists with those indexes.
-pub(crate) fn offer_each(lists: &mut Vec<Held>, table: &mut Table, row: &Row, indexes: &[usize])
+pub(crate) fn offer_each(lists: &mut GapList<Held>, table: &mut Table, row: &Row, indexes: &[usize])
     requires place { row.now.place < long_end }
     requires priority { row.now.priority < 10 }
     requires within { All (λ i. i < length lists.old.items) indexes.now }
@@ -35,14 +36,14 @@ pub(crate) fn offer_each(lists: &mut Vec<Held>, table: &mut Table, row: &Row, in
     ensures table { kept.FollowsAll table.old table.new (kept.all_rows lists.old.items) (kept.all_rows lists.new.items) }
 {
     for index in indexes {
-        let held = &mut lists[*index];
+        let held = lists.at_mut(*index);
         held.add(table, Row { ..*row });
     }
 }
 
 /// Drops the expired rows of the list with that index, takes the next one, and settles it.
 pub(crate) fn take(
-    lists: &mut Vec<Held>,
+    lists: &mut GapList<Held>,
     table: &mut Table,
     index: usize,
     now: Moment,
@@ -54,14 +55,14 @@ pub(crate) fn take(
     ensures table { (d : Held) → Follows table.old table.new (slice_index_or lists.old.items index d).rows (kept.settled now (slice_index_or lists.old.items index d)).rows }
     ensures rising { (d : Held) → IsRising (slice_index_or lists.old.items index d).rows }
 {
-    let held = &mut lists[index];
+    let held = lists.at_mut(index);
     held.take_settled(table, now)
 }
 
 /// Drops the expired waiting rows of the list with that index, and sends the next one to the session through its
 /// consumer.
 pub(crate) fn send(
-    lists: &mut Vec<Held>,
+    lists: &mut GapList<Held>,
     table: &mut Table,
     index: usize,
     now: Moment,
@@ -75,14 +76,14 @@ pub(crate) fn send(
     ensures table { (d : Held) → Follows table.old table.new (slice_index_or lists.old.items index d).rows (kept.sent_off session consumer now (slice_index_or lists.old.items index d)).rows }
     ensures rising { (d : Held) → IsRising (slice_index_or lists.old.items index d).rows }
 {
-    let held = &mut lists[index];
+    let held = lists.at_mut(index);
     held.take(table, now, session, consumer)
 }
 
 /// Drops the expired waiting rows of the list with that index, takes the next one of those whose messages the selector
 /// selects, and settles it.
 pub(crate) fn take_where(
-    lists: &mut Vec<Held>,
+    lists: &mut GapList<Held>,
     table: &mut Table,
     index: usize,
     now: Moment,
@@ -95,14 +96,14 @@ pub(crate) fn take_where(
     ensures table { (d : Held) → Follows table.old table.new (slice_index_or lists.old.items index d).rows (kept.settled_where (matches selector.now) table.old now (slice_index_or lists.old.items index d)).rows }
     ensures rising { (d : Held) → IsRising (slice_index_or lists.old.items index d).rows }
 {
-    let held = &mut lists[index];
+    let held = lists.at_mut(index);
     held.take_settled_where(table, now, selector)
 }
 
 /// Drops the expired waiting rows of the list with that index, and sends the next one of those whose messages the
 /// selector selects to the session through its consumer.
 pub(crate) fn send_where(
-    lists: &mut Vec<Held>,
+    lists: &mut GapList<Held>,
     table: &mut Table,
     index: usize,
     now: Moment,
@@ -117,27 +118,32 @@ pub(crate) fn send_where(
     ensures table { (d : Held) → Follows table.old table.new (slice_index_or lists.old.items index d).rows (kept.sent_off_where (matches selector.now) table.old session consumer now (slice_index_or lists.old.items index d)).rows }
     ensures rising { (d : Held) → IsRising (slice_index_or lists.old.items index d).rows }
 {
-    let held = &mut lists[index];
+    let held = lists.at_mut(index);
     held.take_where(table, now, selector, session, consumer)
 }
 
 /// The rows of the list with that index that are out through one of those consumers go.
-pub(crate) fn settle_at(lists: &mut Vec<Held>, table: &mut Table, index: usize, which: &Consumers)
+pub(crate) fn settle_at(
+    lists: &mut GapList<Held>,
+    table: &mut Table,
+    index: usize,
+    which: &Consumers,
+)
     requires within { index < length lists.old.items }
     requires covers { (d : Held) → Covers table.old (slice_index_or lists.old.items index d).rows }
     ensures lists { lists.new.items ≡ changed_at index (kept.settled_out (are_meant which.now)) lists.old.items }
     ensures table { (d : Held) → Follows table.old table.new (slice_index_or lists.old.items index d).rows (kept.settled_out (are_meant which.now) (slice_index_or lists.old.items index d)).rows }
 {
-    let held = &mut lists[index];
+    let held = lists.at_mut(index);
     held.settle(table, which);
 }
 
 /// The rows of the list with that index that are out through one of those consumers wait again.
-pub(crate) fn give_back_at(lists: &mut Vec<Held>, index: usize, which: &Consumers)
+pub(crate) fn give_back_at(lists: &mut GapList<Held>, index: usize, which: &Consumers)
     requires { index < length lists.old.items }
     ensures { lists.new.items ≡ changed_at index (kept.given_back (are_meant which.now)) lists.old.items }
 {
-    let held = &mut lists[index];
+    let held = lists.at_mut(index);
     held.give_back(which);
 }
 
@@ -154,7 +160,7 @@ fn clear_where(held: &mut Held, table: &mut Table, ends: bool)
 
 /// All rows go of the lists whose keys end with those consumers.
 fn clear_each(
-    lists: &mut Vec<Held>,
+    lists: &mut GapList<Held>,
     table: &mut Table,
     keys: &KeySet<Key>,
     which: &Consumers,
@@ -165,11 +171,11 @@ fn clear_each(
     ensures lists { lists.new.items ≡ kept.cleared_under (ended which.now attached.now) keys.now.keys lists.old.items }
     ensures counted { IsCounted table.new (kept.all_rows lists.new.items) }
     ensures messages { KeepsMessages table.old table.new }
-    ensures capacity { vec_capacity lists.new ≡ vec_capacity lists.old }
+    ensures spare { lists.new.spare ≡ lists.old.spare }
 {
     for index in 0..lists.len() {
         let ends = attached.ends(which, keys.key_at(index));
-        let held = &mut lists[index];
+        let held = lists.at_mut(index);
         clear_where(held, table, ends);
     }
 }
@@ -182,27 +188,25 @@ fn stays(keys: &KeySet<Key>, index: usize, which: &Consumers, attached: &Attache
     !attached.ends(which, keys.key_at(index))
 }
 
-/// The lists whose keys do not end with those consumers are brought together, in their order, in one pass. Where no key
-/// ends no list is moved.
-fn keep_each(lists: &mut Vec<Held>, keys: &KeySet<Key>, which: &Consumers, attached: &Attached)
+/// The lists whose keys end with those consumers go, the first of them first. Where no key ends no list is moved.
+fn keep_each(lists: &mut GapList<Held>, keys: &KeySet<Key>, which: &Consumers, attached: &Attached)
+    requires { length keys.now.keys ≡ length lists.old.items }
     ensures lists { lists.new.items ≡ kept.lists_under (λ k. not (ended which.now attached.now k)) keys.now.keys lists.old.items }
-    ensures len { vec_len lists.new ≤ vec_len lists.old }
-    ensures capacity { vec_capacity lists.new ≡ vec_capacity lists.old }
+    ensures spare { lists.old.spare ≤ lists.new.spare }
 {
-    let mut index = 0;
-    lists.retain(|_| {
-        if index >= keys.len() {
-            return false;
+    let mut at = 0;
+    for index in 0..keys.len() {
+        if stays(keys, index, which, attached) {
+            at += 1;
+        } else {
+            let _gone = lists.remove(at);
         }
-        let stays = stays(keys, index, which, attached);
-        index += 1;
-        stays
-    });
+    }
 }
 
 /// The lists whose keys end with those consumers go with their rows.
 pub(crate) fn close_each(
-    lists: &mut Vec<Held>,
+    lists: &mut GapList<Held>,
     table: &mut Table,
     keys: &KeySet<Key>,
     which: &Consumers,
@@ -213,8 +217,8 @@ pub(crate) fn close_each(
     ensures lists { lists.new.items ≡ kept.lists_under (λ k. not (ended which.now attached.now k)) keys.now.keys lists.old.items }
     ensures counted { IsCounted table.new (kept.all_rows lists.new.items) }
     ensures messages { KeepsMessages table.old table.new }
-    ensures len { vec_len lists.new ≤ vec_len lists.old }
-    ensures room { vec_capacity lists.old - vec_len lists.old ≤ vec_capacity lists.new - vec_len lists.new }
+    ensures fewer { length lists.new.items ≤ length lists.old.items }
+    ensures spare { lists.old.spare ≤ lists.new.spare }
 {
     clear_each(lists, table, keys, which, attached);
     keep_each(lists, keys, which, attached);
@@ -222,7 +226,7 @@ pub(crate) fn close_each(
 
 /// Makes room for that many more rows in each of the lists with those indexes.
 pub(crate) fn reserve_each(
-    lists: &mut Vec<Held>,
+    lists: &mut GapList<Held>,
     indexes: &[usize],
     additional: usize,
 ) -> Result<(), AllocError>
@@ -231,7 +235,7 @@ pub(crate) fn reserve_each(
     ensures ok { OnOk result (All (λ i. (d : Held) → additional ≤ (slice_index_or lists.new.items i d).room) indexes.now) }
 {
     for index in indexes {
-        let held = &mut lists[*index];
+        let held = lists.at_mut(*index);
         held.reserve(additional)?;
     }
     Ok(())

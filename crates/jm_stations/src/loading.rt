@@ -8,6 +8,7 @@ ghost use Rattle.jm_pending.specs.Rows.{Held};
 ghost use Rattle.jm_stations.specs.Kept as kept;
 ghost use Rattle.jm_stations.specs.Loading.{AreOffered};
 
+use jm_gaps::GapList;
 use jm_pending::{Held, Row, Table};
 
 /// A row that was stored: the index of the key under which it stands, and how often it was delivered.
@@ -20,7 +21,12 @@ pub struct StoredRow {
 }
 
 /// Adds the message's row to the list of each of those indexes, with the count that was stored there.
-pub(crate) fn offer_stored(lists: &mut Vec<Held>, table: &mut Table, row: &Row, rows: &[StoredRow])
+pub(crate) fn offer_stored(
+    lists: &mut GapList<Held>,
+    table: &mut Table,
+    row: &Row,
+    rows: &[StoredRow],
+)
     requires place { row.now.place < long_end }
     requires priority { row.now.priority < 10 }
     requires within { All (λ (r : StoredRow). r.index < length lists.old.items) rows.now }
@@ -32,7 +38,7 @@ pub(crate) fn offer_stored(lists: &mut Vec<Held>, table: &mut Table, row: &Row, 
     ensures table { kept.FollowsAll table.old table.new (kept.all_rows lists.old.items) (kept.all_rows lists.new.items) }
 {
     for stored in rows {
-        let held = &mut lists[stored.index];
+        let held = lists.at_mut(stored.index);
         held.add(
             table,
             Row {

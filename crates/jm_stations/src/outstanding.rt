@@ -11,6 +11,7 @@ ghost use Rattle.jm_stations.specs.Kept as kept;
 ghost use Rattle.jm_stations.specs.Outstanding as spec;
 ghost use Rattle.jm_stations.specs.Outstanding.{AreHomeBut, AreRising};
 
+use jm_gaps::GapList;
 use jm_machine::{Consumers, RowState};
 use jm_pending::{Held, Table};
 use std::alloc::{AllocError, Global};
@@ -98,7 +99,7 @@ fn keep(indexes: &mut Vec<usize>, stay: usize, index: usize, goes: bool) -> usiz
 /// whose lists may have rows out.
 fn settle_each(
     indexes: &mut Vec<usize>,
-    lists: &mut Vec<Held>,
+    lists: &mut GapList<Held>,
     table: &mut Table,
     which: &Consumers,
 )
@@ -115,7 +116,7 @@ fn settle_each(
     let mut stay = 0;
     for at in 0..indexes.len() {
         let index = indexes[at];
-        let held = &mut lists[index];
+        let held = lists.at_mut(index);
         let goes = settle(held, table, which);
         stay = keep(indexes, stay, index, goes);
     }
@@ -124,7 +125,7 @@ fn settle_each(
 
 /// The rows that are out through one of those consumers wait again, of the lists with those indexes; of the indexes those
 /// stay whose lists may have rows out.
-fn give_back_each(indexes: &mut Vec<usize>, lists: &mut Vec<Held>, which: &Consumers)
+fn give_back_each(indexes: &mut Vec<usize>, lists: &mut GapList<Held>, which: &Consumers)
     requires rising { AreRising 0 (length lists.old.items) indexes.old.items }
     requires others { AreHomeBut indexes.old.items lists.old.items }
     ensures lists { lists.new.items ≡ map (kept.given_back (are_meant which.now)) lists.old.items }
@@ -135,7 +136,7 @@ fn give_back_each(indexes: &mut Vec<usize>, lists: &mut Vec<Held>, which: &Consu
     let mut stay = 0;
     for at in 0..indexes.len() {
         let index = indexes[at];
-        let held = &mut lists[index];
+        let held = lists.at_mut(index);
         let goes = give_back(held, which);
         stay = keep(indexes, stay, index, goes);
     }
@@ -155,15 +156,15 @@ fn add_out(indexes: &mut Vec<usize>, index: usize, held: &Held)
 }
 
 /// Adds the indexes of the lists that have rows out.
-fn add_each_out(indexes: &mut Vec<usize>, lists: &[Held])
+fn add_each_out(indexes: &mut Vec<usize>, lists: &GapList<Held>)
     requires none { indexes.old.items ≡ [] }
-    requires room { length lists.now ≤ vec_capacity indexes.old }
-    ensures rising { AreRising 0 (length lists.now) indexes.new.items }
-    ensures others { AreHomeBut indexes.new.items lists.now }
+    requires room { length lists.now.items ≤ vec_capacity indexes.old }
+    ensures rising { AreRising 0 (length lists.now.items) indexes.new.items }
+    ensures others { AreHomeBut indexes.new.items lists.now.items }
     ensures capacity { vec_capacity indexes.new ≡ vec_capacity indexes.old }
 {
     for index in 0..lists.len() {
-        add_out(indexes, index, &lists[index]);
+        add_out(indexes, index, lists.at(index));
     }
 }
 
@@ -311,10 +312,10 @@ impl Outstanding {
     }
 
     /// The lists are those, of which there are no more than before. Goes over all. Takes no memory.
-    pub(crate) fn look_at(&mut self, lists: &[Held])
-        requires { length lists.now ≤ self.old.number }
-        ensures others { AreHomeBut self.new.indexes lists.now }
-        ensures number { self.new.number ≡ length lists.now }
+    pub(crate) fn look_at(&mut self, lists: &GapList<Held>)
+        requires { length lists.now.items ≤ self.old.number }
+        ensures others { AreHomeBut self.new.indexes lists.now.items }
+        ensures number { self.new.number ≡ length lists.now.items }
         ensures room { self.old.room ≤ self.new.room }
     {
         self.indexes.clear();
@@ -324,7 +325,7 @@ impl Outstanding {
 
     /// The rows of these lists that are out through one of those consumers go. Looks at no list but those that may have rows
     /// out. Takes no memory.
-    pub(crate) fn settle(&mut self, lists: &mut Vec<Held>, table: &mut Table, which: &Consumers)
+    pub(crate) fn settle(&mut self, lists: &mut GapList<Held>, table: &mut Table, which: &Consumers)
         requires number { self.old.number ≡ length lists.old.items }
         requires others { AreHomeBut self.old.indexes lists.old.items }
         requires counted { IsCounted table.old (kept.all_rows lists.old.items) }
@@ -340,7 +341,7 @@ impl Outstanding {
 
     /// The rows of these lists that are out through one of those consumers wait again. Looks at no list but those that may
     /// have rows out. Takes no memory.
-    pub(crate) fn give_back(&mut self, lists: &mut Vec<Held>, which: &Consumers)
+    pub(crate) fn give_back(&mut self, lists: &mut GapList<Held>, which: &Consumers)
         requires number { self.old.number ≡ length lists.old.items }
         requires others { AreHomeBut self.old.indexes lists.old.items }
         ensures lists { lists.new.items ≡ map (kept.given_back (are_meant which.now)) lists.old.items }

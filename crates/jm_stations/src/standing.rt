@@ -11,6 +11,7 @@ ghost use Rattle.jm_stations.specs.Backlogs.{next_placed};
 ghost use Rattle.jm_stations.specs.Standing as spec;
 
 use jm_dest::Moment;
+use jm_gaps::GapList;
 use jm_header::Message;
 use jm_machine::{Consumers, RowState};
 use jm_pending::{Held, Row, Table};
@@ -114,11 +115,11 @@ pub(crate) fn next_where<'a>(
 }
 
 /// The first index from that one on of a list in which a row stands at that place.
-pub(crate) fn holder_from(lists: &[Held], index: usize, place: u64) -> Option<usize>
-    ensures { spec.IsFirstOf (spec.has_row place) index lists.now result }
+pub(crate) fn holder_from(lists: &GapList<Held>, index: usize, place: u64) -> Option<usize>
+    ensures { spec.IsFirstOf (spec.has_row place) index lists.now.items result }
 {
     for i in index..lists.len() {
-        if lists[i].row_of(place).is_some() {
+        if lists.at(i).row_of(place).is_some() {
             return Some(i);
         }
     }

@@ -3,10 +3,10 @@
 ghost use Rattle.std.specs.Prelude.{◌≡◌, ◌≤◌, ◌<◌, ◌+◌, ◌^◌, ◌++◌, [], ◌∷◌, true, false, not, nat_eq, is_some, All, filter, length, map, slice_index_or, Some, None, IfSome, IfOk, OnOk, OnErr};
 ghost use Rattle.std.specs.List.{IsDistinct, remove};
 ghost use Rattle.jm_dest.specs.declared.key.Key.{Key};
-ghost use Rattle.jm_dest.specs.declared.key.Key.TheVariants.{Own};
 ghost use Rattle.jm_dest.specs.Keys.{key_eq};
 ghost use Rattle.jm_machine.specs.Attached.{ended};
 ghost use Rattle.jm_machine.specs.Machine.{are_meant, places_end};
+ghost use Rattle.jm_machine.specs.Sections.{is_own_of};
 ghost use Rattle.jm_selector.specs.Selectors.{matches};
 ghost use Rattle.jm_stations.specs.Backlogs as spec;
 ghost use Rattle.jm_stations.specs.Backlogs.{Backlog};
@@ -32,7 +32,7 @@ use std::marker::Model;
 /// What is held under each key, in order of creation, each found by its key (ours): rows by place, with the
 /// messages that they hold, of which each stands once. Contracts see the keys, what is held under each, the place
 /// of the next publication, and for how many more messages and keys there is room. Where `shares` is false, no key is of
-/// a shared subscription that is not durable, and a close of one consumer ends its own subscription alone.
+/// a shared subscription that is not durable, and a close ends the consumers' own subscriptions alone.
 pub struct Stations {
     alloc: Global,
     keys: KeySet<Key>,
@@ -266,9 +266,10 @@ impl Stations {
     }
 
     /// The keys of the subscriptions that end once those consumers are closed, as `Attached::ends` has it, go with the rows
-    /// under them, and each message that no other row holds with them; the others move up, in their order. Goes over all
-    /// keys, each time once; but where one consumer is closed, and no key is of a shared subscription that is not durable,
-    /// the key of its own is found by halves. Takes no memory.
+    /// under them, and each message that no other row holds with them; the others move up, in their order. Where no key is
+    /// of a shared subscription that is not durable, the keys of the consumers' own subscriptions, which stand together in
+    /// the order of the keys, are found by halves, each goes as by `remove`, and what is held under another key is not
+    /// looked at; else goes over all keys, each time once. Takes no memory.
     pub fn close(&mut self, which: &Consumers, attached: &Attached)
         ensures keys { self.new.keys ≡ filter (λ k. not (ended which.now attached.now k)) self.old.keys }
         ensures list { self.new.list ≡ spec.kept_under (λ k. not (ended which.now attached.now k)) self.old.keys self.old.list }
@@ -276,11 +277,9 @@ impl Stations {
         ensures message_room { self.old.message_room ≤ self.new.message_room }
         ensures key_room { self.old.key_room ≤ self.new.key_room }
     {
-        if let Consumers::One(session, id) = which {
-            if !self.may_share() {
-                self.close_own(*session, *id);
-                return;
-            }
+        if !self.may_share() {
+            self.close_own(which);
+            return;
         }
         self.close_each(which, attached);
     }
@@ -292,16 +291,16 @@ impl Stations {
         self.shares
     }
 
-    /// The key of the consumer's own subscription goes, where there is one, with the rows under it.
-    fn close_own(&mut self, session: SessionId, id: ConsumerId)
-        ensures keys { self.new.keys ≡ filter (λ k. not (key_eq (Own session id) k)) self.old.keys }
-        ensures list { self.new.list ≡ spec.kept_under (λ k. not (key_eq (Own session id) k)) self.old.keys self.old.list }
+    /// The keys of the own subscriptions of these consumers go, one after the other, with the rows under them.
+    fn close_own(&mut self, which: &Consumers)
+        ensures keys { self.new.keys ≡ filter (λ k. not (is_own_of which.now k)) self.old.keys }
+        ensures list { self.new.list ≡ spec.kept_under (λ k. not (is_own_of which.now k)) self.old.keys self.old.list }
         ensures next_place { self.new.next_place ≡ self.old.next_place }
         ensures message_room { self.old.message_room ≤ self.new.message_room }
         ensures key_room { self.old.key_room ≤ self.new.key_room }
     {
-        let _ = &self.alloc;
-        if let Some(index) = self.index_of(&Key::Own(session, id)) {
+        let mut guess = 0;
+        while let Some(index) = self.keys.index_in(which, &mut guess) {
             self.remove(index);
         }
     }

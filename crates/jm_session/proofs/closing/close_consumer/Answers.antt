@@ -1,28 +1,22 @@
-use Rattle.std.proofs.Common.{◌∙◌, sym, refl, false, ap}
-use Rattle.jm_machine.specs.declared.state.Consumer.{Consumer}
-use Rattle.jm_session.specs.Numbers.{number_of}
-use Rattle.jm_session.proofs.Found.{number_eq, number_sym}
-use Rattle.jm_session.proofs.Changed.{changed_found, changed_nowhere, number_same}
-use Rattle.jm_session.proofs.Counted.{counted_set, ended_less}
-use Rattle.jm_session.proofs.Walked.{positions_closed}
+use Rattle.std.proofs.Common.{◌∙◌, ap, sym}
+use Rattle.std.proofs.lemmas.List.Quantifiers.{position-Some}
+use Rattle.indexmap.specs.IndexMap.{values}
+use Rattle.jm_session.specs.declared.number.ConsumerNumber.{ConsumerNumber}
+use Rattle.jm_session.proofs.Changed.{number_same}
+use Rattle.jm_session.proofs.Closed.{active_numbers, number_gone, number_nowhere}
+use Rattle.jm_session.proofs.Found.{number_eq}
 use Rattle.jm_session.proofs.closing.close_consumer.Goals as goal
 
-pub returns-in-Some-clause-entries : goal.returns-in-Some-clause-entries
-returns-in-Some-clause-entries c = rw c.close.ensures.consumer (λ h.
-    changed_found number_eq number_sym number_same number_of (λ (x : Consumer). record x { is_active = false }) (λ x. refl) c.args.number c.index_mut.result.now c.args.consumers.now.entries c.in-Some.at
-    c.index_mut.ensures.value h c.get_index_of.ensures.unique (sym c.get_index_of.ensures.index ∙ c.in-Some.is))
+pub returns-in-Some-clause-active : goal.returns-in-Some-clause-active
+returns-in-Some-clause-active c =
+    let number = c.args.number in
+    let keys = c.args.active.now.keys in
+    let found = position-Some (λ (y : ConsumerNumber). number_eq y number) keys c.in-Some.index number (sym c.index_of.ensures.index ∙ c.in-Some.is) in
+    c.remove.ensures.keys
+    ∙ number_gone number (values c.args.consumers.now) keys c.in-Some.index c.requires.active c.len-length.ensures.once found.0 (number_same _ number found.1)
+    ∙ ap active_numbers (sym c.mark_closed.ensures.values)
 
-pub returns-in-Some-clause-counted : goal.returns-in-Some-clause-counted
-returns-in-Some-clause-counted c =
-    counted_set c.args.consumers.now.entries c.in-Some.at c.index_mut.result.now c.close.new.consumer c.args.attached.now c.close.new.attached c.index_mut.ensures.value
-    (λ key. rw c.close.ensures.consumer (ended_less c.index_mut.result.now key)) c.close.ensures.counted c.requires.counted
-
-pub returns-in-Some-clause-positions : goal.returns-in-Some-clause-positions
-returns-in-Some-clause-positions c =
-    positions_closed (λ (x : Consumer). x.is_active) c.args.consumers.now.entries c.in-Some.at c.index_mut.result.now c.close.new.consumer c.args.active.now c.swap_remove.new.self c.index_mut.ensures.value (ap (λ (x : Consumer). x.is_active) c.close.ensures.consumer) c.requires.positions c.swap_remove.ensures.updates
-
-pub returns-in_default-clause-entries : goal.returns-in_default-clause-entries
-returns-in_default-clause-entries c = λ h. (
-  changed_nowhere number_eq number_sym number_same number_of (λ (x : Consumer). record x { is_active = false }) (λ x. refl) c.args.number c.args.consumers.now.entries h (sym c.get_index_of.ensures.index ∙ c.in_default.is),
-  h,
-)
+pub returns-in_default-clause-active : goal.returns-in_default-clause-active
+returns-in_default-clause-active c =
+    number_nowhere c.args.number (values c.args.consumers.now) c.args.active.now.keys c.requires.active (sym c.index_of.ensures.index ∙ c.in_default.is)
+    ∙ ap active_numbers (sym c.mark_closed.ensures.values)

@@ -1,55 +1,37 @@
-use Rattle.std.proofs.Common.{◌≡◌, ◌∙◌, false, true, sym, ap, cond, refl, Some, arith}
-use Rattle.std.specs.Prelude.{◌==◌, nat_eq}
-use Rattle.indexmap.specs.IndexSet.{Updates}
-use Rattle.jm_machine.specs.declared.state.SessionState.{SessionState}
+use Rattle.std.proofs.Common.{◌∙◌, ap, arith, length, sym}
+use Rattle.std.specs.Prelude.{◌==◌, map}
+use Rattle.std.specs.Ordering.{nat_cmp}
+use Rattle.std.proofs.lemmas.List.Edits.{length-remove}
+use Rattle.indexmap.specs.IndexMap.{values}
+use Rattle.jm_dest.specs.declared.session.SessionId.{SessionId}
+use Rattle.jm_dest.specs.Names.{session_eq}
 use Rattle.jm_machine.specs.Life.{closed_where}
-use Rattle.jm_session.proofs.Changed.{session_stays}
-use Rattle.jm_session.proofs.Walked.{all_walked, begun_walk, closed_walk, held, listed_at, passed_walk, positions_closed}
+use Rattle.jm_session.proofs.Closed.{ended_first, open_sessions, session_gone, sessions_left}
+use Rattle.jm_session.proofs.Opened.{map_twice}
 use Rattle.jm_session.proofs.closing.close_sessions.Goals as goal
 
-pub loop-passed-init : goal.loop-passed-init
-loop-passed-init c = record {
-  walked = begun_walk (λ (x : SessionState). x.is_open) (closed_where (λ s. s.connection == c.args.connection)) (session_stays (λ s. s.connection == c.args.connection)) c.args.sessions.now.entries c.args.opened.now c.requires;
-  positions = c.requires;
-  room = omega arith;
-  positions_room = omega arith;
-}
-
-pub index-requires : goal.index-requires
-index-requires c = listed_at (λ (x : SessionState). x.is_open) c.loop-passed.sessions.entries c.loop-passed.opened c.loop-passed.passed c.index-at.result.now c.index-at.ensures c.loop-passed.invariant.positions
-
-pub index_mut-requires : goal.index_mut-requires
-index_mut-requires c = listed_at (λ (x : SessionState). x.is_open) c.loop-passed.sessions.entries c.loop-passed.opened c.loop-passed.passed c.index-at.result.now c.index-at.ensures c.loop-passed.invariant.positions
-
-pub loop-passed-preserved-then-eq : goal.loop-passed-preserved-then-eq
-loop-passed-preserved-then-eq c =
-    let both : Some c.index.result.now ≡ Some c.index_mut.result.now = sym c.index.ensures ∙ c.index_mut.ensures.value in
-    let same : c.index.result.now ≡ c.index_mut.result.now = cc in
-    let meant : (c.index_mut.result.now.id.connection == c.args.connection) ≡ true = sym (ap (λ (x : SessionState). x.id.connection == c.args.connection) same) ∙ sym c.eq.ensures ∙ c.if-eq.true in
-    let shut : closed_where (λ s. s.connection == c.args.connection) c.index_mut.result.now ≡ record c.index_mut.result.now { is_open = false } = ap (λ b. cond b (record c.index_mut.result.now { is_open = false }) c.index_mut.result.now) meant in
-    let key = c.swap_remove_index.ensures.key ∙ c.index-at.ensures in
-    let updates : Updates nat_eq c.loop-passed.opened c.swap_remove_index.new.self c.index-at.result.now false = held c.swap_remove_index.result c.index-at.result.now _ key c.swap_remove_index.ensures.updates in
+pub loop-index-preserved : goal.loop-index-preserved
+loop-index-preserved c =
+    let id : SessionId = c.key_at.result.now in
+    let place = ap (λ (s : SessionId). nat_cmp s.connection c.args.connection) (c.key_at.ensures id) ∙ c.in-Some.ensures.found id in
     record {
-      walked = rw (sym shut) (closed_walk (λ (x : SessionState). x.is_open) (closed_where (λ s. s.connection == c.args.connection)) (session_stays (λ s. s.connection == c.args.connection)) c.args.sessions.now.entries c.loop-passed.sessions.entries c.loop-passed.opened c.swap_remove_index.new.self c.loop-passed.passed c.index-at.result.now c.index_mut.result.now
-          c.loop-passed.invariant.walked c.index-at.ensures c.index_mut.ensures.value (held c.swap_remove_index.result c.index-at.result.now _ key c.swap_remove_index.ensures.keys) updates);
-      positions = positions_closed (λ (x : SessionState). x.is_open) c.loop-passed.sessions.entries c.index-at.result.now c.index_mut.result.now (record c.index_mut.result.now { is_open = false }) c.loop-passed.opened c.swap_remove_index.new.self c.index_mut.ensures.value refl c.loop-passed.invariant.positions updates;
-      room = c.loop-passed.invariant.room;
-      positions_room = omega arith;
+      closing =
+          ap (map (closed_where (λ s. s.connection == c.args.connection))) c.mark_session_closed.ensures.values
+          ∙ map_twice (closed_where (λ s. s.connection == c.args.connection)) (closed_where (λ t. session_eq t id)) (ended_first c.args.connection id place) (values c.loop-index.sessions)
+          ∙ c.loop-index.invariant.closing;
+      numbered = c.mark_session_closed.ensures.numbered;
+      opened =
+          c.remove.ensures.keys
+          ∙ session_gone id (values c.loop-index.sessions) c.loop-index.opened.keys c.in-Some.index c.loop-index.invariant.opened c.len-length.ensures.once c.in-Some.ensures.within (sym (c.key_at.ensures id))
+          ∙ ap open_sessions (sym c.mark_session_closed.ensures.values);
+      room = omega arith;
+      opened_room = omega arith;
     }
 
-pub loop-passed-preserved : goal.loop-passed-preserved
-loop-passed-preserved c =
-    let kept : (c.index.result.now.id.connection == c.args.connection) ≡ false = sym c.eq.ensures ∙ c.if-eq.false in
-    let stays : closed_where (λ s. s.connection == c.args.connection) c.index.result.now ≡ c.index.result.now = ap (λ b. cond b (record c.index.result.now { is_open = false }) c.index.result.now) kept in
-    record {
-      walked = passed_walk (λ (x : SessionState). x.is_open) (closed_where (λ s. s.connection == c.args.connection)) (session_stays (λ s. s.connection == c.args.connection)) c.args.sessions.now.entries c.loop-passed.sessions.entries c.loop-passed.opened c.loop-passed.passed c.index-at.result.now c.index.result.now
-          c.loop-passed.invariant.walked c.index-at.ensures c.index.ensures stays;
-      positions = c.loop-passed.invariant.positions;
-      room = c.loop-passed.invariant.room;
-      positions_room = c.loop-passed.invariant.positions_room;
-    }
+pub loop-index-smaller : goal.loop-index-smaller
+loop-index-smaller c = omega (arith, ap length c.remove.ensures.keys, length-remove c.loop-index.opened.keys c.in-Some.index c.in-Some.ensures.within)
 
-pub returns-clause-entries : goal.returns-clause-entries
-returns-clause-entries c =
-    all_walked (λ (x : SessionState). x.is_open) (closed_where (λ s. s.connection == c.args.connection)) (session_stays (λ s. s.connection == c.args.connection)) c.args.sessions.now.entries c.loop-passed.sessions.entries c.loop-passed.opened c.loop-passed.passed
-    c.loop-passed.invariant.walked (omega (arith, c.len.ensures.len))
+pub returns-clause-values : goal.returns-clause-values
+returns-clause-values c =
+    sym (sessions_left c.args.connection (values c.loop-index.sessions) c.loop-index.opened.keys c.loop-index.invariant.opened c.in_default.ensures.none)
+    ∙ c.loop-index.invariant.closing

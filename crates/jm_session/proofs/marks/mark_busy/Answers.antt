@@ -4,7 +4,7 @@ use Rattle.jm_session.specs.Numbers.{number_of}
 use Rattle.jm_session.proofs.Found.{number_eq, number_sym}
 use Rattle.jm_session.proofs.Changed.{changed_found, changed_nowhere, number_same}
 use Rattle.jm_session.proofs.Counted.{counted_marked}
-use Rattle.jm_session.proofs.Walked.{positions_kept}
+use Rattle.jm_session.proofs.Opened.{numbers_kept}
 use Rattle.jm_session.proofs.marks.mark_busy.Goals as goal
 
 pub returns-in-Some-clause-entries : goal.returns-in-Some-clause-entries
@@ -16,9 +16,9 @@ pub returns-in-Some-clause-counted : goal.returns-in-Some-clause-counted
 returns-in-Some-clause-counted c = λ counts h.
     counted_marked c.args.consumers.now.entries c.in-Some.at c.index_mut.result.now (record c.index_mut.result.now { is_busy = c.args.on }) counts c.index_mut.ensures.value (λ key. refl) h
 
-pub returns-in-Some-clause-positions : goal.returns-in-Some-clause-positions
-returns-in-Some-clause-positions c = λ positions h.
-    positions_kept (λ (x : Consumer). x.is_active) c.args.consumers.now.entries c.in-Some.at c.index_mut.result.now (record c.index_mut.result.now { is_busy = c.args.on }) positions c.index_mut.ensures.value refl h
+pub returns-in-Some-clause-active : goal.returns-in-Some-clause-active
+returns-in-Some-clause-active c = λ active h.
+    h ∙ sym (numbers_kept number_of (λ (x : Consumer). x.is_active) c.args.consumers.now.entries c.in-Some.at c.index_mut.result.now (record c.index_mut.result.now { is_busy = c.args.on }) c.index_mut.ensures.value refl refl)
 
 pub returns-in_default-clause-entries : goal.returns-in_default-clause-entries
 returns-in_default-clause-entries c = λ h. (

@@ -1,5 +1,4 @@
 use Rattle.std.proofs.Common.{◌≡◌, length, take}
-use Rattle.std.specs.Vec.{vec_capacity}
 use Rattle.jm_machine.specs.Attached.{ended}
 use Rattle.jm_pending.specs.Counts.{IsCounted}
 use Rattle.jm_lane.specs.Holders.{KeepsMessages}
@@ -12,5 +11,5 @@ invariant-loop-index l = record {
   lists : l.lists.items ≡ cleared_under (ended l.which l.attached) (take l.index l.keys.keys) l.initial.lists.items;
   counted : IsCounted l.table (all_rows l.lists.items);
   messages : KeepsMessages l.initial.table l.table;
-  capacity : vec_capacity l.lists ≡ vec_capacity l.initial.lists;
+  spare : l.lists.spare ≡ l.initial.lists.spare;
 }

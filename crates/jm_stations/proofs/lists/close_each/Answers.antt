@@ -1,6 +1,6 @@
-use Rattle.std.proofs.Common.{◌≡◌, ◌∙◌, length, ap, arith}
+use Rattle.std.proofs.Common.{length, ap, arith, not}
 use Rattle.jm_machine.specs.Attached.{ended}
-use Rattle.jm_stations.proofs.Closing.{left_cleared, left_counted, length-cleared}
+use Rattle.jm_stations.proofs.Closing.{left_cleared, left_counted, left_fewer, length-cleared}
 use Rattle.jm_stations.proofs.lists.close_each.Goals as goal
 
 pub returns-clause-lists : goal.returns-clause-lists
@@ -11,12 +11,14 @@ pub returns-clause-counted : goal.returns-clause-counted
 returns-clause-counted c =
     left_counted c.clear_each.new.table (ended c.args.which.now c.args.attached.now) c.args.keys.now.keys c.args.lists.now.items c.clear_each.new.lists.items c.keep_each.new.lists.items c.requires.number c.clear_each.ensures.lists c.keep_each.ensures.lists c.clear_each.ensures.counted
 
-pub returns-clause-room : goal.returns-clause-room
-returns-clause-room c =
-    let number : length c.clear_each.new.lists.items ≡ length c.args.lists.now.items = ap length c.clear_each.ensures.lists ∙ length-cleared (ended c.args.which.now c.args.attached.now) c.args.keys.now.keys c.args.lists.now.items in
-    omega (arith, number, c.clear_each.new.lists.ok.0, c.args.lists.now.ok.0, c.clear_each.ensures.capacity, c.keep_each.ensures.capacity, c.keep_each.ensures.len)
+pub returns-clause-fewer : goal.returns-clause-fewer
+returns-clause-fewer c =
+    let p = ended c.args.which.now c.args.attached.now in
+    let keys = c.args.keys.now.keys in
+    let lists = c.args.lists.now.items in
+    let left = left_cleared p keys lists c.clear_each.new.lists.items c.keep_each.new.lists.items c.clear_each.ensures.lists c.keep_each.ensures.lists in
+    omega (arith, ap length left, left_fewer (λ k. not (p k)) keys lists)
 
-pub returns-clause-len : goal.returns-clause-len
-returns-clause-len c =
-    let number : length c.clear_each.new.lists.items ≡ length c.args.lists.now.items = ap length c.clear_each.ensures.lists ∙ length-cleared (ended c.args.which.now c.args.attached.now) c.args.keys.now.keys c.args.lists.now.items in
-    omega (arith, number, c.clear_each.new.lists.ok.0, c.args.lists.now.ok.0, c.keep_each.ensures.len)
+pub keep_each-requires : goal.keep_each-requires
+keep_each-requires c =
+    omega (arith, c.requires.number, ap length c.clear_each.ensures.lists, length-cleared (ended c.args.which.now c.args.attached.now) c.args.keys.now.keys c.args.lists.now.items)

@@ -1,5 +1,6 @@
 use Rattle.std.proofs.Common.{◌≡◌, ◌<◌, ◌+◌, ◌++◌, ◌∷◌, [], ℕ, List, ◌∙◌, ap, sym, subst, get_or, set, take, length, arith}
 use Rattle.std.proofs.lemmas.List.{take_more}
+use Rattle.jm_gaps.proofs.Items.{item_read}
 use Rattle.jm_pending.specs.Rows.{Held}
 use Rattle.jm_lane.specs.Holders.{Follows}
 use Rattle.jm_stations.specs.Kept.{all_rows, with_row, AreBelow, IsOffered}
@@ -9,25 +10,25 @@ use Rattle.jm_stations.proofs.lists.offer_each.Goals as goal
 
 pub add-requires-clause-room : goal.add-requires-clause-room
 add-requires-clause-room c =
-    let h : Held = c.index_mut-held.result.now in
+    let h : Held = c.at_mut-held.result.now in
     let n = c.loop-index.index-index in
     let is = c.args.indexes.now in
     let new = first_named is n 0 c.requires.once c.loop-index-test.true in
     let was = offered_other (take n is) c.args.row.now c.args.lists.now.items c.loop-index.lists.items (get_or is n 0) h c.loop-index.invariant.offered (c.requires.within n 0 c.loop-index-test.true) new in
-    subst (λ (x : Held). 0 < x.room) (sym (c.index_mut-held.ensures.value ∙ was)) (c.requires.room n 0 c.loop-index-test.true h)
+    subst (λ (x : Held). 0 < x.room) (sym (item_read c.loop-index.lists.items (get_or is n 0) h c.at_mut-held.ensures.value ∙ was)) (c.requires.room n 0 c.loop-index-test.true h)
 
 pub add-requires-clause-above : goal.add-requires-clause-above
 add-requires-clause-above c =
-    let h : Held = c.index_mut-held.result.now in
+    let h : Held = c.at_mut-held.result.now in
     let n = c.loop-index.index-index in
     let is = c.args.indexes.now in
     let new = first_named is n 0 c.requires.once c.loop-index-test.true in
     let was = offered_other (take n is) c.args.row.now c.args.lists.now.items c.loop-index.lists.items (get_or is n 0) h c.loop-index.invariant.offered (c.requires.within n 0 c.loop-index-test.true) new in
-    subst (λ (x : Held). AreBelow c.args.row.now.place x.rows) (sym (c.index_mut-held.ensures.value ∙ was)) (c.requires.above (get_or is n 0) h (c.requires.within n 0 c.loop-index-test.true))
+    subst (λ (x : Held). AreBelow c.args.row.now.place x.rows) (sym (item_read c.loop-index.lists.items (get_or is n 0) h c.at_mut-held.ensures.value ∙ was)) (c.requires.above (get_or is n 0) h (c.requires.within n 0 c.loop-index-test.true))
 
 pub loop-index-preserved : goal.loop-index-preserved
 loop-index-preserved c =
-    let h : Held = c.index_mut-held.result.now in
+    let h : Held = c.at_mut-held.result.now in
     let n = c.loop-index.index-index in
     let is = c.args.indexes.now in
     let i : ℕ = get_or is n 0 in
@@ -37,7 +38,7 @@ loop-index-preserved c =
     let within : i < length init = c.requires.within n 0 c.loop-index-test.true in
     let inside : i < length lists = omega (arith, c.loop-index.invariant.offered.number, within) in
     let new = first_named is n 0 c.requires.once c.loop-index-test.true in
-    let value : h ≡ get_or lists i h = c.index_mut-held.ensures.value in
+    let value : h ≡ get_or lists i h = item_read c.loop-index.lists.items (get_or is n 0) h c.at_mut-held.ensures.value in
     let added : c.add.new.self ≡ with_row row h = added_is row h c.add.new.self c.add.ensures.missed c.add.ensures.added in
     let after : c.add.new.self ≡ with_row row (get_or lists i h) = added ∙ ap (with_row row) value in
     let follows : Follows c.loop-index.table c.add.new.table (get_or lists i h).rows (with_row row (get_or lists i h)).rows =

@@ -1,5 +1,6 @@
 use Rattle.std.proofs.Common.{◌≡◌, ◌∙◌, ap, subst, get_or, set}
 use Rattle.std.proofs.lemmas.List.{get_or_default}
+use Rattle.jm_gaps.proofs.Items.{item_read}
 use Rattle.jm_pending.specs.Chosen.{next_where}
 use Rattle.jm_pending.specs.Rows.{Held}
 use Rattle.jm_selector.specs.Selectors.{matches}
@@ -11,15 +12,15 @@ use Rattle.jm_stations.proofs.lists.send_where.Goals as goal
 
 pub returns-clause-lists : goal.returns-clause-lists
 returns-clause-lists c =
-    let h : Held = c.index_mut-held.result.now in
+    let h : Held = c.at_mut-held.result.now in
     let lists = c.args.lists.now.items in
     let left = (taken_sent c.args.session c.args.consumer c.args.now (next_where (matches c.args.selector.now) c.args.table.now c.args.now h.rows) h c.take_where.new.self c.take_where.result c.take_where.ensures.rows).1 in
-    ap (λ (x : Held). set lists c.args.index x) (left ∙ ap (sent_off_where (matches c.args.selector.now) c.args.table.now c.args.session c.args.consumer c.args.now) c.index_mut-held.ensures.value) ∙ changed_is_set c.args.index (sent_off_where (matches c.args.selector.now) c.args.table.now c.args.session c.args.consumer c.args.now) h lists c.requires.within
+    ap (λ (x : Held). set lists c.args.index x) (left ∙ ap (sent_off_where (matches c.args.selector.now) c.args.table.now c.args.session c.args.consumer c.args.now) (item_read lists c.args.index h c.at_mut-held.ensures.value)) ∙ changed_is_set c.args.index (sent_off_where (matches c.args.selector.now) c.args.table.now c.args.session c.args.consumer c.args.now) h lists c.requires.within
 
 pub returns-clause-table : goal.returns-clause-table
 returns-clause-table c = λ e.
-    let h : Held = c.index_mut-held.result.now in
+    let h : Held = c.at_mut-held.result.now in
     let lists = c.args.lists.now.items in
     let left = (taken_sent c.args.session c.args.consumer c.args.now (next_where (matches c.args.selector.now) c.args.table.now c.args.now h.rows) h c.take_where.new.self c.take_where.result c.take_where.ensures.rows).1 in
-    let same : h ≡ get_or lists c.args.index e = c.index_mut-held.ensures.value ∙ get_or_default lists c.args.index h e c.requires.within in
+    let same : h ≡ get_or lists c.args.index e = item_read lists c.args.index h c.at_mut-held.ensures.value ∙ get_or_default lists c.args.index h e c.requires.within in
     subst (λ (x : Held). Follows c.args.table.now c.take_where.new.table x.rows (sent_off_where (matches c.args.selector.now) c.args.table.now c.args.session c.args.consumer c.args.now x).rows) same (subst (λ (x : Held). Follows c.args.table.now c.take_where.new.table h.rows x.rows) left c.take_where.ensures.table)

@@ -1,5 +1,6 @@
 use Rattle.std.proofs.Common.{◌≡◌, ◌<◌, ◌+◌, ◌++◌, ◌∷◌, [], ℕ, List, ◌∙◌, ap, sym, subst, get_or, set, take, length, arith}
 use Rattle.std.proofs.lemmas.List.{take_more}
+use Rattle.jm_gaps.proofs.Items.{item_read}
 use Rattle.jm_lane.specs.declared.row.Row.{Row}
 use Rattle.jm_pending.specs.Rows.{Held}
 use Rattle.jm_lane.specs.Holders.{Follows}
@@ -13,27 +14,27 @@ use Rattle.jm_stations.proofs.loading.offer_stored.Goals as goal
 
 pub add-requires-clause-room : goal.add-requires-clause-room
 add-requires-clause-room c =
-    let h : Held = c.index_mut-held.result.now in
+    let h : Held = c.at_mut-held.result.now in
     let n = c.loop-stored.stored-index in
     let rows = c.args.rows.now in
     let x : StoredRow = get_or rows n none_stored in
     let new = first_stored rows n none_stored c.requires.once c.loop-stored-test.true in
     let was = not_yet (take n rows) c.args.row.now c.args.lists.now.items c.loop-stored.lists.items x.index h c.loop-stored.invariant.offered (c.requires.within n none_stored c.loop-stored-test.true) new in
-    subst (λ (y : Held). 0 < y.room) (sym (c.index_mut-held.ensures.value ∙ was)) (c.requires.room n none_stored c.loop-stored-test.true h)
+    subst (λ (y : Held). 0 < y.room) (sym (item_read c.loop-stored.lists.items x.index h c.at_mut-held.ensures.value ∙ was)) (c.requires.room n none_stored c.loop-stored-test.true h)
 
 pub add-requires-clause-above : goal.add-requires-clause-above
 add-requires-clause-above c =
-    let h : Held = c.index_mut-held.result.now in
+    let h : Held = c.at_mut-held.result.now in
     let n = c.loop-stored.stored-index in
     let rows = c.args.rows.now in
     let x : StoredRow = get_or rows n none_stored in
     let new = first_stored rows n none_stored c.requires.once c.loop-stored-test.true in
     let was = not_yet (take n rows) c.args.row.now c.args.lists.now.items c.loop-stored.lists.items x.index h c.loop-stored.invariant.offered (c.requires.within n none_stored c.loop-stored-test.true) new in
-    subst (λ (y : Held). AreBelow c.args.row.now.place y.rows) (sym (c.index_mut-held.ensures.value ∙ was)) (c.requires.above x.index h (c.requires.within n none_stored c.loop-stored-test.true))
+    subst (λ (y : Held). AreBelow c.args.row.now.place y.rows) (sym (item_read c.loop-stored.lists.items x.index h c.at_mut-held.ensures.value ∙ was)) (c.requires.above x.index h (c.requires.within n none_stored c.loop-stored-test.true))
 
 pub loop-stored-preserved : goal.loop-stored-preserved
 loop-stored-preserved c =
-    let h : Held = c.index_mut-held.result.now in
+    let h : Held = c.at_mut-held.result.now in
     let n = c.loop-stored.stored-index in
     let rows = c.args.rows.now in
     let x : StoredRow = get_or rows n none_stored in
@@ -45,7 +46,7 @@ loop-stored-preserved c =
     let within : i < length init = c.requires.within n none_stored c.loop-stored-test.true in
     let inside : i < length lists = omega (arith, c.loop-stored.invariant.offered.number, within) in
     let new = first_stored rows n none_stored c.requires.once c.loop-stored-test.true in
-    let value : h ≡ get_or lists i h = c.index_mut-held.ensures.value in
+    let value : h ≡ get_or lists i h = item_read c.loop-stored.lists.items x.index h c.at_mut-held.ensures.value in
     let added : c.add.new.self ≡ with_row counted h = added_is counted h c.add.new.self c.add.ensures.missed c.add.ensures.added in
     let after : c.add.new.self ≡ with_row counted (get_or lists i h) = added ∙ ap (with_row counted) value in
     let follows : Follows c.loop-stored.table c.add.new.table (get_or lists i h).rows (with_row counted (get_or lists i h)).rows =

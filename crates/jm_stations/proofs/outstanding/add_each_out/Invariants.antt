@@ -9,6 +9,6 @@ use Rattle.jm_stations.proofs.outstanding.add_each_out.Given as goal
 abbrev pub invariant-loop-index : goal.invariant-loop-index
 invariant-loop-index l = record {
   rising : AreRising 0 l.index l.indexes.items;
-  others : (k : ℕ) (d : Held) → k < l.index → is_named l.indexes.items k ≡ false → are_home (get_or l.lists k d).rows ≡ true;
+  others : (k : ℕ) (d : Held) → k < l.index → is_named l.indexes.items k ≡ false → are_home (get_or l.lists.items k d).rows ≡ true;
   capacity : vec_capacity l.indexes ≡ vec_capacity l.initial.indexes;
 }

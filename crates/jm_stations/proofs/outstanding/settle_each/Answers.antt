@@ -1,5 +1,6 @@
 use Rattle.std.proofs.Common.{◌≡◌, ◌<◌, ◌∙◌, ℕ, List, length, get_or, subst, sym, refl, arith}
 use Rattle.std.proofs.lemmas.List.{get_or_read}
+use Rattle.jm_gaps.proofs.Items.{item_read}
 use Rattle.jm_machine.specs.Machine.{are_meant}
 use Rattle.jm_pending.specs.Rows.{Held}
 use Rattle.jm_lane.specs.Holders.{Covers, Follows}
@@ -23,18 +24,18 @@ loop-at-init c = record {
 here : (indexes : List ℕ) (at i : ℕ) → at < length indexes → i ≡ get_or indexes at i → i ≡ get_or indexes at 0
 here indexes at i l is = get_or_read indexes at i l is 0
 
-pub index_mut-held-requires : goal.index_mut-held-requires
-index_mut-held-requires c =
+pub at_mut-held-requires : goal.at_mut-held-requires
+at_mut-held-requires c =
     let indexes = c.loop-at.indexes.items in
     let at = c.loop-at.at in
     let i : ℕ = c.index-index.result.now in
     let lt : at < length indexes = omega (arith, c.loop-at.invariant.number, c.loop-at-test.true, c.len-at-end.ensures) in
     let within = swept_within (settled_out (are_meant c.args.which.now)) c.args.lists.now.items c.loop-at.lists.items indexes at c.loop-at.stay i c.loop-at.invariant.swept lt (here indexes at i lt c.index-index.ensures) in
-    omega (arith, within, c.loop-at.invariant.swept.number, c.loop-at.lists.ok.0)
+    omega (arith, within, c.loop-at.invariant.swept.number)
 
 pub settle-goes-requires : goal.settle-goes-requires
 settle-goes-requires c =
-    let h : Held = c.index_mut-held.result.now in
+    let h : Held = c.at_mut-held.result.now in
     let lists = c.loop-at.lists.items in
     let indexes = c.loop-at.indexes.items in
     let at = c.loop-at.at in
@@ -42,11 +43,11 @@ settle-goes-requires c =
     let lt : at < length indexes = omega (arith, c.loop-at.invariant.number, c.loop-at-test.true, c.len-at-end.ensures) in
     let within = swept_within (settled_out (are_meant c.args.which.now)) c.args.lists.now.items lists indexes at c.loop-at.stay i c.loop-at.invariant.swept lt (here indexes at i lt c.index-index.ensures) in
     let inside : i < length lists = omega (arith, within, c.loop-at.invariant.swept.number) in
-    subst (λ (x : Held). Covers c.loop-at.table x.rows) (sym c.index_mut-held.ensures.value) (covers_one c.loop-at.table lists i h inside c.loop-at.invariant.counted)
+    subst (λ (x : Held). Covers c.loop-at.table x.rows) (sym (item_read lists i h c.at_mut-held.ensures.value)) (covers_one c.loop-at.table lists i h inside c.loop-at.invariant.counted)
 
 pub loop-at-preserved : goal.loop-at-preserved
 loop-at-preserved c =
-    let h : Held = c.index_mut-held.result.now in
+    let h : Held = c.at_mut-held.result.now in
     let h' : Held = c.settle-goes.new.held in
     let init = c.args.lists.now.items in
     let lists = c.loop-at.lists.items in
@@ -58,7 +59,7 @@ loop-at-preserved c =
     let is : i ≡ get_or indexes at 0 = here indexes at i lt c.index-index.ensures in
     let within = swept_within (settled_out p) init lists indexes at c.loop-at.stay i c.loop-at.invariant.swept lt is in
     let inside : i < length lists = omega (arith, within, c.loop-at.invariant.swept.number) in
-    let value : h ≡ get_or lists i h = c.index_mut-held.ensures.value in
+    let value : h ≡ get_or lists i h = item_read lists i h c.at_mut-held.ensures.value in
     let put : IsPut indexes c.keep-stay.new.indexes.items c.loop-at.stay c.keep-stay.result at i c.settle-goes.result = record { out = c.keep-stay.ensures.goes; put = c.keep-stay.ensures.stays } in
     record {
       number = put_length indexes c.keep-stay.new.indexes.items c.loop-at.stay c.keep-stay.result at i c.settle-goes.result put ∙ c.loop-at.invariant.number;

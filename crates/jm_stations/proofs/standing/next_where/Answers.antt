@@ -1,4 +1,4 @@
-use Rattle.std.proofs.Common.{◌≡◌, ◌∙◌, ap, sym, option_map}
+use Rattle.std.proofs.Common.{◌∙◌, ap, sym, option_map}
 use Rattle.jm_selector.specs.Selectors.{matches}
 use Rattle.std.specs.Option.{IfSome}
 use Rattle.jm_lane.specs.Holders.{holders_of}

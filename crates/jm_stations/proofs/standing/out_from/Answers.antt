@@ -1,10 +1,8 @@
-use Rattle.std.proofs.Common.{◌≡◌, ◌∙◌, ap, sym, option_map}
+use Rattle.std.proofs.Common.{◌∙◌, ap, option_map}
 use Rattle.jm_machine.specs.Machine.{are_meant}
-use Rattle.jm_pending.specs.Rows as here
 use Rattle.jm_lane.specs.Cursors as cursor
 use Rattle.jm_pending.specs.Placed.{placed}
-use Rattle.jm_stations.proofs.Delivery.{next_same}
-use Rattle.jm_stations.proofs.Readers.{found_held, at_shown, from_shown, out_shown, lapsed_shown}
+use Rattle.jm_stations.proofs.Readers.{found_held, out_shown}
 use Rattle.jm_stations.proofs.standing.out_from.Goals as goal
 
 pub with_message-requires : goal.with_message-requires

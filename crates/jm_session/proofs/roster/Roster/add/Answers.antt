@@ -17,7 +17,7 @@ invariant_of-self c = (
   counted_joined (values c.self.inside.consumers) (values c.append.new.consumers) _ c.append.ensures.values c.in-Some.key c.self.inside.attached c.join.new.self refl
       (sym c.into_parts-key.ensures.counted ∙ c.in-Some.is) c.join.ensures.number c.self.invariant.1,
   omega (arith, c.self.invariant.2, c.join.ensures.spare),
-  c.append.ensures.positions,
+  c.append.ensures.active,
 )
 
 pub invariant_of-self-in_default : goal.invariant_of-self-in_default
@@ -25,7 +25,7 @@ invariant_of-self-in_default c = (
   c.append.ensures.numbered,
   counted_still (values c.self.inside.consumers) (values c.append.new.consumers) _ c.append.ensures.values c.self.inside.attached (sym c.into_parts-key.ensures.counted ∙ c.in_default.is) c.self.invariant.1,
   c.self.invariant.2,
-  c.append.ensures.positions,
+  c.append.ensures.active,
 )
 
 pub returns-in-Some-clause-consumers : goal.returns-in-Some-clause-consumers

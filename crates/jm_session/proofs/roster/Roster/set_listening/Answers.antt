@@ -8,7 +8,7 @@ invariant_of-self c = (
   (c.mark_listening.ensures.entries c.self.invariant.0).1,
   c.mark_listening.ensures.counted c.self.inside.attached c.self.invariant.1,
   c.self.invariant.2,
-  c.mark_listening.ensures.positions c.self.inside.active c.self.invariant.3,
+  c.mark_listening.ensures.active c.self.inside.active c.self.invariant.3,
 )
 
 pub returns-clause-consumers : goal.returns-clause-consumers

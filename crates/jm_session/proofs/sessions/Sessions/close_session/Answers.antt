@@ -12,16 +12,16 @@ use Rattle.jm_session.proofs.sessions.Sessions.close_session.Goals as goal
 pub invariant_of-self : goal.invariant_of-self
 invariant_of-self c = (
   c.self.invariant.0,
-  (c.close_session.ensures.entries c.self.invariant.1).1,
+  c.close_session.ensures.numbered,
   c.self.invariant.2,
   c.self.invariant.3,
-  c.close_session.ensures.positions,
+  c.close_session.ensures.opened,
 )
 
 pub returns-clause-life : goal.returns-clause-life
 unfolding life_after
 returns-clause-life c =
-    ap (λ xs. life_of (values c.self.inside.connections) xs) (c.close_session.ensures.entries c.self.invariant.1).0
+    ap (λ xs. life_of (values c.self.inside.connections) xs) c.close_session.ensures.values
     ∙ ap (λ (k : Known). life_after k.life (Session c.args.id.now) CloseSession) c.self.view_is
 
 pub returns-clause-consumers : goal.returns-clause-consumers

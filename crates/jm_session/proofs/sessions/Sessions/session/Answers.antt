@@ -1,17 +1,23 @@
-use Rattle.std.proofs.Common.{◌≡◌, ◌∙◌, ap, sym, refl, subst, false, true, length, arith}
+use Rattle.std.proofs.Common.{◌≡◌, ◌∙◌, ◌++◌, ◌∷◌, [], ap, sym, refl, subst, false, true, arith}
 use Rattle.std.specs.Prelude.{is_some}
 use Rattle.std.specs.Map.{values_of}
-use Rattle.std.proofs.lemmas.Map.Entries.{length-values_of}
 use Rattle.indexmap.specs.IndexMap.{insert_entry, values}
 use Rattle.jm_dest.specs.Names.{session_eq}
 use Rattle.jm_machine.specs.declared.state.SessionState.{SessionState}
 use Rattle.jm_machine.specs.Life.{life_after, is_new_session, session_of, is_open_connection, connection_of}
 use Rattle.jm_session.specs.Known.{Known}
 use Rattle.jm_session.specs.Numbers.{IsNumbered}
-use Rattle.jm_session.specs.Positions.{AreOpen}
+use Rattle.jm_session.proofs.Closed.{open_sessions, session_absent}
 use Rattle.jm_session.proofs.Found.{added, session_sym, life_of, not_used, surely}
-use Rattle.jm_session.proofs.Walked.{positions_more, positions_same}
+use Rattle.jm_session.proofs.Opened.{numbers_more}
 use Rattle.jm_session.proofs.sessions.Sessions.session.Goals as goal
+
+pub insert-requires-clause-absent : goal.insert-requires-clause-absent
+insert-requires-clause-absent c =
+    let new : is_new_session c.args.self.now.life c.args.id.now ≡ true = sym c.is_new_session.ensures ∙ c.if-not-is_new_session.false in
+    let absent : is_some (session_of c.args.self.now.life.sessions c.args.id.now) ≡ false = not_used (is_open_connection (connection_of c.args.self.now.life.connections c.args.id.now.connection)) (is_some (session_of c.args.self.now.life.sessions c.args.id.now)) new in
+    session_absent c.args.id.now (values c.self.inside.sessions) c.reserve-2.new.self.keys (c.reserve-2.ensures.keys ∙ c.self.invariant.4)
+    (subst (λ (k : Known). is_some (session_of k.life.sessions c.args.id.now) ≡ false) (sym c.self.view_is) absent)
 
 pub invariant_of-self : goal.invariant_of-self
 invariant_of-self c = (
@@ -19,7 +25,7 @@ invariant_of-self c = (
   subst (IsNumbered (λ (x : SessionState). x.id)) (sym c.reserve.ensures.entries) c.self.invariant.1,
   c.self.invariant.2,
   c.self.invariant.3,
-  subst (λ es. AreOpen (values_of es) c.self.inside.opened) (sym c.reserve.ensures.entries) c.self.invariant.4,
+  c.self.invariant.4 ∙ ap open_sessions (sym (ap values_of c.reserve.ensures.entries)),
 )
 
 pub invariant_of-self-2 : goal.invariant_of-self-2
@@ -34,11 +40,10 @@ invariant_of-self-2 c =
       after.1,
       c.self.invariant.2,
       c.self.invariant.3,
-      subst (λ xs. AreOpen xs c.insert.new.self) (sym after.0)
-          (positions_more (λ (x : SessionState). x.is_open) (values c.self.inside.sessions) x c.reserve-2.new.self c.insert.new.self c.len.result
-          (length-values_of c.self.inside.sessions.entries ∙ sym (ap length c.reserve.ensures.entries) ∙ sym c.len.ensures.len) refl
-          (positions_same (λ (x : SessionState). x.is_open) (values c.self.inside.sessions) c.self.inside.opened c.reserve-2.new.self c.reserve-2.ensures.keys c.self.invariant.4)
-          (surely c.insert.result c.insert.ensures.updates (c.insert.ensures.succeeds (omega (arith, c.in_ok-reserve-2.ensures.ok))))),
+      c.insert.ensures.keys
+          ∙ ap (λ ks. ks ++ c.args.id.now ∷ []) (c.reserve-2.ensures.keys ∙ c.self.invariant.4)
+          ∙ sym (numbers_more (λ (x : SessionState). x.id) (λ (x : SessionState). x.is_open) (values c.self.inside.sessions) x refl)
+          ∙ ap open_sessions (sym after.0),
     )
 
 pub returns-clause-life : goal.returns-clause-life

@@ -13,7 +13,7 @@ invariant_of-result c =
     let t = c.self.inside.table in
     let t' = c.in_ok-table.table in
     let lists = c.self.inside.lists.items in
-    let copied : c.in_ok-lists.lists.items ≡ map without_room lists = c.in_ok-lists.ensures ∙ ap (map without_room) c.as_slice.ensures.value in (
+    let copied : c.in_ok-lists.lists.items ≡ map without_room lists = c.in_ok-lists.ensures in (
       rw copied (table_kept t t' c.self.inside.next_place (map without_room lists) c.in_ok-table.ensures (copied_kept t c.self.inside.next_place lists c.self.invariant.0)),
       ap (λ (o : Outstanding). o.number) c.in_ok-outstanding.ensures ∙ c.self.invariant.1 ∙ sym (ap length copied ∙ length-map lists without_room),
       rw (ap (λ (o : Outstanding). o.indexes) c.in_ok-outstanding.ensures, copied) (but_copied c.self.inside.outstanding.indexes lists c.self.invariant.2),
@@ -24,7 +24,7 @@ returns c =
     let t = c.self.inside.table in
     let t' = c.in_ok-table.table in
     let lists = c.self.inside.lists.items in
-    let copied : c.in_ok-lists.lists.items ≡ map without_room lists = c.in_ok-lists.ensures ∙ ap (map without_room) c.as_slice.ensures.value in
+    let copied : c.in_ok-lists.lists.items ≡ map without_room lists = c.in_ok-lists.ensures in
     let shown : all_shown t' c.in_ok-lists.lists.items ≡ map spec.without_room (all_shown t lists) =
     ap (all_shown t') copied ∙ table_shown t t' (map without_room lists) c.in_ok-table.ensures ∙ copied_shown t lists in
     rw (← c.self.view_is, shown) refl

@@ -1,6 +1,8 @@
-use Rattle.std.proofs.Common.{◌≡◌, ◌∙◌, ◌<◌, ℕ, List, length, true, Bool, ap, subst, sym, get_or, Option}
+use Rattle.std.proofs.Common.{◌≡◌, ◌∙◌, ◌<◌, ℕ, List, length, true, Bool, ap, subst, sym, get_or, Option, Some}
 use Rattle.std.specs.Prelude.{IfOk, OnErr, is_some}
+use Rattle.std.specs.List.{slice_get}
 use Rattle.std.proofs.lemmas.List.{get_or-map, get_or_default}
+use Rattle.jm_gaps.proofs.Items.{item_read}
 use Rattle.jm_header.specs.declared.content.Content.{Content}
 use Rattle.jm_lane.specs.declared.row.Row.{Row}
 use Rattle.jm_pending.specs.Rows.{Held, next}
@@ -12,19 +14,19 @@ use Rattle.jm_stations.proofs.Receiving.{no_rows, within_shown}
 use Rattle.jm_stations.proofs.backlogs.Backlogs.copy_for.Goals as goal
 
 -- what the table has for the next row is the copy that is wanted
-wanted : (settles : Bool) (t : Messages) (place now k : ℕ) (lists : List Held) (h : Held) (next_row : Option Row) (d : Backlog) → k < length (all_shown t lists) → h ≡ get_or lists k h → next_row ≡ next now h.rows → IsKept t lists place
+wanted : (settles : Bool) (t : Messages) (place now k : ℕ) (lists : List Held) (h : Held) (next_row : Option Row) (d : Backlog) → k < length (all_shown t lists) → slice_get lists k ≡ Some h → next_row ≡ next now h.rows → IsKept t lists place
     → copied settles t next_row ≡ copy_wanted settles now (all_shown t lists) (get_or (all_shown t lists) k d).rows
 wanted settles t place now k lists h next_row d within at taken kept =
     let inside = within_shown t lists k within in
-    let found : h ≡ get_or lists k no_rows = at ∙ get_or_default lists k h no_rows inside in
+    let found : h ≡ get_or lists k no_rows = item_read lists k h at ∙ get_or_default lists k h no_rows inside in
     ap (copied settles t) (taken ∙ ap (λ (x : Held). next now x.rows) found) ∙ copied_is settles t place now k no_rows lists inside kept ∙ ap (λ (b : Backlog). copy_wanted settles now (all_shown t lists) b.rows) (sym (get_or-map (shown t) lists k no_rows d inside))
 
 pub returns-clause-copy : goal.returns-clause-copy
 returns-clause-copy c = λ d.
-    let same = wanted c.args.settles c.self.inside.table c.self.inside.next_place c.args.now c.args.index c.self.inside.lists.items c.index.result.now c.next.result d (rw (← c.self.view_is) at c.requires.within) c.index.ensures c.next.ensures.next c.self.invariant.0 in
+    let same = wanted c.args.settles c.self.inside.table c.self.inside.next_place c.args.now c.args.index c.self.inside.lists.items c.at.result.now c.next.result d (rw (← c.self.view_is) at c.requires.within) c.at.ensures c.next.ensures.next c.self.invariant.0 in
     rw (← c.self.view_is) (subst (λ (o : Option Content). IfOk c.copy_of.result (λ copy. copy ≡ o)) same c.copy_of.ensures.copy)
 
 pub returns-clause-err : goal.returns-clause-err
 returns-clause-err c = λ d.
-    let same = wanted c.args.settles c.self.inside.table c.self.inside.next_place c.args.now c.args.index c.self.inside.lists.items c.index.result.now c.next.result d (rw (← c.self.view_is) at c.requires.within) c.index.ensures c.next.ensures.next c.self.invariant.0 in
+    let same = wanted c.args.settles c.self.inside.table c.self.inside.next_place c.args.now c.args.index c.self.inside.lists.items c.at.result.now c.next.result d (rw (← c.self.view_is) at c.requires.within) c.at.ensures c.next.ensures.next c.self.invariant.0 in
     rw (← c.self.view_is) (subst (λ (o : Option Content). OnErr c.copy_of.result (is_some o ≡ true)) same c.copy_of.ensures.err)

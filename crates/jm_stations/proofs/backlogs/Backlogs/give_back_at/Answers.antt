@@ -1,4 +1,5 @@
 use Rattle.std.proofs.Common.{get_or, ◌∙◌, sym, ap, length, ◌≡◌, true, subst, arith}
+use Rattle.jm_gaps.proofs.Items.{item_read}
 use Rattle.jm_machine.specs.Machine.{are_meant}
 use Rattle.jm_stations.specs.Backlogs as spec
 use Rattle.jm_stations.specs.Kept.{given_back}
@@ -11,10 +12,10 @@ use Rattle.jm_stations.proofs.Homes.{but_changed, but_known, returned_home}
 use Rattle.jm_stations.proofs.Indexes.{length-changed}
 use Rattle.jm_stations.proofs.backlogs.Backlogs.give_back_at.Goals as goal
 
-pub index-requires : goal.index-requires
-index-requires c =
+pub at-requires : goal.at-requires
+at-requires c =
     let inside = within_shown c.self.inside.table c.self.inside.lists.items c.args.index (rw (← c.self.view_is) at c.requires) in
-    omega (arith, inside, ap length c.give_back_at.ensures, length-changed c.args.index (given_back (are_meant c.args.which.now)) c.self.inside.lists.items, c.give_back_at.new.lists.ok.0)
+    omega (arith, inside, ap length c.give_back_at.ensures, length-changed c.args.index (given_back (are_meant c.args.which.now)) c.self.inside.lists.items)
 
 pub invariant_of-self : goal.invariant_of-self
 invariant_of-self c =
@@ -24,7 +25,7 @@ invariant_of-self c =
     let inside = within_shown t lists c.args.index (rw (← c.self.view_is) at c.requires) in (
       rw c.give_back_at.ensures (changed_kept t t c.self.inside.next_place c.args.index (given_back p) (returned_backlog t c.self.inside.next_place p) no_rows lists inside c.self.invariant.0 (returned_follows t p (get_or lists c.args.index no_rows))),
       c.remove_where.ensures.number ∙ c.self.invariant.1 ∙ sym (ap length c.give_back_at.ensures ∙ length-changed c.args.index (given_back p) lists),
-      but_known c.self.inside.outstanding.indexes c.remove_where.new.self.indexes c.is_home-is_home.result c.args.index c.give_back_at.new.lists.items c.remove_where.ensures.named (λ d e l. subst (λ (h : Held). are_home h.rows ≡ true) (get_or_read c.give_back_at.new.lists.items c.args.index c.index.result.now l c.index.ensures d) (sym c.is_home-is_home.ensures ∙ e)) (rw c.give_back_at.ensures (but_changed (given_back p) (returned_home p) c.self.inside.outstanding.indexes c.args.index lists c.self.invariant.2)),
+      but_known c.self.inside.outstanding.indexes c.remove_where.new.self.indexes c.is_home-is_home.result c.args.index c.give_back_at.new.lists.items c.remove_where.ensures.named (λ d e l. subst (λ (h : Held). are_home h.rows ≡ true) (get_or_read c.give_back_at.new.lists.items c.args.index c.at.result.now l (item_read c.give_back_at.new.lists.items c.args.index c.at.result.now c.at.ensures) d) (sym c.is_home-is_home.ensures ∙ e)) (rw c.give_back_at.ensures (but_changed (given_back p) (returned_home p) c.self.inside.outstanding.indexes c.args.index lists c.self.invariant.2)),
     )
 
 pub returns-clause-list : goal.returns-clause-list

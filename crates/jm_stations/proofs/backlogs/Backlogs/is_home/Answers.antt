@@ -1,6 +1,7 @@
 use Rattle.std.proofs.Common.{◌≡◌, ◌∙◌, ◌||◌, List, [], ◌∷◌, true, not, ap, refl, sym, get_or}
 use Rattle.std.specs.List.{list_any}
 use Rattle.std.proofs.lemmas.List.{get_or-map, get_or_default}
+use Rattle.jm_gaps.proofs.Items.{item_read}
 use Rattle.jm_machine.specs.declared.state.Row.{Row as MachineRow}
 use Rattle.jm_machine.specs.Rows as machine
 use Rattle.jm_machine.specs.Rows.{bare}
@@ -24,7 +25,7 @@ returns c = λ d.
     let t = c.self.inside.table in
     let lists = c.self.inside.lists.items in
     let k = c.args.index in
-    let h : Held = c.index.result.now in
+    let h : Held = c.at.result.now in
     let inside = within_shown t lists k (rw (← c.self.view_is) at c.requires) in
-    let found : h ≡ get_or lists k no_rows = c.index.ensures ∙ get_or_default lists k h no_rows inside in
+    let found : h ≡ get_or lists k no_rows = item_read lists k h c.at.ensures ∙ get_or_default lists k h no_rows inside in
     rw (← c.self.view_is) (c.is_home.ensures ∙ ap (λ (x : Held). rows_here.are_home x.rows) found ∙ sym (ap not (any_out t (get_or lists k no_rows).rows)) ∙ ap (λ (b : Backlog). are_home b.rows) (sym (get_or-map (shown t) lists k no_rows d inside)))

@@ -1,6 +1,5 @@
 use Rattle.std.proofs.Common.{◌<◌, ◌^◌, ap, subst, get_or, ◌∙◌, sym, refl}
 use Rattle.jm_lane.specs.declared.row.Row.{Row}
-use Rattle.jm_stations.specs.declared.loading.StoredRow.{StoredRow}
 use Rattle.jm_stations.specs.Backlogs.{Backlogs}
 use Rattle.jm_stations.specs.Loading.{AreOffered}
 use Rattle.jm_stations.proofs.Publishing.{free_place, one_holder, room_inside}

@@ -1,5 +1,6 @@
 use Rattle.std.proofs.Common.{◌≡◌, ◌∙◌, ap, sym, get_or}
 use Rattle.std.proofs.lemmas.List.{get_or-map, get_or_default}
+use Rattle.jm_gaps.proofs.Items.{item_read}
 use Rattle.jm_pending.specs.Rows.{Held}
 use Rattle.jm_stations.specs.Backlogs.{Backlog}
 use Rattle.jm_stations.specs.Kept.{shown}
@@ -11,7 +12,7 @@ returns c = λ d.
     let t = c.self.inside.table in
     let lists = c.self.inside.lists.items in
     let k = c.args.index in
-    let h : Held = c.index.result.now in
+    let h : Held = c.at.result.now in
     let inside = within_shown t lists k (rw (← c.self.view_is) at c.requires) in
-    let found : h ≡ get_or lists k no_rows = c.index.ensures ∙ get_or_default lists k h no_rows inside in
+    let found : h ≡ get_or lists k no_rows = item_read lists k h c.at.ensures ∙ get_or_default lists k h no_rows inside in
     rw (← c.self.view_is) (c.missed.ensures ∙ ap (λ (x : Held). x.missed) found ∙ ap (λ (b : Backlog). b.missed) (sym (get_or-map (shown t) lists k no_rows d inside)))

@@ -1,3 +1,4 @@
+use Rattle.jm_gaps.proofs.Items.{item_read}
 use Rattle.jm_machine.specs.Machine.{are_meant}
 use Rattle.jm_stations.specs.Backlogs as spec
 use Rattle.jm_stations.specs.Kept.{settled_out}
@@ -16,10 +17,10 @@ pub settle_at-requires-clause-covers : goal.settle_at-requires-clause-covers
 settle_at-requires-clause-covers c = λ d.
     covers_one c.self.inside.table c.self.inside.lists.items c.args.index d (within_shown c.self.inside.table c.self.inside.lists.items c.args.index (rw (← c.self.view_is) at c.requires)) c.self.invariant.0.counted
 
-pub index-requires : goal.index-requires
-index-requires c =
+pub at-requires : goal.at-requires
+at-requires c =
     let inside = within_shown c.self.inside.table c.self.inside.lists.items c.args.index (rw (← c.self.view_is) at c.requires) in
-    omega (arith, inside, ap length c.settle_at.ensures.lists, length-changed c.args.index (settled_out (are_meant c.args.which.now)) c.self.inside.lists.items, c.settle_at.new.lists.ok.0)
+    omega (arith, inside, ap length c.settle_at.ensures.lists, length-changed c.args.index (settled_out (are_meant c.args.which.now)) c.self.inside.lists.items)
 
 pub invariant_of-self : goal.invariant_of-self
 invariant_of-self c =
@@ -29,7 +30,7 @@ invariant_of-self c =
     let inside = within_shown t lists c.args.index (rw (← c.self.view_is) at c.requires) in (
       rw c.settle_at.ensures.lists (changed_kept t c.settle_at.new.table c.self.inside.next_place c.args.index (settled_out p) (settled_backlog t c.self.inside.next_place p) no_rows lists inside c.self.invariant.0 (c.settle_at.ensures.table no_rows)),
       c.remove_where.ensures.number ∙ c.self.invariant.1 ∙ sym (ap length c.settle_at.ensures.lists ∙ length-changed c.args.index (settled_out p) lists),
-      but_known c.self.inside.outstanding.indexes c.remove_where.new.self.indexes c.is_home-is_home.result c.args.index c.settle_at.new.lists.items c.remove_where.ensures.named (λ d e l. subst (λ (h : Held). are_home h.rows ≡ true) (get_or_read c.settle_at.new.lists.items c.args.index c.index.result.now l c.index.ensures d) (sym c.is_home-is_home.ensures ∙ e)) (rw c.settle_at.ensures.lists (but_changed (settled_out p) (settled_home p) c.self.inside.outstanding.indexes c.args.index lists c.self.invariant.2)),
+      but_known c.self.inside.outstanding.indexes c.remove_where.new.self.indexes c.is_home-is_home.result c.args.index c.settle_at.new.lists.items c.remove_where.ensures.named (λ d e l. subst (λ (h : Held). are_home h.rows ≡ true) (get_or_read c.settle_at.new.lists.items c.args.index c.at.result.now l (item_read c.settle_at.new.lists.items c.args.index c.at.result.now c.at.ensures) d) (sym c.is_home-is_home.ensures ∙ e)) (rw c.settle_at.ensures.lists (but_changed (settled_out p) (settled_home p) c.self.inside.outstanding.indexes c.args.index lists c.self.invariant.2)),
     )
 
 pub returns-clause-list : goal.returns-clause-list

@@ -1,46 +1,37 @@
-use Rattle.std.proofs.Common.{◌≡◌, ◌∙◌, ap, sym, refl, ℕ, Option, Some, None, length}
-use Rattle.std.specs.List.{IsDistinct}
-use Rattle.jm_dest.specs.declared.key.Key.{Key}
-use Rattle.jm_dest.specs.declared.key.Key.TheVariants.{Own}
-use Rattle.jm_dest.specs.Keys.{key_eq}
-use Rattle.jm_stations.specs.Stations.{Stations, index_in}
-use Rattle.jm_stations.proofs.Own.{found, one_goes, one_under, no_goes, no_under}
+use Rattle.std.proofs.Common.{◌∙◌, ap, arith, sym}
+use Rattle.jm_stations.specs.Stations.{Stations}
+use Rattle.jm_stations.proofs.Own.{keys_after, lists_after, no_list_shown_goes, no_shown_goes}
 use Rattle.jm_stations.proofs.stations.Stations.close_own.Goals as goal
 
-pub returns-in-Some-clause-keys : goal.returns-in-Some-clause-keys
-returns-in-Some-clause-keys c =
-    let keys = c.args.self.now.keys in
-    let own : Key = Own c.args.session c.args.id in
-    let is : index_in keys own ≡ Some c.in-Some.index = sym c.in-Some.ensures.index in
-    let at = found own keys c.in-Some.index is in
-    let distinct : IsDistinct key_eq keys = rw (← c.self.view_is) c.self.invariant.1 in
-    ap (λ (s : Stations). s.keys) c.remove.ensures.removed ∙ sym (one_goes own keys c.in-Some.index distinct at.0 at.1)
+pub loop-index-preserved : goal.loop-index-preserved
+loop-index-preserved c =
+    let which = c.args.which.now in
+    let keys = c.self.inside.keys.keys in
+    let lists = c.self.inside.backlogs.list in
+    let shown = c.loop-index.self in
+    let left = c.remove.new.self in
+    let at = c.in-Some.index in
+    let w = c.loop-index.invariant in
+    let found = c.in-Some.ensures in
+    let same = ap (λ (v : Stations). v.keys) c.self.view_is in
+    let alike = ap (λ (v : Stations). v.list) c.self.view_is in
+    let gone = ap (λ (v : Stations). v.keys) c.remove.ensures.removed in
+    let taken = ap (λ (v : Stations). v.list) c.remove.ensures.removed in
+    record {
+      keys = keys_after which keys shown.keys left.keys at same gone found.within found.found ∙ w.keys;
+      list = lists_after which keys shown.keys left.keys lists shown.list left.list at same alike gone taken c.self.invariant.0 found.within found.found ∙ w.list;
+      next_place = ap (λ (v : Stations). v.next_place) c.remove.ensures.removed ∙ w.next_place;
+      message_room = omega (arith, w.message_room, c.remove.ensures.message_room);
+      key_room = omega (arith, w.key_room, c.remove.ensures.key_room);
+    }
 
-pub returns-in-Some-clause-list : goal.returns-in-Some-clause-list
-returns-in-Some-clause-list c =
-    let keys = c.args.self.now.keys in
-    let own : Key = Own c.args.session c.args.id in
-    let is : index_in keys own ≡ Some c.in-Some.index = sym c.in-Some.ensures.index in
-    let at = found own keys c.in-Some.index is in
-    let distinct : IsDistinct key_eq keys = rw (← c.self.view_is) c.self.invariant.1 in
-    let number : length keys ≡ length c.args.self.now.list = rw (← c.self.view_is) c.self.invariant.0 in
-    ap (λ (s : Stations). s.list) c.remove.ensures.removed ∙ sym (one_under own keys c.args.self.now.list c.in-Some.index number distinct at.0 at.1)
+pub returns-clause-keys : goal.returns-clause-keys
+returns-clause-keys c =
+    sym (no_shown_goes c.args.which.now c.self.inside.keys.keys c.loop-index.self.keys (ap (λ (v : Stations). v.keys) c.self.view_is) c.in_default.ensures.none)
+    ∙ c.loop-index.invariant.keys
 
-none_there : (o : Option ℕ) → ((i : ℕ) → o ≡ Some i → ⊥) → o ≡ None
-none_there None h = refl
-none_there (Some i) h = absurd (h i refl)
-
-pub returns-in_default-clause-keys : goal.returns-in_default-clause-keys
-returns-in_default-clause-keys c =
-    let keys = c.args.self.now.keys in
-    let own : Key = Own c.args.session c.args.id in
-    let is : index_in keys own ≡ None = sym c.index_of.ensures.index ∙ none_there c.index_of.result c.in_default.not-Some in
-    sym (no_goes own keys is)
-
-pub returns-in_default-clause-list : goal.returns-in_default-clause-list
-returns-in_default-clause-list c =
-    let keys = c.args.self.now.keys in
-    let own : Key = Own c.args.session c.args.id in
-    let is : index_in keys own ≡ None = sym c.index_of.ensures.index ∙ none_there c.index_of.result c.in_default.not-Some in
-    let number : length keys ≡ length c.args.self.now.list = rw (← c.self.view_is) c.self.invariant.0 in
-    sym (no_under own keys c.args.self.now.list number is)
+pub returns-clause-list : goal.returns-clause-list
+returns-clause-list c =
+    sym (no_list_shown_goes c.args.which.now c.self.inside.keys.keys c.loop-index.self.keys c.self.inside.backlogs.list c.loop-index.self.list
+    (ap (λ (v : Stations). v.keys) c.self.view_is) (ap (λ (v : Stations). v.list) c.self.view_is) c.self.invariant.0 c.in_default.ensures.none)
+    ∙ c.loop-index.invariant.list
