@@ -3,9 +3,8 @@
 use denote.Enum.Declared as E
 use denote.Param.Send.{IsSend, enum_send, sendable}
 use Rattle.std.proofs.Crossing.{crosses}
-use Rattle.std.proofs.collections.LinkedList.TheSendSync as linked
 use Rattle.jm_base.proofs.boxed.Boxed.TheSendSync as boxed
-use Rattle.jm_sends.proofs.Sent.{Asked_send, Channel_send, Key_send, Selector_send, Message_send}
+use Rattle.jm_sends.proofs.Sent.{Channel_send, Definition_send, Key_send, Selector_send, Message_send}
 use Rattle.jm_broker_sends.proofs.Sent.{ClientId_send, ConsumerId_send, ConnectionId_send, SessionId_field}
 use Rattle.jm_core.specs.contracts.receive.Receiver as Receiver
 use Rattle.jm_session.specs.contracts.source.Source as Source
@@ -19,7 +18,7 @@ Source_send : IsSend Source.the_row
 Source_send = search (sendable, crosses, Key_send, Selector_send) depth 60 fits 20000
 
 Decision_send : IsSend Decision.the_row
-Decision_send = search (sendable, crosses, linked.the_send, Key_send, Asked_send, Channel_send) depth 60 fits 20000
+Decision_send = search (sendable, crosses, boxed.the_send, Key_send, Definition_send, Channel_send) depth 60 fits 20000
 
 Publication_send : IsSend Publication.the_row
 Publication_send = search (sendable, crosses, Message_send) depth 60 fits 20000

@@ -3,7 +3,6 @@
 use denote.Param.Send.{IsSend, sendable}
 use Rattle.std.proofs.Crossing.{crosses}
 use Rattle.std.proofs.MapsCrossing as maps
-use Rattle.std.proofs.collections.LinkedList.TheSendSync as linked
 use Rattle.indexmap.proofs.map.IndexMap.TheSendSync as index_map
 use Rattle.jm_dest.specs.contracts.key.Key as Key
 use Rattle.jm_dest.specs.contracts.name.Name as Name
@@ -44,8 +43,6 @@ use Rattle.jm_session.specs.contracts.number.ConsumerNumber as ConsumerNumber
 use Rattle.jm_session.specs.contracts.roster.Roster as Roster
 use Rattle.jm_session.specs.contracts.sessions.Sessions as Sessions
 use Rattle.jm_sub.specs.contracts.channel.Channel as Channel
-use Rattle.jm_sub.specs.contracts.channel.Held as Asked
-use Rattle.jm_sub.specs.contracts.channels.Channels as Channels
 use Rattle.jm_sub.specs.contracts.subs.Subs as Subs
 use Rattle.jm_lane.specs.contracts.row.Row as Row
 use Rattle.jm_lane.specs.contracts.lane.Lane as Lane
@@ -105,10 +102,6 @@ Literal_field = search (sendable, crosses, maps.crosses) depth 60 fits 20000
 pub Channel_send : IsSend Channel.the_row
 Channel_send = search (sendable, crosses, maps.crosses, Name_send, Literal_field) depth 60 fits 20000
 
--- what a subscription asks for, with its channel
-pub Asked_send : IsSend Asked.the_row
-Asked_send = search (sendable, crosses, boxed.the_send, Definition_send, Channel_send) depth 60 fits 20000
-
 pub Row_send : IsSend Row.the_row
 Row_send = search (sendable, crosses, maps.crosses) depth 60 fits 20000
 
@@ -147,16 +140,10 @@ pub Clients_field : IsSend (Clients.the_field).row
 Clients_field = search (sendable, crosses, maps.crosses) depth 60 fits 20000
 
 pub Sessions_send : IsSend Sessions.the_row
-Sessions_send = search (sendable, crosses, index_map.the_send, ConnectionState_send, SessionState_send, Clients_field, Roster_send) depth 60 fits 20000
-
-Asked_field : IsSend (Asked.the_field).row
-Asked_field = search (sendable, crosses, boxed.the_send, Definition_send, Channel_send) depth 60 fits 20000
-
-Channels_field : IsSend (Channels.the_field).row
-Channels_field = search (sendable, crosses, maps.crosses, linked.the_send, Channel_send, Key_send) depth 60 fits 20000
+Sessions_send = search (sendable, crosses, maps.crosses, index_map.the_send, ConnectionState_send, SessionState_send, Clients_field, Roster_send) depth 60 fits 20000
 
 pub Subs_send : IsSend Subs.the_row
-Subs_send = search (sendable, crosses, maps.crosses, Key_send, Asked_field, Channels_field) depth 60 fits 20000
+Subs_send = search (sendable, crosses, maps.crosses, boxed.the_send, Key_send, Definition_send, Channel_send) depth 60 fits 20000
 
 pub CoreState_send : IsSend CoreState.the_row
 CoreState_send = search (sendable, crosses, Sessions_send, Subs_send, Stations_send, Queues_send) depth 60 fits 20000
