@@ -8,7 +8,7 @@ use jm_dest::{
 };
 use jm_header::{Draft, Message, Sender};
 use jm_keep::Keep;
-use jm_kept::step;
+use jm_kept::{publish, step};
 use jm_property::Property;
 use jm_tx::{Sent, SessionHalf};
 use std::alloc::Global;
@@ -277,11 +277,17 @@ impl<K: Keep + Drop> Provider<K> {
     }
 
     fn publish(&mut self, message: Message) -> Result<(), Refusal> {
-        let Ok(mut messages) = Vec::with_capacity(self.alloc, 1) else {
-            return Err(Refusal::Memory);
-        };
-        messages.push_reserved(message);
-        self.make(self.publisher, Call::Publish(List::new(messages)))
+        let publisher = self.publisher;
+        match publish(
+            self.alloc,
+            &mut self.core,
+            &mut self.keeper,
+            publisher,
+            message,
+        ) {
+            Ok(_) => Ok(()),
+            Err(refusal) => Err(refusal),
+        }
     }
 
     /// Commits what was sent and what was received, each in its session.

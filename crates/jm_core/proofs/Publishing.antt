@@ -1,18 +1,15 @@
 -- A publication by indexes is the machine's: it comes to the subscriptions that accept it.
-use Rattle.std.proofs.Common.{◌≡◌, ◌<◌, ◌≤◌, ◌+◌, ◌-◌, ◌==◌, ℕ, Bool, true, false, cond, List, [], ◌∷◌, ◌++◌, map, length, get_or, refl, ap, sym, subst, ◌∙◌, arith, Option, Some, None, zero, suc, nat_eq, take, add-one}
-use Rattle.std.specs.Prelude.{◌||◌, ◌&&◌, filter, position, nat_le, nat_lt, is_some}
-use Rattle.std.specs.List.{All, AllByRecursion, IsDistinct, position_or_len}
-use Rattle.std.proofs.lemmas.Bool.Decides.{nat_tests}
+use Rattle.std.proofs.Common.{◌≡◌, ◌<◌, ◌≤◌, ◌+◌, ◌-◌, ℕ, Bool, true, false, cond, List, [], ◌∷◌, ◌++◌, map, length, get_or, refl, ap, sym, subst, ◌∙◌, arith, Option, Some, None, zero, suc, nat_eq, take, add-one}
+use Rattle.std.specs.Prelude.{◌&&◌, nat_le}
+use Rattle.std.specs.List.{All, IsDistinct}
 use Rattle.std.proofs.Math.Seq.{take-suc}
 use Rattle.std.proofs.lemmas.List.{append-nil, length-map, map-append}
-use Rattle.std.proofs.lemmas.List.Elements.{All-head, All-tail, All-cons, All-nil, All-push}
-use Rattle.std.proofs.lemmas.List.Sums.{fails_before_first}
+use Rattle.std.proofs.lemmas.List.Elements.{All-head, All-tail, All-nil, All-push}
 use Rattle.jm_dest.specs.declared.session.SessionId.{SessionId}
 use Rattle.jm_dest.specs.declared.destination.Destination.{Destination}
 use Rattle.jm_dest.specs.declared.destination.Destination.TheVariants.{Queue, Topic}
 use Rattle.jm_dest.specs.declared.key.Key.{Key}
 use Rattle.jm_dest.specs.declared.key.Key.TheVariants.{Queue as OfQueue}
-use Rattle.jm_dest.specs.Keys.{key_eq}
 use Rattle.jm_header.specs.declared.content.Content.{Content}
 use Rattle.jm_machine.specs.Life.{Life}
 use Rattle.jm_machine.specs.Machine.{Publisher, State, publisher_of, accepts, brought, is_full, is_limited, offered, one_missed, published, queued, with_message, with_rows}
@@ -21,8 +18,8 @@ use Rattle.jm_machine.specs.Rows.{fresh}
 use Rattle.jm_pending.specs.Rows.{is_at_limit}
 use Rattle.jm_stations.specs.Backlogs.{Backlog, IsPublished, HasMoreRoom, is_named, added, settled}
 use Rattle.jm_stations.specs.Stations.{Stations, index_in}
-use Rattle.jm_machine.proofs.Keys.{key_refl}
-use Rattle.jm_sub.specs.Subscriptions.{Subscription, takes, accepting}
+use Rattle.jm_sub.specs.Subscriptions.{Subscription, takes, accepting_places}
+use Rattle.jm_sub.proofs.AcceptingPlaces.{accepting_named, accepting_once, accepting_within}
 use Rattle.jm_core.specs.State.{AreLimited, limit_of, station, stations_of, keys_of}
 use Rattle.jm_core.specs.Steps.{published_stations}
 use Rattle.jm_core.specs.declared.publish.Publication.{Publication}
@@ -30,118 +27,17 @@ use Rattle.jm_core.specs.declared.publish.Goal.{Goal}
 use Rattle.jm_core.specs.declared.publish.Goal.TheVariants as to
 use Rattle.jm_core.specs.Publications.{IsReserved, IsRouted, IsReady, ArePublished, HasMessageRoom, HasRoom, queue_indexes, station_indexes}
 use Rattle.jm_core.specs.Queues.{HaveMoreRoom, IsQueued, published_queues}
-use Rattle.jm_core.proofs.Stations.{found_at, limits_same}
+use Rattle.jm_core.proofs.Stations.{limits_same}
 
--- where a key stands, or how many keys there are
-abbrev place_in : List Key → Key → ℕ
-place_in keys key = position_or_len (λ x. key_eq x key) keys
+-- ---- the places of the subscriptions that accept a message
 
--- ---- the keys of the subscriptions that accept a message
+-- they name those subscriptions
+pub routed : (life : Life) (ss : List Subscription) (m : Content) (is : List ℕ) → is ≡ accepting_places (publisher_of life m) m ss → IsRouted life ss m is
+routed life ss m is same = record { each = λ k d l. ap (λ js. is_named js k) same ∙ accepting_named (publisher_of life m) m ss k d l }
 
-all_filtered : (P : Key → Type 0) (t : Subscription → Bool) (ss : List Subscription) → All P (keys_of ss) → All P (keys_of (filter t ss))
-all_filtered P t [] h = h
-all_filtered P t (s ∷ ss) h = go (t s) (all_filtered P t ss (All-tail P s.key (keys_of ss) h))
-  where
-    go : (b : Bool) → All P (keys_of (filter t ss)) → All P (keys_of (cond b (s ∷ filter t ss) (filter t ss)))
-    go true rest = All-cons P s.key (keys_of (filter t ss)) (All-head P s.key (keys_of ss) h) rest
-    go false rest = rest
-
-apart_filtered : (a : Key) (t : Subscription → Bool) (ss : List Subscription) → AllByRecursion (λ y. key_eq a y ≡ false) (keys_of ss) → AllByRecursion (λ y. key_eq a y ≡ false) (keys_of (filter t ss))
-apart_filtered a t [] h = h
-apart_filtered a t (s ∷ ss) h = go (t s) (apart_filtered a t ss h.1)
-  where
-    go : (b : Bool) → AllByRecursion (λ y. key_eq a y ≡ false) (keys_of (filter t ss)) → AllByRecursion (λ y. key_eq a y ≡ false) (keys_of (cond b (s ∷ filter t ss) (filter t ss)))
-    go true rest = (h.0, rest)
-    go false rest = rest
-
-distinct_filtered : (t : Subscription → Bool) (ss : List Subscription) → IsDistinct key_eq (keys_of ss) → IsDistinct key_eq (keys_of (filter t ss))
-unfolding IsDistinct
-distinct_filtered t [] h = h
-distinct_filtered t (s ∷ ss) h = go (t s) (distinct_filtered t ss h.1)
-  where
-    go : (b : Bool) → IsDistinct key_eq (keys_of (filter t ss)) → IsDistinct key_eq (keys_of (cond b (s ∷ filter t ss) (filter t ss)))
-    go true rest = (apart_filtered s.key t ss h.0, rest)
-    go false rest = rest
-
--- each of some keys stands among them
-stands : (keys : List Key) → All (λ y. is_some (position (λ x. key_eq x y) keys) ≡ true) keys
-stands keys = λ k d l. go (position_or_len (λ x. key_eq x (get_or keys k d)) keys) (fails_before_first (λ x. key_eq x (get_or keys k d)) keys k d) (key_refl (get_or keys k d)) l
-  where
-    test : (n m : ℕ) (b : Bool) → nat_lt n m ≡ b → n < m → is_some (cond b (Some n) None) ≡ true
-    test n m true e h = refl
-    test n m false e h = absurd (grind (arith, nat_tests))
-
-    go : {k : ℕ} {b : Bool} (n : ℕ) → (k < n → b ≡ false) → b ≡ true → k < length keys → is_some (cond (nat_lt n (length keys)) (Some n) None) ≡ true
-    go {k} {b} n fails e l = by (nat_lt k n) refl
-      where
-        by : (c : Bool) → nat_lt k n ≡ c → is_some (cond (nat_lt n (length keys)) (Some n) None) ≡ true
-        by true f = absurd (let less : k < n = grind (arith, nat_tests) in let no = fails less in cc)
-        by false f = test n (length keys) (nat_lt n (length keys)) refl (let more : n ≤ k = grind (arith, nat_tests) in omega (arith, more, l))
-
-pub accepting_stand : (p : Publisher) (m : Content) (ss : List Subscription) (keys : List Key) → keys_of ss ≡ keys → All (λ y. is_some (position (λ x. key_eq x y) keys) ≡ true) (accepting p m ss)
-accepting_stand p m ss keys e =
-    let all = subst (λ (ks : List Key). All (λ y. is_some (position (λ x. key_eq x y) keys) ≡ true) ks) (sym e) (stands keys) in
-    all_filtered (λ y. is_some (position (λ x. key_eq x y) keys) ≡ true) (takes p m) ss all
-
-pub accepting_once : (p : Publisher) (m : Content) (ss : List Subscription) (keys : List Key) → keys_of ss ≡ keys → IsDistinct key_eq keys → IsDistinct key_eq (accepting p m ss)
-accepting_once p m ss keys e h = distinct_filtered (takes p m) ss (subst (IsDistinct key_eq) (sym e) h)
-
--- ---- the indexes of those keys name those subscriptions
-
-places_are : (keys ys : List Key) (is : List ℕ) → map Some is ≡ map (λ y. position (λ x. key_eq x y) keys) ys → is ≡ map (place_in keys) ys
-places_are keys [] [] e = refl
-places_are keys [] (i ∷ is) e = cc
-places_are keys (y ∷ ys) [] e = cc
-places_are keys (y ∷ ys) (i ∷ is) e =
-    let here : position (λ x. key_eq x y) keys ≡ Some i = cc in
-    let later : map Some is ≡ map (λ y. position (λ x. key_eq x y) keys) ys = cc in
-    let at = sym (found_at (λ x. key_eq x y) keys i here).0 in
-    let rest = places_are keys ys is later in
-    λ j. at j ∷ rest j
-
-shifted : (a : Key) (keys ys : List Key) → AllByRecursion (λ y. key_eq a y ≡ false) ys → map (place_in (a ∷ keys)) ys ≡ map suc (map (place_in keys) ys)
-shifted a keys [] h = refl
-shifted a keys (y ∷ ys) h =
-    let here : place_in (a ∷ keys) y ≡ suc (place_in keys y) = rw h.0 (omega arith) in
-    let rest = shifted a keys ys h.1 in
-    λ j. here j ∷ rest j
-
-named_first : (is : List ℕ) → is_named (map suc is) 0 ≡ false
-named_first [] = refl
-named_first (i ∷ is) = rw (named_first is) (grind (arith, nat_tests))
-
-named_later : (is : List ℕ) (k : ℕ) → is_named (map suc is) (suc k) ≡ is_named is k
-named_later [] k = refl
-named_later (i ∷ is) k = let here : (suc i == suc k) ≡ (i == k) = grind (arith, nat_tests) in let rest = named_later is k in λ j. here j || rest j
-
-named_places : (t : Subscription → Bool) (ss : List Subscription) (k : ℕ) (d : Subscription) → IsDistinct key_eq (keys_of ss) → k < length ss → is_named (map (place_in (keys_of ss)) (keys_of (filter t ss))) k ≡ t (get_or ss k d)
-unfolding IsDistinct
-named_places t [] k d h l = absurd (omega arith)
-named_places t (s ∷ ss) k d h l = go (t s) refl (λ j within. named_places t ss j d h.1 within) k l
-  where
-    places : map (place_in (s.key ∷ keys_of ss)) (keys_of (filter t ss)) ≡ map suc (map (place_in (keys_of ss)) (keys_of (filter t ss)))
-    places = shifted s.key (keys_of ss) (keys_of (filter t ss)) (apart_filtered s.key t ss h.0)
-
-    first : place_in (s.key ∷ keys_of ss) s.key ≡ 0
-    first = rw (key_refl s.key) refl
-
-    go : (b : Bool) → t s ≡ b → ((j : ℕ) → j < length ss → is_named (map (place_in (keys_of ss)) (keys_of (filter t ss))) j ≡ t (get_or ss j d)) →
-        (k : ℕ) → k < length (s ∷ ss) → is_named (map (place_in (s.key ∷ keys_of ss)) (keys_of (cond b (s ∷ filter t ss) (filter t ss)))) k ≡ t (get_or (s ∷ ss) k d)
-    go true e later zero l = ap (λ n. (n == 0) || is_named (map (place_in (s.key ∷ keys_of ss)) (keys_of (filter t ss))) 0) first ∙ sym e
-    go true e later (suc k) l =
-        ap (λ n. (n == suc k) || is_named (map (place_in (s.key ∷ keys_of ss)) (keys_of (filter t ss))) (suc k)) first
-        ∙ (let none : (0 == suc k) ≡ false = grind (arith, nat_tests) in ap (λ b. b || is_named (map (place_in (s.key ∷ keys_of ss)) (keys_of (filter t ss))) (suc k)) none)
-        ∙ ap (λ is. is_named is (suc k)) places ∙ named_later (map (place_in (keys_of ss)) (keys_of (filter t ss))) k ∙ later k (omega arith)
-    go false e later zero l = ap (λ is. is_named is 0) places ∙ named_first (map (place_in (keys_of ss)) (keys_of (filter t ss))) ∙ sym e
-    go false e later (suc k) l = ap (λ is. is_named is (suc k)) places ∙ named_later (map (place_in (keys_of ss)) (keys_of (filter t ss))) k ∙ later k (omega arith)
-
-pub routed : (life : Life) (ss : List Subscription) (keys : List Key) (m : Content) (accepted : List Key) (is : List ℕ) → keys_of ss ≡ keys → IsDistinct key_eq keys → accepted ≡ accepting (publisher_of life m) m ss → map Some is ≡ map (λ y. position (λ x. key_eq x y) keys) accepted → IsRouted life ss m is
-routed life ss keys m accepted is e h a s = record {
-  each = λ k d l.
-      let p = publisher_of life m in
-      let at : is ≡ map (place_in (keys_of ss)) (accepting p m ss) = rw (e, ← a) (places_are keys accepted is s) in
-      ap (λ js. is_named js k) at ∙ named_places (takes p m) ss k d (subst (IsDistinct key_eq) (sym e) h) l;
-}
+-- what is held for them stands there too
+pub places_within : (p : Publisher) (m : Content) (ss : List Subscription) (list : List Backlog) (is : List ℕ) → is ≡ accepting_places p m ss → length list ≡ length ss → All (λ i. i < length list) is
+places_within p m ss list is same number = subst (λ n. All (λ i. i < n) is) (sym number) (subst (All (λ i. i < length ss)) (sym same) (accepting_within p m ss))
 
 -- no subscription accepts what is sent to a queue
 pub none_routed : (life : Life) (ss : List Subscription) (m : Content) (name : List ℕ) → m.destination ≡ Queue name → IsRouted life ss m []
@@ -257,12 +153,12 @@ pub none_reserved : (n : ℕ) (list : List Backlog) → IsReserved n list []
 unfolding IsDistinct
 none_reserved n list = record { within = All-nil (λ i. i < length list); once = tt; room = All-nil (λ i. (d : Backlog) → n ≤ (get_or list i d).room) }
 
--- where the indexes of the keys that accept a message were found, and room was made there, it is reserved
-pub reserved_there : (n : ℕ) (p : Publisher) (m : Content) (ss : List Subscription) (keys : List Key) (old new : List Backlog) (accepted : List Key) (is : List ℕ) → keys_of ss ≡ keys → IsDistinct key_eq keys → accepted ≡ accepting p m ss →
-    All (λ i. i < length old) is → (IsDistinct key_eq accepted → IsDistinct nat_eq is) → HasMoreRoom old new → All (λ i. (d : Backlog) → n ≤ (get_or new i d).room) is → IsReserved n new is
-reserved_there n p m ss keys old new accepted is e h a within once more room = record {
-  within = λ k d l. let was = within k d l in omega (arith, more.number, was);
-  once = once (subst (IsDistinct key_eq) (sym a) (accepting_once p m ss keys e h));
+-- where room was made at the places of the subscriptions that accept a message, it is reserved
+pub reserved_there : (n : ℕ) (p : Publisher) (m : Content) (ss : List Subscription) (old new : List Backlog) (is : List ℕ) → is ≡ accepting_places p m ss → length old ≡ length ss →
+    HasMoreRoom old new → All (λ i. (d : Backlog) → n ≤ (get_or new i d).room) is → IsReserved n new is
+reserved_there n p m ss old new is same number more room = record {
+  within = places_within p m ss new is same (more.number ∙ number);
+  once = subst (IsDistinct nat_eq) (sym same) (accepting_once p m ss);
   room = room;
 }
 

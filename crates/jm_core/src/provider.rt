@@ -1,6 +1,8 @@
-ghost use Rattle.std.specs.Prelude.{◌≡◌, ℕ, List, length, true, false, if◌then◌else◌, MatchResult, IfOk, IfErr, OnErr};
+ghost use Rattle.std.specs.Prelude.{◌≡◌, ◌∷◌, [], ℕ, List, length, true, false, if◌then◌else◌, MatchResult, IfOk, IfErr, OnErr};
 ghost use Rattle.std.specs.Option.{option_copied};
 ghost use Rattle.jm_base.specs.declared.refusal.Refusal.TheVariants.{Memory, OutOfRange};
+ghost use Rattle.jm_machine.specs.declared.call.Call.TheVariants.{Publish};
+ghost use Rattle.jm_machine.specs.declared.call.Who.TheVariants.{Session};
 ghost use Rattle.jm_machine.specs.Machine as machine;
 ghost use Rattle.jm_machine.specs.Client.{Progress, begun, RunOwed};
 ghost use Rattle.jm_machine.specs.Isolation.{AreIsolated, Reached};
@@ -19,7 +21,8 @@ use crate::plan::Plan;
 use crate::state::CoreState;
 use crate::stored::{StoredMessage, StoredSubscription};
 use jm_base::Refusal;
-use jm_dest::{Key, Name, Number};
+use jm_dest::{Key, Name, Number, SessionId};
+use jm_header::Message;
 use jm_law::law_isolation_of_runs;
 use jm_machine::{
     Answer, ClientCall, ConnectionState, Consumer, Definition, PlacedRow, Reply, SessionState,
@@ -280,6 +283,14 @@ impl Core {
     {
         let plan = self.plan(step)?;
         Ok(self.install(plan))
+    }
+
+    /// Publishes one message that the session stamped, as `step` makes a `Publish` of it alone; but the message is moved to
+    /// where it is held, and not copied. A refusal, as `step` says, drops the message, and leaves the core as it was.
+    pub fn publish(&mut self, session: &SessionId, message: Message) -> Result<Answer, Refusal>
+        ensures { StepFits (state_of self.old) (Session session.now) (Publish (message ∷ [])) result (state_of self.new) }
+    {
+        self.state.publish(session, message)
     }
 
     /// Makes the calls in turn, and gives the reply to each. The numbers of each session's sends count from 1 at the

@@ -10,14 +10,14 @@ ghost use Rattle.jm_dest.specs.Keys.{key_eq};
 ghost use Rattle.jm_machine.specs.Machine.{places_end, publisher_of, queued};
 ghost use Rattle.jm_stations.specs.Backlogs.{HasMoreRoom, IsPublished};
 ghost use Rattle.jm_stations.specs.Stations.{index_in};
-ghost use Rattle.jm_sub.specs.Subscriptions.{accepting};
+ghost use Rattle.jm_sub.specs.Subscriptions.{accepting_places};
 ghost use Rattle.jm_core.specs.State.{keys_of};
 ghost use Rattle.jm_core.specs.Queues.{HaveMoreRoom, IsQueued, published_queues, rows_in};
 ghost use Rattle.jm_core.specs.Publications.{ArePublished, HasRoom, IsReady, IsReserved, IsRouted, queue_indexes, station_indexes};
 
 use crate::queues::Queues;
 use jm_base::Refusal;
-use jm_dest::{Destination, Key};
+use jm_dest::Destination;
 use jm_header::Message;
 use jm_session::Sessions;
 use jm_stations::Stations;
@@ -40,17 +40,22 @@ pub(crate) struct Publication {
     pub goal: Goal,
 }
 
-/// The keys of the subscriptions that accept the message of its publisher.
-fn keys_accepting(sessions: &Sessions, subs: &Subs, message: &Message) -> Result<Vec<Key>, Refusal>
-    ensures ok { IfOk result (λ keys.
-        keys.items ≡ accepting (publisher_of sessions.now.life message.now) message.now subs.now.list) }
+/// Where the subscriptions stand that accept the message of its publisher.
+fn places_accepting(
+    sessions: &Sessions,
+    subs: &Subs,
+    message: &Message,
+) -> Result<Vec<usize>, Refusal>
+    ensures ok { IfOk result (λ places.
+        places.items ≡ accepting_places (publisher_of sessions.now.life message.now) message.now subs.now.list) }
     ensures err { IfErr result (λ refusal. refusal ≡ Memory) }
 {
     let client = sessions.client_of(message.sender().session.connection);
-    subs.accepting(message, client)
+    subs.accepting_places(message, client)
 }
 
-/// Finds the subscriptions that accept the message of its publisher, and makes room for that many more messages there.
+/// Finds the subscriptions that accept the message of its publisher, and makes room for that many more messages there: what is
+/// held for a subscription stands at the same index.
 fn prepare_subscriptions(
     sessions: &Sessions,
     subs: &Subs,
@@ -70,8 +75,7 @@ fn prepare_subscriptions(
     ensures next_place { stations.new.next_place ≡ stations.old.next_place }
     ensures room { stations.old.message_room ≤ stations.new.message_room }
 {
-    let keys = keys_accepting(sessions, subs, message)?;
-    let indexes = stations.indexes_of(&keys)?;
+    let indexes = places_accepting(sessions, subs, message)?;
     stations.reserve(&indexes, additional)?;
     Ok(indexes)
 }

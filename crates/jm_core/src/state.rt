@@ -415,6 +415,20 @@ impl CoreState {
         self.publish_one(message)
     }
 
+    /// Publishes a message that the session stamped, and answers.
+    pub(crate) fn publish(
+        &mut self,
+        session: &SessionId,
+        message: Message,
+    ) -> Result<Answer, Refusal>
+        ensures { StepFits (state_of self.old) (Who.Session session.now) (Call.Publish (message ∷ [])) result (state_of self.new) }
+    {
+        match self.publish_one_from(session, message) {
+            Ok(()) => Ok(Answer::Done),
+            Err(refusal) => Err(refusal),
+        }
+    }
+
     /// Commits the transaction of the session, which sent those messages in it.
     pub(crate) fn commit_from(
         &mut self,

@@ -10,7 +10,7 @@ ghost use Rattle.jm_kept.specs.Runs.{CallKept, StampKept, kept_past, messages_in
 ghost use Rattle.jm_machine.specs.Entries as entries;
 ghost use Rattle.jm_tx.specs.Halves.{kept_of, room, sent_of};
 
-use crate::steps::step;
+use crate::steps::{publish, step};
 use jm_base::{List, Refusal};
 use jm_core::{Answer, Call, ClientCall, Core, Reply, Request, Step, Who, drop_ended};
 use jm_dest::{Destination, Moment, SessionId};
@@ -67,32 +67,6 @@ fn ask<K: Keep>(
     let told = step(alloc, core, keeper, &asked);
     drop_past(halves, &asked, &told);
     told
-}
-
-/// Publishes a message that the session stamped.
-fn publish<K: Keep>(
-    alloc: Global,
-    core: &mut Core,
-    keeper: &mut K,
-    session: SessionId,
-    message: Message,
-) -> Reply
-    ensures fits { KeptFits (state_of core.old) (Who.Session session) (Call.Publish (message ∷ [])) result (state_of core.new) }
-    ensures store { IsErrOf result Refusal.Store → HasRisen (K.faults keeper.old) (K.faults keeper.new) }
-    ensures faults { K.faults keeper.old ≤ K.faults keeper.new }
-    ensures clean { IsTrue (K.is_clean keeper.new) → IsTrue (K.is_clean keeper.old) }
-    ensures kept { IsTrue (K.is_clean keeper.new) → IsPersisted (state_of core.old) (K.stored keeper.old) →
-        IsPersisted (state_of core.new) (K.stored keeper.new) }
-{
-    let mut messages = List::new(Vec::new(alloc));
-    if messages.push(message).is_err() {
-        return Err(Refusal::Memory);
-    }
-    let published = Step {
-        who: Who::Session(session),
-        call: Call::Publish(messages),
-    };
-    step(alloc, core, keeper, &published)
 }
 
 /// Stamps a message of the session, where it is open, to be published; or keeps it for the commit. With room, only what

@@ -11,7 +11,8 @@
 //! nothing is listed or written, and `Memory` comes only to a call that takes memory. With a keeper that keeps,
 //! `Memory` also comes where listing the changes or writing them wanted memory. `step` lists by `jm_listed`; a keeper
 //! that keeps nothing is as before, and one that is clean after was clean before. Where nothing is listed the keeper is not
-//! called, though no clause says so.
+//! called, though no clause says so. `publish` is `step` for one message that is published, which it takes by value, so that none
+//! is copied where nothing is kept.
 //!
 //! `run` makes a list of client calls so, and its replies and end state are what a run over a keeper owes
 //! (`RunKept`): each reply is the machine's and the run goes on, or it is `Memory` or `Store`, and state and
@@ -28,4 +29,4 @@ mod runs;
 mod steps;
 
 pub use runs::run;
-pub use steps::{step, step_without_store};
+pub use steps::{publish, step, step_without_store};

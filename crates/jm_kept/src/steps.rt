@@ -1,6 +1,6 @@
 //! Steps whose changes a keeper keeps.
 
-ghost use Rattle.std.specs.Prelude.{◌≡◌, ◌≤◌, false, true, Err, IsTrue, IfErr, OnOk, OnErr, IsErrOf};
+ghost use Rattle.std.specs.Prelude.{◌≡◌, ◌≤◌, [], ◌∷◌, false, true, Err, IsTrue, IfErr, OnOk, OnErr, IsErrOf};
 ghost use Rattle.jm_core.specs.Plans.{IsPlan};
 ghost use Rattle.jm_core.specs.Provider.{state_of};
 ghost use Rattle.jm_core.specs.Steps.{StepFits};
@@ -10,8 +10,10 @@ ghost use Rattle.jm_kept.specs.Kept.{KeptFits};
 ghost use Rattle.jm_machine.specs.Entries.{is_not_made};
 ghost use Rattle.jm_machine.specs.Machine as machine;
 
-use jm_base::Refusal;
-use jm_core::{Answer, Core, Plan, Step};
+use jm_base::{List, Refusal};
+use jm_core::{Answer, Call, Core, Plan, Step, Who};
+use jm_dest::SessionId;
+use jm_header::Message;
 use jm_keep::{Keep, RowChange, StoreFault};
 use jm_listed::changes;
 use std::alloc::Global;
@@ -105,4 +107,37 @@ pub fn step<K: Keep>(
     };
     keep(alloc, core, keeper, step, &plan)?;
     Ok(core.install(plan))
+}
+
+/// Publishes one message that the session stamped, as `step` makes a `Publish` of it alone, with its refusals; a refusal drops
+/// the message. Over a keeper that keeps nothing the message is moved to where it is held, and not copied.
+pub fn publish<K: Keep>(
+    alloc: Global,
+    core: &mut Core,
+    keeper: &mut K,
+    session: SessionId,
+    message: Message,
+) -> Result<Answer, Refusal>
+    ensures fits { KeptFits (state_of core.old) (Who.Session session) (Call.Publish (message ∷ [])) result (state_of core.new) }
+    ensures without { K.is_keeping keeper.old ≡ false →
+        StepFits (state_of core.old) (Who.Session session) (Call.Publish (message ∷ [])) result (state_of core.new) }
+    ensures alone { K.is_keeping keeper.old ≡ false → keeper.new ≡ keeper.old }
+    ensures store { IsErrOf result Refusal.Store → HasRisen (K.faults keeper.old) (K.faults keeper.new) }
+    ensures faults { K.faults keeper.old ≤ K.faults keeper.new }
+    ensures clean { IsTrue (K.is_clean keeper.new) → IsTrue (K.is_clean keeper.old) }
+    ensures kept { IsTrue (K.is_clean keeper.new) → IsPersisted (state_of core.old) (K.stored keeper.old) →
+        IsPersisted (state_of core.new) (K.stored keeper.new) }
+{
+    if !keeper.keeps() {
+        return core.publish(&session, message);
+    }
+    let mut messages = List::new(Vec::new(alloc));
+    if messages.push(message).is_err() {
+        return Err(Refusal::Memory);
+    }
+    let published = Step {
+        who: Who::Session(session),
+        call: Call::Publish(messages),
+    };
+    step(alloc, core, keeper, &published)
 }

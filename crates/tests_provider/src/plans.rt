@@ -1,11 +1,13 @@
-//! Plans: to plan a step and to install it is to make it, and a plan that is let go leaves the core as it was.
+//! Plans: to plan a step and to install it is to make it, and a plan that is let go leaves the core as it was. To publish a
+//! message that is moved is to make that step, too.
 
 use crate::ops::OPS;
 use crate::runs::has_run;
 use crate::told::is_true;
 use jm_base::{List, Mode, Refusal};
 use jm_core::{Call, Core, Reply, Station, Step, Who};
-use jm_dest::{Key, Name};
+use jm_dest::{Key, Name, SessionId};
+use jm_header::Message;
 use jm_machine::{ClientCall, same_reply};
 use std::alloc::Global;
 use tests_calls::{At, Kind, Op, call, publication};
@@ -94,11 +96,38 @@ fn planned(core: &mut Core, step: &Step) -> Reply {
     Ok(core.install(plan))
 }
 
+/// Publishes a copy of the one message that there is.
+fn publish(core: &mut Core, session: &SessionId, messages: &[Message]) -> Reply {
+    let [message] = messages else {
+        return Err(Refusal::Store);
+    };
+    match message.copy() {
+        Ok(copy) => core.publish(session, copy),
+        Err(_) => Err(Refusal::Memory),
+    }
+}
+
+/// Makes the step of a session.
+fn made_by(core: &mut Core, session: &SessionId, step: &Step) -> Reply {
+    match &step.call {
+        Call::Publish(messages) => publish(core, session, messages.as_slice()),
+        Call::Ask(_) | Call::Commit(_) => core.step(step),
+    }
+}
+
+/// Makes the step; that of a publication moves its message.
+fn made(core: &mut Core, step: &Step) -> Reply {
+    match &step.who {
+        Who::Session(session) => made_by(core, session, step),
+        Who::Connection(_) => core.step(step),
+    }
+}
+
 /// Whether the step, planned and installed on the one core, does what it does on the other; before that a plan of it is let
 /// go.
 fn is_planned(one: &mut Core, other: &mut Core, step: &Step) -> bool {
     is_left(one, other, step)
-        && same_reply(&planned(one, step), &other.step(step))
+        && same_reply(&planned(one, step), &made(other, step))
         && show_the_same(one, other)
 }
 
