@@ -18,3 +18,6 @@ returns-in-Ok-clause-told g c =
 
 pub returns-in-Ok-clause-clean : goal.returns-in-Ok-clause-clean
 returns-in-Ok-clause-clean g c = λ k. c.printout_over-told.ensures.clean (rw c.into_connection.ensures.same at k)
+
+pub returns-clause-clean : goal.returns-clause-clean
+returns-clause-clean g c = λ k. c.printout_over-told.ensures.clean (rw c.into_connection.ensures.same at k)
