@@ -14,7 +14,7 @@ use Rattle.jm_machine.specs.declared.state.PlacedRow.{PlacedRow}
 use Rattle.jm_machine.specs.declared.state.Station.{Station}
 use Rattle.jm_machine.specs.Attached.{AllOwn, AreCounted, Counts, IsOfSubscription, IsOwn}
 use Rattle.jm_machine.specs.Rows.{is_out}
-use Rattle.jm_machine.specs.Machine.{are_meant, closed_consumer, consumer_of, ends, has_number, key_at, is_client, of_session, returned_rows, settled_rows, with_rows}
+use Rattle.jm_machine.specs.Machine.{are_meant, closed_consumer, consumer_of, ends, has_number, key_at, is_client, of_session, returned_rows, settled_rows, shut, with_rows}
 use Rattle.jm_stations.specs.Backlogs.{Backlog, kept_under, settled}
 use Rattle.jm_machine.proofs.Ends.{ends_so}
 use Rattle.jm_sub.specs.Subscriptions.{Subscription}
@@ -31,7 +31,7 @@ own_closed : (p : SessionId → ℕ → Bool) (xs : List Consumer) → AllOwn xs
 own_closed p [] k = tt
 own_closed p (x ∷ xs) k = (go (p x.session x.id), own_closed p xs k.1)
   where
-    go : (b : Bool) → IsOwn (cond b (record x { is_active = false }) x).session (cond b (record x { is_active = false }) x).id (cond b (record x { is_active = false }) x).key
+    go : (b : Bool) → IsOwn (cond b (shut x) x).session (cond b (shut x) x).id (cond b (shut x) x).key
     go true = k.0
     go false = k.0
 
@@ -44,8 +44,8 @@ key_closed p s c (x ∷ xs) = go (p x.session x.id) (key_closed p s c xs)
     pick false a b m n k e = e
 
     go : (b : Bool) → key_at (consumer_of (map (closed_consumer p) xs) s c) ≡ key_at (consumer_of xs s c) →
-        key_at (cond (has_number s c (cond b (record x { is_active = false }) x)) (Some (cond b (record x { is_active = false }) x)) (consumer_of (map (closed_consumer p) xs) s c)) ≡ key_at (cond (has_number s c x) (Some x) (consumer_of xs s c))
-    go true e = pick (has_number s c x) (record x { is_active = false }) x (consumer_of (map (closed_consumer p) xs) s c) (consumer_of xs s c) refl e
+        key_at (cond (has_number s c (cond b (shut x) x)) (Some (cond b (shut x) x)) (consumer_of (map (closed_consumer p) xs) s c)) ≡ key_at (cond (has_number s c x) (Some x) (consumer_of xs s c))
+    go true e = pick (has_number s c x) (shut x) x (consumer_of (map (closed_consumer p) xs) s c) (consumer_of xs s c) refl e
     go false e = pick (has_number s c x) x x (consumer_of (map (closed_consumer p) xs) s c) (consumer_of xs s c) refl e
 
 made_closed : (p : SessionId → ℕ → Bool) (xs : List Consumer) (k : Key) → IsOfSubscription xs k → IsOfSubscription (map (closed_consumer p) xs) k

@@ -16,7 +16,7 @@ use Rattle.jm_machine.specs.declared.state.Row.{Row}
 use Rattle.jm_machine.specs.declared.state.RowState.{RowState}
 use Rattle.jm_machine.specs.declared.state.RowState.TheVariants.{Waiting, Out}
 use Rattle.jm_machine.specs.Owns.{is_own}
-use Rattle.jm_machine.specs.Machine.{has_number, consumer_of, is_active, key_at, closed_consumer, listening_if, busy_if, is_one_of, ends, State, station_of, rows_of}
+use Rattle.jm_machine.specs.Machine.{has_number, consumer_of, is_active, key_at, shut, closed_consumer, listening_if, busy_if, is_one_of, ends, State, station_of, rows_of}
 use Rattle.jm_machine.specs.Lone.{Scope, belongs, names_key, deletes_key}
 use Rattle.jm_machine.specs.Life.{Life, client_of, mode_of}
 use Rattle.jm_machine.specs.Entries.{life_after_entry}
@@ -162,7 +162,7 @@ abbrev pub Passes : Scope → (SessionId → ℕ → Bool) → Type 0
 Passes S p = (s : SessionId) (c : ℕ) → belongs S s c ≡ true → p s c ≡ false
 
 pub closed_out : (S : Scope) (p : SessionId → ℕ → Bool) → Passes S p → (xs : List Consumer) → Placed S xs → filter (λ x. key_eq x.key S.key) (map (closed_consumer p) xs) ≡ filter (λ x. key_eq x.key S.key) xs
-closed_out S p h xs q = kept_out S (closed_consumer p) (closed_keeps p) (λ x b. ap (λ (v : Bool). cond v (record x { is_active = false }) x) (h x.session x.id b)) xs q
+closed_out S p h xs q = kept_out S (closed_consumer p) (closed_keeps p) (λ x b. ap (λ (v : Bool). cond v (shut x) x) (h x.session x.id b)) xs q
 
 -- the key's consumers say whether it ends
 one_in : (p : SessionId → ℕ → Bool) (k : Key) (xs : List Consumer) → is_one_of p (filter (λ x. key_eq x.key k) xs) k ≡ is_one_of p xs k

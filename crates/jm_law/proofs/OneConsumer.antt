@@ -27,7 +27,7 @@ use Rattle.jm_machine.specs.declared.state.Station.{Station}
 use Rattle.jm_machine.specs.Life.{client_of, is_started, mode_of}
 use Rattle.jm_machine.specs.Rows.{fresh, left_of, taken, settles_at_once, deliver_placed}
 use Rattle.jm_machine.specs.Attached.{is_at, active_at}
-use Rattle.jm_machine.specs.Machine.{State, Publisher, publisher_of, accepts, is_full, one_missed, brought, offered, with_message, published, with_rows, at_key, station_of, definition_of, consumer_of, key_at, selected_by, new_consumer, standing_as, defined, durable_of, shared_of, asked, same_definition, is_same, is_same_kind, same_mark, is_idle, is_home, is_free, may_resume, put, joined, subscribed, deleted, of_session, of_connection, of_number, settled_rows, returned_rows, settled, returned, closed_consumer, ends, closed, with_life, is_client, receive, listening_if, busy_if, set_busy, is_coming, take, done_rows, with_done, rows_under, held, Holding, holding_of, is_of_topic, may_begin, subscription_refusal, same_selector, unless, first_cause, refusal, publish_refusal, commit_refusal, after, after_commit, moved, step}
+use Rattle.jm_machine.specs.Machine.{State, Publisher, publisher_of, accepts, is_full, one_missed, brought, offered, with_message, published, with_rows, at_key, station_of, definition_of, consumer_of, key_at, selected_by, new_consumer, standing_as, defined, durable_of, shared_of, asked, same_definition, is_same, is_same_kind, same_mark, is_idle, is_home, is_free, may_resume, put, joined, subscribed, deleted, of_session, of_connection, of_number, settled_rows, returned_rows, settled, returned, shut, closed_consumer, ends, closed, with_life, is_client, receive, listening_if, busy_if, set_busy, is_coming, take, done_rows, with_done, rows_under, held, Holding, holding_of, is_of_topic, may_begin, subscription_refusal, same_selector, unless, first_cause, refusal, publish_refusal, commit_refusal, after, after_commit, moved, step}
 use Rattle.jm_machine.specs.Isolation.{Reached, is_shared}
 use Rattle.jm_machine.specs.Isolation.Reached.{New, Reopened, Stepped}
 use Rattle.jm_law.specs.OneConsumer.{OneConsumerEach}
@@ -66,7 +66,7 @@ last_false false h = h
 still_at : (k : Key) (p : SessionId → ℕ → Bool) (x : Consumer) → is_at k (closed_consumer p x) ≡ true → is_at k x ≡ true
 still_at k p x = go (p x.session x.id)
   where
-    go : (b : Bool) → is_at k (cond b (record x { is_active = false }) x) ≡ true → is_at k x ≡ true
+    go : (b : Bool) → is_at k (cond b (shut x) x) ≡ true → is_at k x ≡ true
     go true h = let i = last_false (key_eq x.key k) h in cc
     go false h = h
 

@@ -82,7 +82,7 @@ fn close_among(consumer: &mut Consumer, which: &Consumers)
     ensures { consumer.new ≡ machine.closed_consumer (machine.are_meant which.now) consumer.old }
 {
     if which.include(&consumer.session, consumer.id) {
-        consumer.is_active = false;
+        consumer.close();
     }
 }
 

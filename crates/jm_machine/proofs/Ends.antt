@@ -9,7 +9,7 @@ use Rattle.jm_dest.specs.Keys.{key_eq}
 use Rattle.jm_machine.specs.declared.consumers.Consumers.{Consumers}
 use Rattle.jm_machine.specs.declared.state.Consumer.{Consumer}
 use Rattle.jm_machine.specs.Attached.{AllOwn, AreCounted, Counts, IsOfSubscription, IsOwn, active_at, ended, is_at}
-use Rattle.jm_machine.specs.Machine.{are_meant, closed_consumer, consumer_of, ends, has_number, is_left, is_one_of, key_at}
+use Rattle.jm_machine.specs.Machine.{are_meant, closed_consumer, consumer_of, ends, has_number, is_left, is_one_of, key_at, shut}
 use Rattle.jm_machine.proofs.Keys.{key_refl, key_same}
 
 -- a consumer whose key is own has the numbers that the key says
@@ -70,7 +70,7 @@ none_left p key (x ∷ xs) = go (p x.session x.id) (none_left p key xs)
     left : List Consumer
     left = filter (is_at key) (map (closed_consumer p) xs)
 
-    closed : (k a : Bool) → (length left == 0) ≡ not (is_left p xs key) → (length (cond (k && false) (record x { is_active = false } ∷ left) left) == 0) ≡ not ((k && (a && false)) || is_left p xs key)
+    closed : (k a : Bool) → (length left == 0) ≡ not (is_left p xs key) → (length (cond (k && false) (shut x ∷ left) left) == 0) ≡ not ((k && (a && false)) || is_left p xs key)
     closed true true r = r
     closed true false r = r
     closed false a r = r
@@ -81,7 +81,7 @@ none_left p key (x ∷ xs) = go (p x.session x.id) (none_left p key xs)
     open_one false a r = r
 
     go : (b : Bool) → (length left == 0) ≡ not (is_left p xs key) →
-        (length (cond (is_at key (cond b (record x { is_active = false }) x)) (cond b (record x { is_active = false }) x ∷ left) left) == 0) ≡ not ((key_eq x.key key && (x.is_active && not b)) || is_left p xs key)
+        (length (cond (is_at key (cond b (shut x) x)) (cond b (shut x) x ∷ left) left) == 0) ≡ not ((key_eq x.key key && (x.is_active && not b)) || is_left p xs key)
     go true r = closed (key_eq x.key key) x.is_active r
     go false r = open_one (key_eq x.key key) x.is_active r
 

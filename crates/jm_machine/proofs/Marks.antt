@@ -2,7 +2,7 @@
 use Rattle.std.proofs.Common.{◌≡◌, ℕ, Bool, true, false, cond, refl}
 use Rattle.jm_dest.specs.declared.session.SessionId.{SessionId}
 use Rattle.jm_machine.specs.declared.state.Consumer.{Consumer}
-use Rattle.jm_machine.specs.Machine.{has_number, closed_consumer, listening_if, busy_if}
+use Rattle.jm_machine.specs.Machine.{has_number, closed_consumer, listening_if, busy_if, shut}
 
 -- a change keeps a consumer's key and number
 pub record KeepsName (f : Consumer → Consumer) : Type 0 where
@@ -26,9 +26,9 @@ busy_keeps s c on = record {
 
 pub closed_keeps : (p : SessionId → ℕ → Bool) → KeepsName (closed_consumer p)
 closed_keeps p = record {
-  key = λ x. elim (p x.session x.id) as (λ b. (cond b (record x { is_active = false }) x).key ≡ x.key) [ true ↦ refl | false ↦ refl ];
-  session = λ x. elim (p x.session x.id) as (λ b. (cond b (record x { is_active = false }) x).session ≡ x.session) [ true ↦ refl | false ↦ refl ];
-  id = λ x. elim (p x.session x.id) as (λ b. (cond b (record x { is_active = false }) x).id ≡ x.id) [ true ↦ refl | false ↦ refl ];
+  key = λ x. elim (p x.session x.id) as (λ b. (cond b (shut x) x).key ≡ x.key) [ true ↦ refl | false ↦ refl ];
+  session = λ x. elim (p x.session x.id) as (λ b. (cond b (shut x) x).session ≡ x.session) [ true ↦ refl | false ↦ refl ];
+  id = λ x. elim (p x.session x.id) as (λ b. (cond b (shut x) x).id ≡ x.id) [ true ↦ refl | false ↦ refl ];
 }
 
 -- neither opens nor closes a consumer

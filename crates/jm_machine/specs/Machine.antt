@@ -363,9 +363,14 @@ returned p state = record state {
   queues = at_queues (returned_rows p) state.queues;
 }
 
+-- a consumer as it closes: it is known by its number, its key and its marks, and has no selector; one that was closed stays
+-- as it is
+abbrev pub shut : Consumer → Consumer
+shut x = record x { is_active = false; selector = if x.is_active then None else x.selector }
+
 -- a consumer, closed where it passes
 abbrev pub closed_consumer : (SessionId → ℕ → Bool) → Consumer → Consumer
-closed_consumer p x = if p x.session x.id then record x { is_active = false } else x
+closed_consumer p x = if p x.session x.id then shut x else x
 
 -- a consumer of the key is among those that pass
 abbrev pub is_one_of : (SessionId → ℕ → Bool) → List Consumer → Key → Bool

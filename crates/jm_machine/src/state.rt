@@ -36,7 +36,7 @@ pub struct Consumer {
     pub key: Key,
     /// Which messages of a queue it takes; that of a topic's consumer stands with the subscription.
     pub selector: Selector,
-    /// A consumer that was closed stays known, and is not made again.
+    /// A consumer that was closed stays known, without its selector, and is not made again.
     pub is_active: bool,
     /// Whether its listener was set, and not taken away since.
     pub is_listening: bool,
@@ -114,6 +114,17 @@ impl Consumer {
         ensures { IfOk result (λ copy. copy ≡ self.now) }
     {
         Consumer::clone(self)
+    }
+
+    /// Closes it: its number, its key and its marks stay, and its selector goes. One that was closed stays as it is. Takes no
+    /// memory.
+    pub fn close(&mut self)
+        ensures { self.new ≡ machine.shut self.old }
+    {
+        if self.is_active {
+            self.is_active = false;
+            self.selector.clear();
+        }
     }
 }
 

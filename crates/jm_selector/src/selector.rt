@@ -136,6 +136,13 @@ impl Selector {
         })
     }
 
+    /// Lets it go: there is none from then on. Takes no memory.
+    pub fn clear(&mut self)
+        ensures { self.new ≡ None }
+    {
+        *self = Selector::none(self.alloc);
+    }
+
     /// Whether there is none: it selects every message.
     pub fn is_none(&self) -> bool
         ensures { result ≡ is_none self.now }

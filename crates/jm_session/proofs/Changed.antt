@@ -11,7 +11,7 @@ use Rattle.jm_dest.specs.Names.{session_eq}
 use Rattle.jm_machine.specs.declared.state.Consumer.{Consumer}
 use Rattle.jm_machine.specs.declared.state.SessionState.{SessionState}
 use Rattle.jm_machine.specs.Life.{closed_where}
-use Rattle.jm_machine.specs.Machine.{closed_consumer}
+use Rattle.jm_machine.specs.Machine.{closed_consumer, shut}
 use Rattle.jm_machine.proofs.Keys.{session_same}
 use Rattle.jm_session.specs.declared.number.ConsumerNumber.{ConsumerNumber}
 use Rattle.jm_session.specs.Numbers.{IsNumbered, number_of}
@@ -117,6 +117,9 @@ session_stays p x closed = go (p x.id)
 pub consumer_stays : (p : SessionId → ℕ → Bool) (x : Consumer) → x.is_active ≡ false → closed_consumer p x ≡ x
 consumer_stays p x closed = go (p x.session x.id)
   where
-    go : (b : Bool) → cond b (record x { is_active = false }) x ≡ x
-    go true = λ i. record x { is_active = sym closed i }
+    selector : cond x.is_active None x.selector ≡ x.selector
+    selector = ap (λ b. cond b None x.selector) closed
+
+    go : (b : Bool) → cond b (shut x) x ≡ x
+    go true = λ i. record x { is_active = sym closed i; selector = selector i }
     go false = refl

@@ -11,7 +11,7 @@ use Rattle.jm_machine.specs.declared.consumers.Consumers.TheVariants.{OfConnecti
 use Rattle.jm_machine.specs.declared.state.Consumer.{Consumer}
 use Rattle.jm_machine.specs.declared.state.SessionState.{SessionState}
 use Rattle.jm_machine.specs.Life.{closed_where, session_of}
-use Rattle.jm_machine.specs.Machine.{are_meant, closed_consumer, consumer_of, of_number}
+use Rattle.jm_machine.specs.Machine.{are_meant, closed_consumer, consumer_of, of_number, shut}
 use Rattle.jm_machine.specs.Sections.{own_place}
 use Rattle.jm_machine.proofs.Keys.{session_refl}
 use Rattle.jm_machine.proofs.Sections.{own_is}
@@ -28,9 +28,6 @@ use Rattle.jm_session.proofs.Opened.{absent, all_left, closed_at, closed_nowhere
 -- the numbers of the active ones
 abbrev pub active_numbers : List Consumer → List ConsumerNumber
 active_numbers xs = open_numbers number_of (λ x. x.is_active) xs
-
-abbrev shut : Consumer → Consumer
-shut x = record x { is_active = false }
 
 -- whether it is meant
 abbrev pub is_among : Consumers → ConsumerNumber → Bool

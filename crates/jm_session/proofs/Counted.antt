@@ -11,7 +11,7 @@ use Rattle.jm_dest.specs.declared.key.Key.TheVariants.{Own, SharedOwn, Durable, 
 use Rattle.jm_dest.specs.Keys.{key_eq}
 use Rattle.jm_machine.specs.declared.state.Consumer.{Consumer}
 use Rattle.jm_machine.specs.Attached.{AreCounted, Counts, active_at, is_at, is_named, number_at}
-use Rattle.jm_machine.specs.Machine.{closed_consumer}
+use Rattle.jm_machine.specs.Machine.{closed_consumer, shut}
 use Rattle.jm_session.specs.Sources.{IsFollowed, counted_as, one_at}
 
 -- those of a list are those of its first, and of the rest
@@ -63,17 +63,17 @@ pub counted_marked : {K : Type 0} (entries : List (K × Consumer)) (at : ℕ) (v
 counted_marked entries at v w counts there same counted = λ key named. omega (arith, counted key named, active_set key w v entries at there, same key)
 
 -- a closed consumer is active at no key
-pub one_ended : (x : Consumer) (key : Key) → one_at key (record x { is_active = false }) ≡ 0
+pub one_ended : (x : Consumer) (key : Key) → one_at key (shut x) ≡ 0
 one_ended x key = ap (λ b. cond b 1 0) (and_none (key_eq x.key key))
 
-pub ended_less : (x : Consumer) (key : Key) → one_at key (record x { is_active = false }) ≤ one_at key x
+pub ended_less : (x : Consumer) (key : Key) → one_at key (shut x) ≤ one_at key x
 ended_less x key = omega (arith, one_ended x key)
 
 -- a consumer that may have closed is active at no more keys
 pub closed_less : (p : SessionId → ℕ → Bool) (x : Consumer) (key : Key) → one_at key (closed_consumer p x) ≤ one_at key x
 closed_less p x key = go (p x.session x.id)
   where
-    go : (b : Bool) → one_at key (cond b (record x { is_active = false }) x) ≤ one_at key x
+    go : (b : Bool) → one_at key (cond b (shut x) x) ≤ one_at key x
     go true = ended_less x key
     go false = omega arith
 

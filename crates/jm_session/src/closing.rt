@@ -19,14 +19,14 @@ use jm_machine::{Attached, Consumer, Consumers, SessionState, is_named};
 
 /// Closes the consumer, which is counted no more.
 fn close(consumer: &mut Consumer, attached: &mut Attached)
-    ensures consumer { consumer.new ≡ record consumer.old { is_active = false } }
+    ensures consumer { consumer.new ≡ machine.shut consumer.old }
     ensures counted { IsFollowed consumer.old consumer.new attached.old attached.new }
     ensures counts_spare { attached.old.spare ≤ attached.new.spare }
 {
     if consumer.is_active && is_named(&consumer.key) {
         attached.leave(&consumer.key);
     }
-    consumer.is_active = false;
+    consumer.close();
 }
 
 /// Marks the consumer of that number as closed, where it was made; it is counted no more.

@@ -2,7 +2,7 @@
 
 use crate::keys::{Closing, Of, key, meant};
 use crate::told::holds_at;
-use jm_base::Refusal;
+use jm_base::{Refusal, Str};
 use jm_dest::{ConsumerId, Key};
 use jm_machine::{Attached, Consumer, is_named};
 use jm_selector::Selector;
@@ -43,6 +43,21 @@ fn consumer(alloc: Global, of: Of, is_active: bool) -> Result<Consumer, Refusal>
         is_listening: false,
         is_busy: false,
     })
+}
+
+/// Whether a consumer that selects is active no more once it closes, and whether it has a selector then.
+fn closed(alloc: Global, is_active: bool) -> Result<(bool, bool), Refusal> {
+    let mut consumer = consumer(alloc, Of::Queue, is_active)?;
+    let text = Some(Str::new(String::from_str(alloc, "x = 7")?));
+    consumer.selector = Selector::read(alloc, &text)?;
+    consumer.close();
+    Ok((!consumer.is_active, !consumer.selector.is_none()))
+}
+
+#[test]
+fn what_closes_has_no_selector(rt: HostRuntime) {
+    holds_at(&rt, 0, closed(rt.alloc(), true) == Ok((true, false)));
+    holds_at(&rt, 1, closed(rt.alloc(), false) == Ok((true, true)));
 }
 
 /// Those consumers; a want of memory is seen by what is missing.

@@ -49,6 +49,24 @@ fn literals_of_selectors(rt: HostRuntime) {
     }
 }
 
+/// What is left of the selector once it is cleared, as it is printed.
+fn left_of(alloc: Global, text: &str) -> Result<String, AllocError> {
+    match selector(alloc, text) {
+        Ok(mut selector) => {
+            selector.clear();
+            format!(in alloc; "{:?}", selector.text())
+        }
+        Err(_) => Err(AllocError),
+    }
+}
+
+#[test]
+fn nothing_is_left_of_what_is_cleared(rt: HostRuntime) {
+    for (text, _) in &SELECTORS {
+        is_text(&rt, "None", left_of(rt.alloc(), text));
+    }
+}
+
 #[test]
 fn law_of_literals_is_stated() {
     law_literal();
