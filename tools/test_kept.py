@@ -240,9 +240,10 @@ class OverTheChecker(unittest.TestCase):
         return ran.stdout.decode().splitlines(), ran.returncode, is_made
 
     def test_what_is_named_is_proved_with_what_it_stands_on(self) -> None:
+        """Where the kit keeps, these tests may have run on the machine before."""
         lines, status, is_made = self.runs[0]
         self.assertEqual((lines[-1], status, is_made), ("2 passed, 0 failed", 0, True), lines)
-        self.assertFalse(any("earlier run" in it for it in lines))
+        self.assertTrue(self.kit_keeps or not any("earlier run" in it for it in lines), lines)
 
     def test_a_second_run_takes_what_the_first_saw(self) -> None:
         """What is said of it is the kit's own where the kit keeps."""
