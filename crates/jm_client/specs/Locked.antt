@@ -1,13 +1,21 @@
 -- What lies under the lock.
-use Rattle.std.specs.Prelude.{◌≡◌, ℕ, ◌≤◌, Bool, false, Result, IsTrue, IsErrOf}
+use Rattle.std.specs.Prelude.{◌≡◌, ℕ, ◌≤◌, Bool, false, [], ◌∷◌, Result, IsTrue, IsErrOf}
 use Rattle.jm_base.specs.declared.refusal.Refusal.{Refusal}
 use Rattle.jm_base.specs.declared.refusal.Refusal.TheVariants as refusals
 use Rattle.jm_core.specs.Provider.{Provider, state_of}
 use Rattle.jm_core.specs.Steps.{StepFits}
+use Rattle.jm_dest.specs.declared.session.SessionId.{SessionId}
+use Rattle.jm_header.specs.declared.content.Content.{Content}
 use Rattle.jm_keep.specs.Persisted.{IsPersisted}
 use Rattle.jm_keep.specs.Stored.{HasRisen, Stored}
 use Rattle.jm_machine.specs.declared.answer.Answer.{Answer}
+use Rattle.jm_machine.specs.declared.call.Call.TheVariants.{Publish}
 use Rattle.jm_machine.specs.declared.call.Step.{Step}
+use Rattle.jm_machine.specs.declared.call.Who.TheVariants.{Session}
+
+-- the step in which the session publishes that message alone
+abbrev pub publication : SessionId → Content → Step
+publication s m = record { who = Session s; call = Publish (m ∷ []) }
 
 -- a core and its keeper
 pub record CoreKept (K : Type 0) : Type 0 where

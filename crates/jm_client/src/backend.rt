@@ -1,11 +1,16 @@
 //! How calls are made under the lock.
 
-ghost use Rattle.std.specs.Prelude.{◌≡◌};
+ghost use Rattle.std.specs.Prelude.{◌≡◌, [], ◌∷◌};
+ghost use Rattle.jm_client.specs.Locked.{publication};
 ghost use Rattle.jm_core.specs.Provider.{state_of};
 ghost use Rattle.jm_kept.specs.Kept.{KeptFits};
+ghost use Rattle.jm_machine.specs.declared.call.Call.TheVariants.{Publish};
+ghost use Rattle.jm_machine.specs.declared.call.Who.TheVariants.{Session as BySession};
 
 use jm_base::Refusal;
 use jm_core::{Answer, Core, Step};
+use jm_dest::SessionId;
+use jm_header::Message;
 
 /// How the calls of an embedded provider are made, and on what: this lies under its lock (ours). A service that is generic in
 /// it runs over one that keeps nothing, over a store, and in tests over one that is audited.
@@ -31,4 +36,10 @@ pub trait Backend: Drop {
     fn apply(&mut self, step: &Step) -> Result<Answer, Refusal>
         ensures fits { KeptFits (state_of (core_of self.old)) step.now.who step.now.call result (state_of (core_of self.new)) }
         ensures backend { IsStep self.old step.now result self.new };
+
+    /// Publishes one message that the session stamped, as `apply` makes the step that publishes it alone, with its refusals; a
+    /// refusal drops the message.
+    fn publish(&mut self, session: SessionId, message: Message) -> Result<Answer, Refusal>
+        ensures fits { KeptFits (state_of (core_of self.old)) (BySession session) (Publish (message ∷ [])) result (state_of (core_of self.new)) }
+        ensures backend { IsStep self.old (publication session message) result self.new };
 }

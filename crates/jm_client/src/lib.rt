@@ -4,11 +4,12 @@
 //! # Contract
 //!
 //! What makes the calls under its lock is a `Backend`, whose step is told the machine's reply and leaves the machine's
-//! state, or counts as not made and leaves the state; what it does beside is the backend's own to say (`IsStep`). `Plain`, a
+//! state, or counts as not made and leaves the state; what it does beside is the backend's own to say (`IsStep`). A message that
+//! a send publishes is handed to it, and of that is said what is of the step that publishes it alone (`publication`). `Plain`, a
 //! core with its keeper, carries by its type that where the keeper is clean what it has stored is what is stored of the core's
 //! state, and its step has the clauses of `jm_kept::step`, under the lock too (`IsKeptStep` in `specs/Locked.antt`;
-//! `Shared::apply`, clause `backend`). Through the lock a call is told the machine's reply to its request in some state that
-//! the provider reaches, or counts as not made (`Told`).
+//! `Shared::apply` and `Shared::publish`, clause `backend`). Through the lock a call is told the machine's reply to its request
+//! in some state that the provider reaches, or counts as not made (`Told`).
 //!
 //! `send` stamps the draft and publishes it, and tells its number; in a transacted session it waits behind all that waited
 //! (`Sends`). A commit or a rollback that is refused leaves all that waits; one that is accepted leaves nothing.
@@ -27,8 +28,9 @@
 //!
 //! A refusal is told as an `Error`, which contracts see as the refusal and its cause. Of an `IllegalState` or a
 //! `SubscriptionInUse` that the machine replies, `Error::cause` is exactly `why` (`jm_why`) of the state in which the call
-//! was refused, found under the same hold of the lock (`IsToldIn` in `specs/Told.antt`; `Shared::apply`, clause `told`), but
-//! that it may be absent for a `SubscriptionInUse`, where memory was wanted to find it. No other refusal has a cause.
+//! was refused, found under the same hold of the lock (`IsToldIn` in `specs/Told.antt`; `Shared::apply` and `Shared::publish`,
+//! clause `told`), but that it may be absent for a `SubscriptionInUse`, where memory was wanted to find it. No other refusal has
+//! a cause.
 #![tactic(auto)]
 
 mod backend;

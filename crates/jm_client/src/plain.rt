@@ -11,6 +11,8 @@ ghost use Rattle.jm_kept.specs.Kept.{KeptFits};
 use crate::backend::Backend;
 use jm_base::Refusal;
 use jm_core::{Answer, Core, Step};
+use jm_dest::SessionId;
+use jm_header::Message;
 use jm_keep::Keep;
 use std::alloc::Global;
 use std::marker::Model;
@@ -95,5 +97,14 @@ impl<K: Keep + Drop> Backend for Plain<K> {
 
     fn apply(&mut self, step: &Step) -> Result<Answer, Refusal> {
         self.step(step)
+    }
+
+    fn publish(&mut self, session: SessionId, message: Message) -> Result<Answer, Refusal> {
+        let Plain {
+            alloc,
+            core,
+            keeper,
+        } = self;
+        jm_kept::publish(*alloc, core, keeper, session, message)
     }
 }

@@ -186,20 +186,19 @@ impl<'r, R: Wait + Clock, B: Backend> Provider<'r, R, B> {
         }
     }
 
-    /// Publishes a message that the session stamped, and gives its number.
-    #[tactic(auto, using(crate::proofs::Replies::told_publish, crate::proofs::Replies::told_memory))]
+    /// Publishes a message that the session stamped, in one hold of the lock, and gives its number. Those that wait for a
+    /// message are woken.
+    #[tactic(auto, using(crate::proofs::Replies::told_publish))]
     pub(crate) fn publish(&self, session: &SessionId, message: Message) -> Result<u64, Error>
         ensures { IsPublished session.now message result }
     {
         let number = message.number();
-        let mut messages = List::new(Vec::new(self.alloc));
-        messages.push(message)?;
-        let step = Step {
-            who: Who::Session(*session),
-            call: Call::Publish(messages),
-        };
-        match self.apply(&step) {
-            Ok(_) => Ok(number),
+        let reply = self.shared.lock(self.rt).tell_publication(session, message);
+        match reply {
+            Ok(_) => {
+                self.changed.notify_all();
+                Ok(number)
+            }
             Err(error) => Err(error),
         }
     }

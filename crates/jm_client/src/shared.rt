@@ -1,11 +1,13 @@
 //! What lies under the lock.
 
-ghost use Rattle.std.specs.Prelude.{◌≡◌, ◌+◌, ◌-◌, ◌^◌, true, count_by, length, Err, IfErr, MatchResult};
+ghost use Rattle.std.specs.Prelude.{◌≡◌, ◌+◌, ◌-◌, ◌^◌, [], ◌∷◌, true, count_by, length, Err, IfErr, MatchResult};
+ghost use Rattle.jm_client.specs.Locked.{publication};
 ghost use Rattle.jm_client.specs.Told as spec;
 ghost use Rattle.jm_client.specs.Told.{Asks, IsOverview, IsRefusedIn, IsToldIn, Told, is_receipt, message_answer};
 ghost use Rattle.jm_core.specs.Kept.{IsNumberOfMessages};
 ghost use Rattle.jm_core.specs.Provider.{state_of};
 ghost use Rattle.jm_error.specs.Refused.{without_cause};
+ghost use Rattle.jm_header.specs.declared.content.Content.{Content};
 ghost use Rattle.jm_kept.specs.Kept.{KeptFits};
 ghost use Rattle.jm_machine.specs.Isolation.{Reached};
 ghost use Rattle.jm_stations.specs.Backlogs as backlogs;
@@ -17,6 +19,8 @@ use jm_base::Refusal;
 use jm_core::{Answer, Call, Core, Delivery, Request, Step, Who, law_core_reached};
 use jm_dest::{ConnectionId, ConsumerId, Moment, Number, SessionId};
 use jm_error::Error;
+use jm_explain::publish_why;
+use jm_header::{Message, Sender};
 use jm_machine::Consumer;
 use jm_why::law_explained;
 use std::alloc::Global;
@@ -130,6 +134,62 @@ fn applied<B: Backend>(alloc: Global, backend: &mut B, step: &Step) -> Result<An
     with_cause(alloc, backend.core(), step, reply)
 }
 
+/// The error of a publication of the session that was refused so by the core, which stands as it met it: with the cause of it.
+/// Of the message, which was published alone, it needs the sender.
+fn publication_error_of(
+    core: &Core,
+    session: &SessionId,
+    sender: &Sender,
+    refusal: Refusal,
+) -> Error
+    ensures same { result.refusal ≡ refusal }
+    ensures told { (message : Content) → message.sender ≡ sender.now →
+        IsRefusedIn (state_of core.now) (Who.Session session.now) (Call.Publish (message ∷ [])) refusal →
+        IsToldIn (state_of core.now) (Who.Session session.now) (Call.Publish (message ∷ [])) (Err result) }
+{
+    law_explained();
+    if !has_cause(&refusal) {
+        return Error::new(refusal, None);
+    }
+    let cause = publish_why(core, session, sender);
+    Error::new(refusal, cause)
+}
+
+/// The reply to a publication of the session, where it is refused with its cause. Then the core stands as the publication met
+/// it.
+fn publication_with_cause(
+    core: &Core,
+    session: &SessionId,
+    sender: &Sender,
+    reply: Result<Answer, Refusal>,
+) -> Result<Answer, Error>
+    ensures same { without_cause result ≡ reply }
+    ensures told { (message : Content) → message.sender ≡ sender.now →
+        IfErr reply (λ r. IsRefusedIn (state_of core.now) (Who.Session session.now) (Call.Publish (message ∷ [])) r) →
+        IfErr result (λ r. IsToldIn (state_of core.now) (Who.Session session.now) (Call.Publish (message ∷ [])) (Err r)) }
+{
+    match reply {
+        Ok(answer) => Ok(answer),
+        Err(refusal) => Err(publication_error_of(core, session, sender, refusal)),
+    }
+}
+
+/// One publication by the backend, which is told with its cause where it is refused.
+fn published<B: Backend>(
+    backend: &mut B,
+    session: &SessionId,
+    message: Message,
+) -> Result<Answer, Error>
+    ensures fits { KeptFits (state_of (B.core_of backend.old)) (Who.Session session.now) (Call.Publish (message ∷ []))
+        (without_cause result) (state_of (B.core_of backend.new)) }
+    ensures told { IsToldIn (state_of (B.core_of backend.old)) (Who.Session session.now) (Call.Publish (message ∷ [])) result }
+    ensures backend { B.IsStep backend.old (publication session.now message) (without_cause result) backend.new }
+{
+    let sender = message.sender();
+    let reply = backend.publish(*session, message);
+    publication_with_cause(backend.core(), session, &sender, reply)
+}
+
 /// In which way a consumer's next message is asked for.
 #[derive(Clone, Copy)]
 pub(crate) enum Way {
@@ -216,12 +276,42 @@ impl<B: Backend> Shared<B> {
         applied(*alloc, backend, step)
     }
 
-    /// The same, and what a client may know of it.
+    /// One publication of a message that the session stamped, as `apply` makes the step of it.
+    pub(crate) fn publish(&mut self, session: &SessionId, message: Message) -> Result<Answer, Error>
+        ensures fits { KeptFits (state_of self.old.core) (Who.Session session.now) (Call.Publish (message ∷ []))
+            (without_cause result) (state_of self.new.core) }
+        ensures told { IsToldIn (state_of self.old.core) (Who.Session session.now) (Call.Publish (message ∷ [])) result }
+        ensures backend { B.IsStep self.old.backend (publication session.now message) (without_cause result) self.new.backend }
+        ensures numbers { self.new ≡ record self.old { core = self.new.core; backend = self.new.backend } }
+    {
+        let Shared {
+            alloc: _,
+            backend,
+            connections: _,
+            sessions: _,
+            consumers: _,
+        } = self;
+        published(backend, session, message)
+    }
+
+    /// A step, and what a client may know of it.
     pub(crate) fn tell(&mut self, step: &Step) -> Result<Answer, Error>
         ensures { Told step.now.who step.now.call result }
     {
         self.law_reached();
         self.apply(step)
+    }
+
+    /// A publication, and what a client may know of it.
+    pub(crate) fn tell_publication(
+        &mut self,
+        session: &SessionId,
+        message: Message,
+    ) -> Result<Answer, Error>
+        ensures { Told (Who.Session session.now) (Call.Publish (message ∷ [])) result }
+    {
+        self.law_reached();
+        self.publish(session, message)
     }
 
     /// The next message of the session's consumer at that moment, or none, with the refusals of `apply`.

@@ -5,6 +5,7 @@ ghost use Rattle.jm_audit.specs.Audit.{segment, Agree, EachOnce, IsFault, Rise};
 ghost use Rattle.jm_audit.specs.Passes.{Calls};
 ghost use Rattle.jm_broker.specs.Calls.{entry, Gains, HasSame};
 ghost use Rattle.jm_broker.specs.Traces.{event, OnMade, OnNotMade};
+ghost use Rattle.jm_client.specs.Locked as locked;
 ghost use Rattle.jm_client_audited.specs.Audits.{IsAuditedStep, IsNoted, IsUnnoted, calls_by};
 ghost use Rattle.jm_client_audited.specs.Callers as spec;
 ghost use Rattle.jm_core.specs.Provider.{state_of};
@@ -15,13 +16,14 @@ ghost use Rattle.jm_machine.specs.Isolation.{after_events};
 
 use crate::callers::place_of;
 use jm_audit::Pass;
-use jm_base::Refusal;
+use jm_base::{List, Refusal};
 use jm_broker::{Finished, NotMade, Traced};
-use jm_client::Backend;
+use jm_client::{Backend, Message};
 use jm_core::Core;
+use jm_dest::SessionId;
 use jm_keep::Keep;
-use jm_machine::{Answer, Reply, Step, Who};
-use std::alloc::Global;
+use jm_machine::{Answer, Call, Reply, Step, Who};
+use std::alloc::{AllocError, Global};
 use std::marker::Model;
 use std::sync::ledger::{Blank, Ledger};
 
@@ -129,6 +131,18 @@ fn noted<K: Keep + Drop, L: Ledger>(
     traced.apply(&mut passes[place], step)
 }
 
+/// The step in which the session publishes that message alone. `AllocError` where a request for memory was refused.
+fn publication(alloc: Global, session: SessionId, message: Message) -> Result<Step, AllocError>
+    ensures { IfOk result (λ step. step ≡ locked.publication session message) }
+{
+    let mut messages = List::new(Vec::new(alloc));
+    messages.push(message)?;
+    Ok(Step {
+        who: Who::Session(session),
+        call: Call::Publish(messages),
+    })
+}
+
 impl<K: Keep + Drop, L: Ledger> Audited<K, L> {
     /// The core with its keeper, whose trace is empty and begins at position 0, and which nobody called. The blank's ledger
     /// counts the calls, and has as many parts as said: one for each pass, and one more. Core and keeper come back where a
@@ -213,5 +227,13 @@ impl<K: Keep + Drop, L: Ledger> Backend for Audited<K, L> {
 
     fn apply(&mut self, step: &Step) -> Result<Answer, Refusal> {
         self.call(step)
+    }
+
+    fn publish(&mut self, session: SessionId, message: Message) -> Result<Answer, Refusal> {
+        match publication(*self.callers.allocator(), session, message) {
+            Ok(step) => self.call(&step),
+            // No call is made, and none is noted.
+            Err(_) => Err(Refusal::Memory),
+        }
     }
 }

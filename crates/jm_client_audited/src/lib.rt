@@ -6,7 +6,7 @@
 //! who called, in the order of their first calls, and the pass of each: of a connection, or of a session with its consumers.
 //! `call` has the clauses of `Traced::apply`: a call that is made adds one event to the trace and one entry, at its position
 //! and with its reply, to the caller's pass, and the other passes stay (`IsNoted` in `specs/Audits.antt`); one that counts as
-//! not made adds none (`IsUnnoted`).
+//! not made adds none (`IsUnnoted`). A message that a send publishes is published by such a call, or counts as not made.
 //!
 //! `finish` takes all back, with the trace, which is legal by its type, and the verdict of `gather_last` over all passes; so
 //! many calls were made with these as the trace has events, from the first on. `in_memory` makes such a provider over a new

@@ -1,3 +1,4 @@
 -- Lemmas of this crate.
 mod Holding
 mod Requests
+mod Stamps

@@ -1,8 +1,10 @@
 //! Causes of calls.
 
-ghost use Rattle.std.specs.Prelude.{◌≡◌, true, IfOk, OnErr};
+ghost use Rattle.std.specs.Prelude.{◌≡◌, [], ◌∷◌, ◌==◌, ◌&&◌, true, IfOk, OnErr};
 ghost use Rattle.jm_core.specs.Provider.{state_of};
+ghost use Rattle.jm_dest.specs.Names.{session_eq};
 ghost use Rattle.jm_explain.specs.Held.{IsNoState, names_none};
+ghost use Rattle.jm_header.specs.declared.content.Content.{Content};
 ghost use Rattle.jm_machine.specs.Machine as machine;
 ghost use Rattle.jm_machine.specs.Machine.{Holding};
 ghost use Rattle.jm_why.specs.Why as spec;
@@ -18,7 +20,7 @@ use crate::named::{delete_why, durable_key, has_client, shared_key, wanted_why};
 use jm_base::Str;
 use jm_core::{Call, Core, Request, Step, Who};
 use jm_dest::{ConnectionId, ConsumerId, Destination, Number, SessionId, SubscriptionName};
-use jm_header::Message;
+use jm_header::{Message, Sender};
 use jm_machine::find::same_session;
 use jm_sub::Sharing;
 use jm_why::Why;
@@ -225,18 +227,24 @@ fn of_session(
     }
 }
 
+/// Whether the sender is this session in this opening.
+fn is_sender(opening: Number, session: &SessionId, sender: &Sender) -> bool
+    ensures { result ≡ ((sender.now.opening == opening) && session_eq sender.now.session session.now) }
+{
+    sender.opening == opening && same_session(&sender.session, session)
+}
+
 /// Whether each message was stamped by this session in this opening.
 fn is_stamped(opening: Number, session: &SessionId, messages: &[Message]) -> bool
     ensures { result ≡ machine.is_stamped opening session.now messages.now }
 {
-    messages.iter().all(|message| {
-        let sender = message.sender();
-        sender.opening == opening && same_session(&sender.session, session)
-    })
+    messages
+        .iter()
+        .all(|message| is_sender(opening, session, &message.sender()))
 }
 
 /// Why a publication is refused so.
-fn publish_why(core: &Core, who: &Who, messages: &[Message]) -> Option<Why>
+fn publication_why(core: &Core, who: &Who, messages: &[Message]) -> Option<Why>
     ensures { result ≡ spec.publish_why (state_of core.now) who.now messages.now }
 {
     match who {
@@ -294,7 +302,19 @@ pub fn why(alloc: Global, core: &Core, step: &Step) -> Result<Option<Why>, Alloc
 {
     match &step.call {
         Call::Ask(request) => request_why(alloc, core, &step.who, request),
-        Call::Publish(messages) => Ok(publish_why(core, &step.who, messages.as_slice())),
+        Call::Publish(messages) => Ok(publication_why(core, &step.who, messages.as_slice())),
         Call::Commit(messages) => Ok(commit_why(core, &step.who, messages.as_slice())),
     }
+}
+
+/// Why the core refuses as `IllegalState` that the session publishes one message of that sender: the first cause that stands;
+/// none where it is not refused so. Of the message it needs no more, which may be gone. It looks only, and changes nothing.
+/// Takes no memory.
+pub fn publish_why(core: &Core, session: &SessionId, sender: &Sender) -> Option<Why>
+    ensures { (message : Content) → message.sender ≡ sender.now →
+        result ≡ spec.why (state_of core.now) (Who.Session session.now) (Call.Publish (message ∷ [])) }
+{
+    let is_sender = is_sender(core.opening(), session, sender);
+    let stamp = unless(is_sender, Why::ForeignStamp);
+    first_why(untransacted_why(core, session), stamp)
 }

@@ -6,4 +6,6 @@ mod causes;
 #[cfg(test)]
 mod runs;
 #[cfg(test)]
+mod senders;
+#[cfg(test)]
 mod steps;
