@@ -11,6 +11,7 @@ import unittest
 from types import ModuleType
 
 TOOL = f"{os.path.dirname(os.path.abspath(__file__))}/wrong-bodies"
+PROVE = f"{os.path.dirname(os.path.abspath(__file__))}/prove"
 HEAD = "#![tactic(auto)]\n\nghost use Rattle.std.specs.Prelude.{◌≡◌, ◌≤◌};\n"
 LARGER = """
 pub fn larger(a: u64, b: u64) -> u64
@@ -204,7 +205,8 @@ class AfterCi(unittest.TestCase):
             os.mkdir(f"{top}/.git")
             for name in {*CRATES} - {"whole"}:
                 shutil.rmtree(f"{top}/crates/{name}")
-            subprocess.run(["rt", "ci"], cwd=top, stdin=subprocess.DEVNULL, stdout=subprocess.DEVNULL, check=True)
+            # (by tools/prove, since the kit's own command would let go of what is kept of other repositories past its bound)
+            subprocess.run([sys.executable, PROVE], cwd=top, stdin=subprocess.DEVNULL, stdout=subprocess.DEVNULL, check=True)
             # (a text that no earlier run has seen)
             with open(f"{top}/crates/whole/src/lib.rt", "a", encoding="utf-8") as it:
                 it.write(f"// {top}\n")
