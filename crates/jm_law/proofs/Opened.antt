@@ -158,10 +158,10 @@ clients_begin opening entries c = go (connection_of opening.life.connections c)
     go None = refl
     go (Some x) = λ h. ap (λ b. cond b x.client None) h
 
--- a change that opens none, and keeps numbers and clients
+-- a change that opens none, and keeps numbers, and the clients of those that stay open
 record Closes (f : ConnectionState → ConnectionState) : Type 0 where
   id : (x : ConnectionState) → (f x).id ≡ x.id
-  client : (x : ConnectionState) → (f x).client ≡ x.client
+  client : (x : ConnectionState) → (f x).is_open ≡ true → (f x).client ≡ x.client
   opens : (x : ConnectionState) → (f x).is_open ≡ true → x.is_open ≡ true
 
 client_mapped : (f : ConnectionState → ConnectionState) → Closes f → (client later : Option (List ℕ)) (c : ℕ) (xs : List ConnectionState) → ClientIs client later (connection_of xs c) → ClientIs client later (connection_of (map f xs) c)
@@ -170,14 +170,14 @@ client_mapped f k client later c (x ∷ xs) h = subst (λ n. ClientIs client lat
   where
     go : (b : Bool) → ClientIs client later (cond b (Some x) (connection_of xs c)) → (ClientIs client later (connection_of xs c) → ClientIs client later (connection_of (map f xs) c)) →
         ClientIs client later (cond b (Some (f x)) (connection_of (map f xs) c))
-    go true h r = λ o. h (k.opens x o) ∙ sym (k.client x)
+    go true h r = λ o. h (k.opens x o) ∙ sym (k.client x o)
     go false h r = r h
 
 closes_started : (d : ℕ) (on : Bool) → Closes (λ x. cond (x.id == d) (record x { is_started = on }) x)
-closes_started d on = record { id = λ x. grind (arith, nat_tests); client = λ x. grind (arith, nat_tests); opens = λ x h. grind (arith, nat_tests) }
+closes_started d on = record { id = λ x. grind (arith, nat_tests); client = λ x h. grind (arith, nat_tests); opens = λ x h. grind (arith, nat_tests) }
 
 closes_closed : (d : ℕ) → Closes (closed_if d)
-closes_closed d = record { id = λ x. grind (arith, nat_tests); client = λ x. grind (arith, nat_tests); opens = λ x h. grind (arith, nat_tests) }
+closes_closed d = record { id = λ x. grind (arith, nat_tests); client = λ x h. grind (arith, nat_tests); opens = λ x h. grind (arith, nat_tests) }
 
 -- a connection that is opened
 found_pushed : (new : ConnectionState) (xs : List ConnectionState) → is_some (connection_of xs new.id) ≡ false → connection_of (xs ++ new ∷ []) new.id ≡ Some new

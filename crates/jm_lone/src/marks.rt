@@ -30,6 +30,7 @@ fn mark_closed(connection: &mut ConnectionState, id: ConnectionId)
     ensures { connection.new ≡ life.closed_if id connection.old }
 {
     if connection.id == id {
+        connection.client = None;
         connection.is_started = false;
         connection.is_open = false;
     }

@@ -84,9 +84,9 @@ started_if c on x = if x.id == c then record x { is_started = on } else x
 abbrev pub with_started : ℕ → Bool → List ConnectionState → List ConnectionState
 with_started c on connections = map (started_if c on) connections
 
--- a connection, closed where it is that one; one that is closed is not started
+-- a connection, closed where it is that one; one that is closed is not started, and keeps no client
 abbrev pub closed_if : ℕ → ConnectionState → ConnectionState
-closed_if c x = if x.id == c then record x { is_started = false; is_open = false } else x
+closed_if c x = if x.id == c then record x { client = None; is_started = false; is_open = false } else x
 
 -- a session, closed where it passes
 abbrev pub closed_where : (SessionId → Bool) → SessionState → SessionState

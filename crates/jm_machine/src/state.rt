@@ -11,7 +11,7 @@ use std::alloc::{AllocError, Global};
 #[derive(Clone, Debug, PartialEq, Drop)]
 pub struct ConnectionState {
     pub id: ConnectionId,
-    /// The client for which it was opened, if any.
+    /// The client for which it was opened, if any, until it closes.
     pub client: Option<ClientId>,
     pub is_started: bool,
     /// A connection that was closed stays known, and is not opened again.

@@ -514,6 +514,7 @@ impl Sessions {
         };
         let connection = &mut self.connections[at];
         self.clients.free(connection);
+        connection.client = None;
         connection.is_started = false;
         connection.is_open = false;
         close_sessions(&mut self.sessions, &mut self.opened, id);

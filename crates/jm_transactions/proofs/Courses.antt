@@ -181,7 +181,7 @@ shut_on c d (Some k) w u p i f = go (k.id == c) refl
     none_else true e = ap (λ n. cond n (Some false) w) e
     none_else false e = refl
 
-    go : (b : Bool) → (k.id == c) ≡ b → cond (is_some u && (c == d)) (Some false) w ≡ Some (cond b (record k { is_started = false; is_open = false }) k).is_open
+    go : (b : Bool) → (k.id == c) ≡ b → cond (is_some u && (c == d)) (Some false) w ≡ Some (cond b (record k { client = None; is_started = false; is_open = false }) k).is_open
     go true e =
         let one : k.id ≡ c = grind (arith, nat_tests) in
         let two : k.id ≡ d = grind (arith, nat_tests) in
@@ -193,13 +193,30 @@ shut_on c d (Some k) w u p i f = go (k.id == c) refl
         let this : (c == d) ≡ false = grind (arith, nat_tests) in
         none_else (is_some u) this ∙ i
 
-closed_client : (c : ℕ) (o : Option ConnectionState) → client_at (option_map (closed_if c) o) ≡ client_at o
-closed_client c None = refl
-closed_client c (Some k) = go (k.id == c)
+shut_client : (c d : ℕ) (o : Option ConnectionState) (w : Option (List ℕ)) (u : Option Bool) → Passes (λ k. k.id == d) o → w ≡ client_at o → (c ≡ d → u ≡ on o) →
+    cond (is_some u && (c == d)) None w ≡ client_at (option_map (closed_if c) o)
+shut_client c d None w u p i f = either (is_some u && (c == d))
   where
-    go : (n : Bool) → (cond n (record k { is_started = false; is_open = false }) k).client ≡ k.client
-    go true = refl
-    go false = refl
+    either : (b : Bool) → cond b None w ≡ None
+    either true = refl
+    either false = i
+shut_client c d (Some k) w u p i f = go (k.id == c) refl
+  where
+    none_else : (b : Bool) → (c == d) ≡ false → cond (b && (c == d)) None w ≡ w
+    none_else true e = ap (λ n. cond n None w) e
+    none_else false e = refl
+
+    go : (b : Bool) → (k.id == c) ≡ b → cond (is_some u && (c == d)) None w ≡ (cond b (record k { client = None; is_started = false; is_open = false }) k).client
+    go true e =
+        let one : k.id ≡ c = grind (arith, nat_tests) in
+        let two : k.id ≡ d = grind (arith, nat_tests) in
+        let there : is_some u ≡ true = ap is_some (f (sym one ∙ two)) in
+        let this : (c == d) ≡ true = grind (arith, nat_tests) in
+        rw (there, this) refl
+    go false e =
+        let two : k.id ≡ d = grind (arith, nat_tests) in
+        let this : (c == d) ≡ false = grind (arith, nat_tests) in
+        none_else (is_some u) this ∙ i
 
 closed_none : (o : Option SessionState) (p : SessionId → Bool) (s : SessionId) → Passes (λ y. session_eq y.id s) o → p s ≡ true → open_mode (option_map (closed_where p) o) ≡ None
 closed_none None p s q h = refl
@@ -234,7 +251,9 @@ follows_shut E before after life x c d h = record {
   connections = λ k.
       shut_on c k (connection_of life.connections k) (x.connection k) (x.connection c) (found_passes (λ n. n.id == k) life.connections) (h.connections k) (λ e. ap x.connection e)
       ∙ sym (ap on (found_closed c k life.connections));
-  clients = λ k. h.clients k ∙ sym (ap client_at (found_closed c k life.connections) ∙ closed_client c (connection_of life.connections k));
+  clients = λ k.
+      shut_client c k (connection_of life.connections k) (x.client k) (x.connection c) (found_passes (λ n. n.id == k) life.connections) (h.clients k) (λ e. ap x.connection e ∙ h.connections k)
+      ∙ sym (ap client_at (found_closed c k life.connections));
   known = λ s. h.known s ∙ sym (known_closed (λ t. t.connection == c) s life.sessions);
   modes = λ s. modes s (s.connection == c) refl;
   nested = λ s i. still_some (is_some (x.connection c) && (c == s.connection)) false (x.connection s.connection) (h.nested s i);
@@ -552,19 +571,16 @@ noted_client None = refl
 noted_client (Some k) = refl
 
 -- what is noted once a connection closes that is known
-pub closed_noted : (c d : ℕ) (old : ℕ → Option Connected) (k : Connected) (new : Option Connected) → old c ≡ Some k → new ≡ cond (c == d) (Some (record { is_open = false; client = k.client })) (old d) →
+pub closed_noted : (c d : ℕ) (old : ℕ → Option Connected) (k : Connected) (new : Option Connected) → old c ≡ Some k → new ≡ cond (c == d) (Some (record { is_open = false; client = None })) (old d) →
     (option_map (λ x. x.is_open) new ≡ cond (is_some (option_map (λ (x : Connected). x.is_open) (old c)) && (c == d)) (Some false) (option_map (λ x. x.is_open) (old d)))
-    × (option_and_then (λ x. x.client) new ≡ option_and_then (λ (x : Connected). x.client) (old d))
-closed_noted c d old k new is n = go (c == d) refl n
+    × (option_and_then (λ x. x.client) new ≡ cond (is_some (option_map (λ (x : Connected). x.is_open) (old c)) && (c == d)) None (option_and_then (λ (x : Connected). x.client) (old d)))
+closed_noted c d old k new is n = go (c == d) n
   where
-    go : (b : Bool) → (c == d) ≡ b → new ≡ cond b (Some (record { is_open = false; client = k.client })) (old d) →
+    go : (b : Bool) → new ≡ cond b (Some (record { is_open = false; client = None })) (old d) →
         (option_map (λ x. x.is_open) new ≡ cond (is_some (option_map (λ (x : Connected). x.is_open) (old c)) && b) (Some false) (option_map (λ x. x.is_open) (old d)))
-        × (option_and_then (λ x. x.client) new ≡ option_and_then (λ (x : Connected). x.client) (old d))
-    go true e n =
-        let same : c ≡ d = grind (arith, nat_tests) in
-        let there : old d ≡ Some k = sym (ap old same) ∙ is in
-        rw (n, is, there) (refl, refl)
-    go false e n = rw (n, is) (refl, refl)
+        × (option_and_then (λ x. x.client) new ≡ cond (is_some (option_map (λ (x : Connected). x.is_open) (old c)) && b) None (option_and_then (λ (x : Connected). x.client) (old d)))
+    go true n = rw (n, is) (refl, refl)
+    go false n = rw (n, is) (refl, refl)
 
 -- ---- look-ups
 

@@ -1,6 +1,6 @@
 -- What a look-up finds after a change.
 use Rattle.std.proofs.Common.{◌≡◌, ℕ, Bool, true, false, cond, List, [], ◌∷◌, map, refl, ap, arith, Option, Some, None}
-use Rattle.std.specs.Prelude.{◌==◌, find, is_some, option_map}
+use Rattle.std.specs.Prelude.{◌==◌, find, is_some, option_map, None}
 use Rattle.std.proofs.lemmas.Bool.Decides.{nat_tests}
 use Rattle.jm_dest.specs.declared.session.SessionId.{SessionId}
 use Rattle.jm_dest.specs.Names.{session_eq}
@@ -42,7 +42,7 @@ found_started c on k xs = find-map (λ x. x.id == k) (started_if c on) (λ x. ap
 pub found_closed : (c k : ℕ) (xs : List ConnectionState) → connection_of (map (closed_if c) xs) k ≡ option_map (closed_if c) (connection_of xs k)
 found_closed c k xs = find-map (λ x. x.id == k) (closed_if c) (λ x. ap (λ n. n == k) (keeps x (x.id == c))) xs
   where
-    keeps : (x : ConnectionState) (b : Bool) → (cond b (record x { is_started = false; is_open = false }) x).id ≡ x.id
+    keeps : (x : ConnectionState) (b : Bool) → (cond b (record x { client = None; is_started = false; is_open = false }) x).id ≡ x.id
     keeps x true = refl
     keeps x false = refl
 

@@ -15,7 +15,7 @@ use Rattle.jm_machine.specs.Machine.{is_transacted}
 use Rattle.jm_machine.specs.Entries.{pending}
 
 -- what was said: whether a connection is open, none where it was not opened; the client for which it was opened, if any,
--- also once it is closed; the mode of a session, none where it was not opened, and no mode where it was closed; and where
+-- until it closes; the mode of a session, none where it was not opened, and no mode where it was closed; and where
 -- among the entries the messages stand that a session has sent since its transaction began
 pub record Course : Type 0 where
   pub connection : ℕ → Option Bool
@@ -55,7 +55,10 @@ opened c client x =
 
 -- a connection that was opened closes
 abbrev pub connection_closed : ℕ → Course → Course
-connection_closed c x = record x { connection = λ d. if is_some (x.connection c) && (c == d) then Some false else x.connection d }
+connection_closed c x = record x {
+  connection = λ d. if is_some (x.connection c) && (c == d) then Some false else x.connection d;
+  client = λ d. if is_some (x.connection c) && (c == d) then None else x.client d;
+}
 
 -- the transactions of a connection's sessions end
 abbrev pub all_ended : ℕ → Course → Course

@@ -26,7 +26,7 @@ use std::collections::HashMap;
 #[derive(Drop)]
 struct Connected {
     is_open: bool,
-    /// The client for which it was opened, if any; it stays once the connection closes.
+    /// The client for which it was opened, if any, until it closes.
     client: Option<ClientId>,
 }
 
@@ -55,7 +55,7 @@ impl Transactions {
         }
     }
 
-    /// The client for which the connection was opened, if any, also once it is closed.
+    /// The client for which the connection was opened, if any, until it closes.
     pub fn client_of(&self, id: ConnectionId) -> Option<&ClientId>
         ensures { option_copied result ≡ (course_of self.now).client id }
     {
@@ -128,6 +128,7 @@ impl Transactions {
     {
         if let Some(connection) = self.connections.get_mut(&id) {
             connection.is_open = false;
+            connection.client = None;
         }
     }
 

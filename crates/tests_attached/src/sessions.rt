@@ -423,7 +423,7 @@ fn are_taken(alloc: Global, sessions: &Sessions) -> bool {
     !sessions.is_client_taken(&None)
 }
 
-/// Whether the connection of that number was opened for that client, or for none.
+/// Whether the connection of that number has that client, or none.
 fn is_for(sessions: &Sessions, number: u32, wanted: Option<&str>) -> bool {
     match (ConnectionId::new(number), wanted) {
         (Ok(id), Some(wanted)) => {
@@ -434,10 +434,10 @@ fn is_for(sessions: &Sessions, number: u32, wanted: Option<&str>) -> bool {
     }
 }
 
-/// Connections, and the client of each after those calls, which a closed one keeps.
+/// Connections, and the client of each after those calls, of which a closed one has none.
 static CLIENTS_OF: [(u32, Option<&str>); 7] = [
-    (1, Some("c")),
-    (2, Some("d")),
+    (1, None),
+    (2, None),
     (3, Some("C")),
     (4, None),
     (5, None),

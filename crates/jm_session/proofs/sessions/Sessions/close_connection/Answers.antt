@@ -1,5 +1,5 @@
 use Rattle.std.proofs.Common.{◌∙◌, ap, sym, refl, false}
-use Rattle.std.specs.Prelude.{◌==◌, is_some, map}
+use Rattle.std.specs.Prelude.{◌==◌, is_some, map, None}
 use Rattle.std.specs.Map.{values_of}
 use Rattle.indexmap.specs.IndexMap.{values}
 use Rattle.jm_machine.specs.declared.call.Who.TheVariants.{Connection}
@@ -20,11 +20,11 @@ returns-in_default-clause-ok c =
 
 pub invariant_of-self : goal.invariant_of-self
 invariant_of-self c = (
-  (changed_found (λ a b. a == b) num_sym num_same (λ (x : ConnectionState). x.id) (λ (x : ConnectionState). record x { is_started = false; is_open = false }) (λ x. refl) c.args.id c.index_mut-connection.result.now c.self.inside.connections.entries c.in-Some.at
+  (changed_found (λ a b. a == b) num_sym num_same (λ (x : ConnectionState). x.id) (λ (x : ConnectionState). record x { client = None; is_started = false; is_open = false }) (λ x. refl) c.args.id c.index_mut-connection.result.now c.self.inside.connections.entries c.in-Some.at
       c.index_mut-connection.ensures.value c.self.invariant.0 c.get_index_of.ensures.unique (sym c.get_index_of.ensures.index ∙ c.in-Some.is)).1,
   c.close_sessions.ensures.numbered,
-  apart_closed (record c.index_mut-connection.result.now { is_started = false; is_open = false }) c.self.inside.connections.entries c.in-Some.at c.index_mut-connection.result.now c.index_mut-connection.ensures.value refl c.self.invariant.2,
-  λ all. index_closed (record c.index_mut-connection.result.now { is_started = false; is_open = false }) c.self.inside.connections.entries c.in-Some.at c.index_mut-connection.result.now c.self.inside.clients c.free.new.self c.index_mut-connection.ensures.value refl c.self.invariant.2
+  apart_closed (record c.index_mut-connection.result.now { client = None; is_started = false; is_open = false }) c.self.inside.connections.entries c.in-Some.at c.index_mut-connection.result.now c.index_mut-connection.ensures.value refl c.self.invariant.2,
+  λ all. index_closed (record c.index_mut-connection.result.now { client = None; is_started = false; is_open = false }) c.self.inside.connections.entries c.in-Some.at c.index_mut-connection.result.now c.self.inside.clients c.free.new.self c.index_mut-connection.ensures.value refl c.self.invariant.2
       c.free.ensures.clients (c.self.invariant.3 (sym c.free.ensures.all ∙ all)),
   c.close_sessions.ensures.opened,
 )
@@ -37,7 +37,7 @@ returns-clause-ok c =
 pub returns-clause-life : goal.returns-clause-life
 unfolding life_after
 returns-clause-life c =
-    ap (λ xs. life_of xs (values_of c.close_sessions.new.sessions.entries)) (changed_found (λ a b. a == b) num_sym num_same (λ (x : ConnectionState). x.id) (λ (x : ConnectionState). record x { is_started = false; is_open = false }) (λ x. refl) c.args.id c.index_mut-connection.result.now c.self.inside.connections.entries c.in-Some.at
+    ap (λ xs. life_of xs (values_of c.close_sessions.new.sessions.entries)) (changed_found (λ a b. a == b) num_sym num_same (λ (x : ConnectionState). x.id) (λ (x : ConnectionState). record x { client = None; is_started = false; is_open = false }) (λ x. refl) c.args.id c.index_mut-connection.result.now c.self.inside.connections.entries c.in-Some.at
     c.index_mut-connection.ensures.value c.self.invariant.0 c.get_index_of.ensures.unique (sym c.get_index_of.ensures.index ∙ c.in-Some.is)).0
     ∙ ap (λ ys. life_of (map (closed_if c.args.id) (values c.self.inside.connections)) ys) c.close_sessions.ensures.values
     ∙ ap (λ (k : Known). life_after k.life (Connection c.args.id) CloseConnection) c.self.view_is
