@@ -13,7 +13,7 @@ use Rattle.jm_machine.specs.Life.{mode_of}
 use Rattle.jm_machine.specs.Machine.{State, held, refusal, answer, publish_refusal, commit_refusal, after, after_commit, published, replied, moved, reply, step, has_places, is_stamped, is_transacted, is_untransacted, unless}
 use Rattle.jm_machine.proofs.Outside.{no_store}
 use Rattle.jm_machine.specs.declared.call.Step.{Step}
-use Rattle.jm_core.specs.Plans.{IsRefused}
+use Rattle.jm_plans.specs.Plans.{IsRefused}
 use Rattle.jm_broker.specs.Traces.{OnMade, reply_to, state_after}
 
 refused : (o : Option Refusal) (r : Refusal) (a : Answer) (x y : State) → Err r ≡ replied o a → moved o x y ≡ y

@@ -10,8 +10,8 @@ use std::alloc::{AllocError, Global};
 impl PlannedCore for Core {
     type Plan = Plan;
 
-    ghost use Rattle.jm_core.specs.Plans.{IsPlan};
-    ghost use Rattle.jm_core.specs.Provider.{state_of};
+    ghost use Rattle.jm_plans.specs.Plans.{IsPlan};
+    ghost use Rattle.jm_plans.specs.Provider.{state_of};
 
     ghost state = { λ core. state_of core };
 

@@ -6,13 +6,13 @@ use Rattle.std.proofs.Crossing.{crosses}
 use Rattle.jm_base.proofs.boxed.Boxed.TheSendSync as boxed
 use Rattle.jm_sends.proofs.Sent.{Channel_send, Definition_send, Key_send, Selector_send, Message_send}
 use Rattle.jm_broker_sends.proofs.Sent.{ClientId_send, ConsumerId_send, ConnectionId_send, SessionId_field}
-use Rattle.jm_core.specs.contracts.receive.Receiver as Receiver
+use Rattle.jm_parts.specs.contracts.receive.Receiver as Receiver
 use Rattle.jm_session.specs.contracts.source.Source as Source
 use Rattle.jm_sub.specs.contracts.subs.Decision as Decision
-use Rattle.jm_core.specs.contracts.publish.Publication as Publication
-use Rattle.jm_core.specs.contracts.receive.Taking as Taking
-use Rattle.jm_core.specs.contracts.plan.Change as Change
-use Rattle.jm_core.specs.contracts.plan.Plan as Plan
+use Rattle.jm_parts.specs.contracts.publish.Publication as Publication
+use Rattle.jm_parts.specs.contracts.receive.Taking as Taking
+use Rattle.jm_plans.specs.contracts.plan.Change as Change
+use Rattle.jm_core.specs.contracts.planned.Plan as Plan
 
 Source_send : IsSend Source.the_row
 Source_send = search (sendable, crosses, Key_send, Selector_send) depth 60 fits 20000

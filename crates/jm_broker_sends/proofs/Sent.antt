@@ -22,7 +22,7 @@ use Rattle.jm_machine.specs.contracts.call.Call as Call
 use Rattle.jm_machine.specs.contracts.call.Step as Step
 use Rattle.jm_machine.specs.contracts.entry.Event as Event
 use Rattle.jm_core.specs.contracts.provider.Core as Core
-use Rattle.jm_core.specs.contracts.plan.Plan as Plan
+use Rattle.jm_core.specs.contracts.planned.Plan as Plan
 use Rattle.jm_keep.specs.contracts.keep.NoKeep as NoKeep
 use Rattle.jm_keep.specs.declared.keep.Keep as Keep
 use Rattle.jm_keep.specs.contracts.keep.NoKeepKeep.TheImpl as kept

@@ -2,8 +2,8 @@
 use Rattle.std.specs.Prelude.{◌≡◌, ℕ, ◌≤◌, Bool, false, [], ◌∷◌, Result, IsTrue, IsErrOf}
 use Rattle.jm_base.specs.declared.refusal.Refusal.{Refusal}
 use Rattle.jm_base.specs.declared.refusal.Refusal.TheVariants as refusals
-use Rattle.jm_core.specs.Provider.{Provider, state_of}
-use Rattle.jm_core.specs.Steps.{StepFits}
+use Rattle.jm_plans.specs.Provider.{Provider, state_of}
+use Rattle.jm_plans.specs.Steps.{StepFits}
 use Rattle.jm_dest.specs.declared.session.SessionId.{SessionId}
 use Rattle.jm_header.specs.declared.content.Content.{Content}
 use Rattle.jm_keep.specs.Persisted.{IsPersisted}

@@ -18,8 +18,8 @@ use Rattle.jm_client.specs.declared.overview.Overview.{Overview}
 use Rattle.jm_client.specs.declared.shared.Way.{Way}
 use Rattle.jm_client.specs.declared.shared.Way.TheVariants as ways
 use Rattle.jm_error.specs.Refused.{Refused, bare}
-use Rattle.jm_core.specs.Kept.{IsNumberOfMessages}
-use Rattle.jm_core.specs.Provider.{Provider, state_of}
+use Rattle.jm_plans.specs.Kept.{IsNumberOfMessages}
+use Rattle.jm_plans.specs.Provider.{Provider, state_of}
 use Rattle.jm_stations.specs.Backlogs as backlogs
 use Rattle.jm_machine.specs.Entries.{is_not_made}
 use Rattle.jm_machine.specs.Isolation.{Reached}

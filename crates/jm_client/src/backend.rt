@@ -2,7 +2,7 @@
 
 ghost use Rattle.std.specs.Prelude.{◌≡◌, [], ◌∷◌};
 ghost use Rattle.jm_client.specs.Locked.{publication};
-ghost use Rattle.jm_core.specs.Provider.{state_of};
+ghost use Rattle.jm_plans.specs.Provider.{state_of};
 ghost use Rattle.jm_kept.specs.Kept.{KeptFits};
 ghost use Rattle.jm_machine.specs.declared.call.Call.TheVariants.{Publish};
 ghost use Rattle.jm_machine.specs.declared.call.Who.TheVariants.{Session as BySession};
@@ -17,7 +17,7 @@ use jm_header::Message;
 pub trait Backend: Drop {
     ghost use Rattle.std.specs.Prelude.{Result};
     ghost use Rattle.jm_base.specs.declared.refusal.Refusal.{Refusal};
-    ghost use Rattle.jm_core.specs.Provider.{Provider};
+    ghost use Rattle.jm_plans.specs.Provider.{Provider};
     ghost use Rattle.jm_machine.specs.declared.answer.Answer.{Answer};
     ghost use Rattle.jm_machine.specs.declared.call.Step.{Step};
 
@@ -40,6 +40,7 @@ pub trait Backend: Drop {
     /// Publishes one message that the session stamped, as `apply` makes the step that publishes it alone, with its refusals; a
     /// refusal drops the message.
     fn publish(&mut self, session: SessionId, message: Message) -> Result<Answer, Refusal>
-        ensures fits { KeptFits (state_of (core_of self.old)) (BySession session) (Publish (message ∷ [])) result (state_of (core_of self.new)) }
+        ensures fits { KeptFits (state_of (core_of self.old)) (BySession session) (Publish (message ∷ [])) result
+            (state_of (core_of self.new)) }
         ensures backend { IsStep self.old (publication session message) result self.new };
 }

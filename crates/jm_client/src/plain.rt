@@ -2,8 +2,8 @@
 
 ghost use Rattle.std.specs.Prelude.{◌≡◌, ◌≤◌, false, IsTrue, IsErrOf};
 ghost use Rattle.jm_client.specs.Locked.{IsKeptStep};
-ghost use Rattle.jm_core.specs.Provider.{state_of};
-ghost use Rattle.jm_core.specs.Steps.{StepFits};
+ghost use Rattle.jm_plans.specs.Provider.{state_of};
+ghost use Rattle.jm_plans.specs.Steps.{StepFits};
 ghost use Rattle.jm_keep.specs.Persisted.{IsPersisted};
 ghost use Rattle.jm_keep.specs.Stored.{HasRisen};
 ghost use Rattle.jm_kept.specs.Kept.{KeptFits};
@@ -29,7 +29,7 @@ pub struct Plain<K: Keep + Drop> {
 impl<K: Keep + Drop> Model for Plain<K> {
     ghost use Rattle.std.specs.Prelude.{IsTrue};
     ghost use Rattle.jm_client.specs.Locked.{CoreKept};
-    ghost use Rattle.jm_core.specs.Provider.{state_of};
+    ghost use Rattle.jm_plans.specs.Provider.{state_of};
     ghost use Rattle.jm_keep.specs.Persisted.{IsPersisted};
 
     ghost Value = { CoreKept K };

@@ -4,7 +4,7 @@ ghost use Rattle.std.specs.Prelude.{◌≡◌, ◌⊎◌, false, true, Err, IfOk
 ghost use Rattle.std.specs.Option.{option_copied};
 ghost use Rattle.jm_client.specs.Sends.{IsPublished};
 ghost use Rattle.jm_client.specs.Told.{Answers, IsOverview, RefusesNew, Told, is_named, is_plain};
-ghost use Rattle.jm_core.specs.Provider.{state_of};
+ghost use Rattle.jm_plans.specs.Provider.{state_of};
 ghost use Rattle.jm_error.specs.Refused.{bare};
 ghost use Rattle.jm_keep.specs.Persisted.{IsPersisted};
 ghost use Rattle.jm_machine.specs.Isolation.{Reached};

@@ -4,8 +4,8 @@ ghost use Rattle.std.specs.Prelude.{◌≡◌, ◌+◌, ◌-◌, ◌^◌, [], �
 ghost use Rattle.jm_client.specs.Locked.{publication};
 ghost use Rattle.jm_client.specs.Told as spec;
 ghost use Rattle.jm_client.specs.Told.{Asks, IsOverview, IsRefusedIn, IsToldIn, Told, is_receipt, message_answer};
-ghost use Rattle.jm_core.specs.Kept.{IsNumberOfMessages};
-ghost use Rattle.jm_core.specs.Provider.{state_of};
+ghost use Rattle.jm_plans.specs.Kept.{IsNumberOfMessages};
+ghost use Rattle.jm_plans.specs.Provider.{state_of};
 ghost use Rattle.jm_error.specs.Refused.{without_cause};
 ghost use Rattle.jm_header.specs.declared.content.Content.{Content};
 ghost use Rattle.jm_kept.specs.Kept.{KeptFits};
@@ -19,7 +19,7 @@ use jm_base::Refusal;
 use jm_core::{Answer, Call, Core, Delivery, Request, Step, Who, law_core_reached};
 use jm_dest::{ConnectionId, ConsumerId, Moment, Number, SessionId};
 use jm_error::Error;
-use jm_explain::publish_why;
+use jm_explain::send_why;
 use jm_header::{Message, Sender};
 use jm_machine::Consumer;
 use jm_why::law_explained;
@@ -151,7 +151,7 @@ fn publication_error_of(
     if !has_cause(&refusal) {
         return Error::new(refusal, None);
     }
-    let cause = publish_why(core, session, sender);
+    let cause = send_why(core, session, sender);
     Error::new(refusal, cause)
 }
 

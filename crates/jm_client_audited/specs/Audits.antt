@@ -5,7 +5,7 @@ use Rattle.jm_base.specs.declared.refusal.Refusal.TheVariants as refusals
 use Rattle.jm_machine.specs.declared.answer.Answer.{Answer}
 use Rattle.jm_machine.specs.declared.call.Step.{Step}
 use Rattle.jm_machine.specs.declared.call.Who.{Who}
-use Rattle.jm_core.specs.Provider.{Provider}
+use Rattle.jm_plans.specs.Provider.{Provider}
 use Rattle.jm_audit.specs.Passes.{Calls, no_calls}
 use Rattle.jm_broker.specs.Calls.{entry, Gains, HasSame}
 use Rattle.jm_broker.specs.Traces.{OnMade, OnNotMade, Seen, event}

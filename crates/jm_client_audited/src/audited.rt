@@ -8,7 +8,7 @@ ghost use Rattle.jm_broker.specs.Traces.{event, OnMade, OnNotMade};
 ghost use Rattle.jm_client.specs.Locked as locked;
 ghost use Rattle.jm_client_audited.specs.Audits.{IsAuditedStep, IsNoted, IsUnnoted, calls_by};
 ghost use Rattle.jm_client_audited.specs.Callers as spec;
-ghost use Rattle.jm_core.specs.Provider.{state_of};
+ghost use Rattle.jm_plans.specs.Provider.{state_of};
 ghost use Rattle.jm_keep.specs.Persisted.{IsPersisted};
 ghost use Rattle.jm_keep.specs.Stored.{HasRisen};
 ghost use Rattle.jm_kept.specs.Kept.{KeptFits};

@@ -34,7 +34,7 @@ use Rattle.jm_machine.specs.Machine.{State, Publisher, publisher_of, accepts, is
 use Rattle.jm_machine.specs.Reopened.{AreDurable, AreWaiting}
 use Rattle.jm_machine.specs.Isolation.{Reached}
 use Rattle.jm_machine.specs.Isolation.Reached.{New, Reopened, Stepped}
-use Rattle.jm_core.proofs.Listening.{left_client}
+use Rattle.jm_plans.proofs.Listening.{left_client}
 use Rattle.jm_core.specs.Outstanding.{IsOutToOpen, AllOutToOpen, HoldsOutToOpen, QueuesOutToOpen, AreOutToOpen}
 
 -- ---- sessions that stay open

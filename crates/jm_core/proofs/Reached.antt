@@ -12,7 +12,7 @@ use Rattle.jm_machine.specs.Client.{Progress, begun, RunOwed}
 use Rattle.jm_machine.specs.Isolation.{AreIsolated, IsolationOfRuns, Reached}
 use Rattle.jm_machine.specs.Isolation.Reached.{Stepped}
 use Rattle.jm_machine.proofs.Reaches.{runs_reach, owed_fits}
-use Rattle.jm_core.specs.Steps.{StepFits}
+use Rattle.jm_plans.specs.Steps.{StepFits}
 
 -- a step
 pub step_reached : (old new : State) (who : Who) (call : Call) (r : Result Answer Refusal) → StepFits old who call r new → Reached old → Reached new

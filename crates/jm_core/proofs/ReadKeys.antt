@@ -23,17 +23,19 @@ use Rattle.jm_machine.proofs.Keys.{key_refl, key_same}
 use Rattle.jm_stations.specs.Backlogs.{Backlog, empty, is_named}
 use Rattle.jm_stations.specs.Stations.{index_in}
 use Rattle.jm_sub.specs.Subscriptions.{Subscription, takes}
-use Rattle.jm_core.specs.Provider.{Provider, state_of}
-use Rattle.jm_core.specs.Publications.{IsRouted}
-use Rattle.jm_core.specs.Queues.{IsQueued}
-use Rattle.jm_core.specs.Reading.{AreLasting, CoversRows, IsAt, IsIndexOf, durable_at, is_accepted, is_durable, is_for, keys_in, lasts_at, rows_under}
+use Rattle.jm_plans.specs.Provider.{Provider, state_of}
+use Rattle.jm_parts.specs.Publications.{IsRouted}
+use Rattle.jm_queues.specs.Queues.{IsQueued}
+use Rattle.jm_core.specs.Reading.{AreLasting, CoversRows, IsIndexOf, durable_at, is_accepted, is_durable, is_for, keys_in, lasts_at}
+use Rattle.jm_queues.specs.Rows.{IsAt, rows_under}
 use Rattle.jm_machine.specs.Attached.{IsOfSubscription}
-use Rattle.jm_core.specs.State.{IsSound, keys_of, stations_of}
-use Rattle.jm_core.specs.Takings.{is_queue}
-use Rattle.jm_core.proofs.Indexed.{at_behind, at_first, index_here, key_there, place_here}
-use Rattle.jm_core.proofs.QueueRows.{rows_missing}
-use Rattle.jm_core.proofs.Seen.{station_found, station_missing}
-use Rattle.jm_core.proofs.Stations.{fails_all, found_none, key_found, length-keys}
+use Rattle.jm_parts.specs.State.{IsSound, keys_of, stations_of}
+use Rattle.jm_parts.specs.Takings.{is_queue}
+use Rattle.jm_queues.proofs.Indexed.{at_behind, at_first, index_here, key_there, place_here}
+use Rattle.jm_queues.proofs.QueueRows.{rows_missing}
+use Rattle.jm_plans.proofs.Seen.{station_found, station_missing}
+use Rattle.jm_queues.proofs.Found.{fails_all, found_none}
+use Rattle.jm_parts.proofs.Stations.{key_found, length-keys}
 
 -- ---- the keys with some indexes that are durable subscriptions'
 

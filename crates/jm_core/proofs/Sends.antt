@@ -31,7 +31,7 @@ use Rattle.jm_tx.specs.declared.buffer.Sent.TheVariants.{Kept, Publish as ToPubl
 use Rattle.jm_tx.specs.declared.halves.Halves.{Halves}
 use Rattle.jm_tx.specs.Buffers.{is_transacted as waits}
 use Rattle.jm_tx.specs.Halves.{sent_of, kept_of, room, none_sent, none_kept, with_messages, IsAsBefore, RunSendFits}
-use Rattle.jm_core.specs.Steps.{StepFits, CommitFits}
+use Rattle.jm_plans.specs.Steps.{StepFits, CommitFits}
 use Rattle.jm_core.specs.Runs.{progress}
 
 -- Requests

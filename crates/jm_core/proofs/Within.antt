@@ -29,7 +29,7 @@ use Rattle.jm_machine.specs.Machine.{State, is_limited, Publisher, publisher_of,
 use Rattle.jm_machine.specs.Reopened.{AreDurable, is_durable}
 use Rattle.jm_machine.specs.Isolation.{Reached}
 use Rattle.jm_machine.specs.Isolation.Reached.{New, Reopened, Stepped}
-use Rattle.jm_core.proofs.Listening.{left_client}
+use Rattle.jm_plans.proofs.Listening.{left_client}
 use Rattle.jm_core.specs.Limits.{AllWithin, IsWithin}
 
 -- ---- rows

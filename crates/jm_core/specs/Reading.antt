@@ -1,6 +1,6 @@
 -- What is read of the core and of a plan without a change: the rows under each key, and what the plan deletes, puts and
 -- publishes.
-use Rattle.std.specs.Prelude.{◌≡◌, ◌<◌, ◌⊎◌, ◌++◌, ℕ, Bool, true, false, List, [], ◌∷◌, length, map, slice_index_or, Option, Some, None, filter}
+use Rattle.std.specs.Prelude.{◌≡◌, ◌⊎◌, ◌++◌, ℕ, Bool, true, false, List, [], map, slice_index_or, Option, Some, None, filter}
 use Rattle.std.specs.List.{list_any}
 use Rattle.jm_dest.specs.declared.destination.Destination.{Destination}
 use Rattle.jm_dest.specs.declared.destination.Destination.TheVariants as destination
@@ -10,32 +10,20 @@ use Rattle.jm_dest.specs.Keys.{key_eq}
 use Rattle.jm_dest.specs.Names.{text_eq}
 use Rattle.jm_header.specs.declared.content.Content.{Content}
 use Rattle.jm_machine.specs.declared.state.Definition.{Definition}
-use Rattle.jm_machine.specs.declared.state.PlacedRow.{PlacedRow}
 use Rattle.jm_machine.specs.declared.state.Station.{Station}
 use Rattle.jm_machine.specs.Machine.{Publisher, State, accepts, publisher_of, station_of}
-use Rattle.jm_machine.specs.Wants.{placed_rows}
 use Rattle.jm_sub.specs.Subscriptions.{Subscription}
-use Rattle.jm_core.specs.declared.plan.Change.{Change}
-use Rattle.jm_core.specs.declared.plan.Change.TheVariants as change
-use Rattle.jm_core.specs.declared.publish.Publication.{Publication}
-use Rattle.jm_core.specs.Provider.{Provider, state_of}
+use Rattle.jm_plans.specs.declared.plan.Change.{Change}
+use Rattle.jm_plans.specs.declared.plan.Change.TheVariants as change
+use Rattle.jm_parts.specs.declared.publish.Publication.{Publication}
+use Rattle.jm_plans.specs.Provider.{Provider, state_of}
+use Rattle.jm_queues.specs.Rows.{rows_under, IsAt}
 
 -- Rows
-
--- the rows under a key, by place
-abbrev pub rows_under : State → Key → List PlacedRow
-rows_under state (Queue name) = state.queues name
-rows_under state (Own s c) = placed_rows (station_of (Own s c) state.stations)
-rows_under state (SharedOwn client name) = placed_rows (station_of (SharedOwn client name) state.stations)
-rows_under state (Durable client name) = placed_rows (station_of (Durable client name) state.stations)
 
 -- the keys of the subscriptions, and then those of queues
 abbrev pub keys_in : Provider → List Key
 keys_in p = p.held.keys ++ p.queues.keys
-
--- the key stands there among those
-abbrev pub IsAt : List Key → Key → ℕ → Type 0
-IsAt keys key i = (i < length keys) × ((d : Key) → slice_index_or keys i d ≡ key)
 
 -- the key stands there among those; or nowhere, and no row stands under it
 abbrev pub IsIndexOf : Provider → Key → Option ℕ → Type 0

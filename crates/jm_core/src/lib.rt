@@ -7,9 +7,7 @@
 //! `Core` is seen as a `Provider`: what is known by number, the subscriptions and what is held for them, and what the
 //! queues hold, each with its room.
 //!
-//! What the queues hold stands in a second `Stations` with messages of its own, at places of the one count
-//! (`Queues`): a queue has a key from the first message on that is sent to it, or planned to be, and one without a
-//! key and one with no rows are the same in the machine's state (`rows_in`). No queue has a limit.
+//! What the queues hold stands in a second `Stations` with messages of its own, at places of the one count (`jm_queues`).
 //!
 //! Its `state_of` is the machine's `State`, which is reached by the type (`law_core_reached`), and of that the
 //! contracts speak.
@@ -71,34 +69,21 @@
 #![tactic(auto)]
 
 mod answering;
-mod close;
-mod create;
-mod install;
-mod life;
-mod listen;
-mod named;
-mod plan;
+mod planned;
 mod provider;
-mod publish;
-mod queues;
 mod reading;
-mod receive;
-mod reopen;
-mod rows;
 mod run;
-mod state;
-mod stored;
 
 pub use jm_machine::{
     Answer, Call, ClientCall, ConnectionState, Consumer, Definition, Delivery, PlacedRow, Reply,
     Request, Row, RowState, SessionState, Station, Step, Who, copy_reply,
 };
+pub use jm_parts::stored::{Holders, StoredMessage, StoredSubscription, admits, queue_admits};
+pub use jm_queues::rows::Rows;
 pub use jm_stations::{Standing, StoredRow};
-pub use plan::Plan;
+pub use planned::Plan;
 pub use provider::{
     Core, law_core_reached, law_rows_in_order, law_rows_out_to_open, law_rows_within_limit,
 };
 pub use reading::law_places;
-pub use rows::Rows;
 pub use run::drop_ended;
-pub use stored::{Holders, StoredMessage, StoredSubscription, admits, queue_admits};

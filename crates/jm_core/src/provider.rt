@@ -8,18 +8,17 @@ ghost use Rattle.jm_machine.specs.Client.{Progress, begun, RunOwed};
 ghost use Rattle.jm_machine.specs.Isolation.{AreIsolated, Reached};
 ghost use Rattle.jm_machine.specs.Accepted.{HoldsAccepted};
 ghost use Rattle.jm_machine.specs.Rows.{InOrder};
-ghost use Rattle.jm_core.specs.Kept.{IsNumberOfMessages};
+ghost use Rattle.jm_plans.specs.Kept.{IsNumberOfMessages};
 ghost use Rattle.jm_stations.specs.Backlogs as backlogs;
 ghost use Rattle.jm_core.specs.Limits.{AllWithin};
 ghost use Rattle.jm_core.specs.Outstanding.{AreOutToOpen};
-ghost use Rattle.jm_core.specs.Plans.{InstallFits, IsPlan, IsPlanned, IsRefused};
-ghost use Rattle.jm_core.specs.Provider.{may_open, state_of};
-ghost use Rattle.jm_core.specs.Steps.{StepFits};
-ghost use Rattle.jm_core.specs.Stored as stored;
+ghost use Rattle.jm_plans.specs.Plans.{InstallFits, IsPlan, IsPlanned, IsRefused};
+ghost use Rattle.jm_plans.specs.Provider.{may_open, state_of};
+ghost use Rattle.jm_plans.specs.Steps.{StepFits};
+ghost use Rattle.jm_parts.specs.Stored as stored;
 
-use crate::plan::Plan;
-use crate::state::CoreState;
-use crate::stored::{StoredMessage, StoredSubscription};
+use crate::planned::Plan;
+use crate::run::run_on;
 use jm_base::Refusal;
 use jm_dest::{Key, Name, Number, SessionId};
 use jm_header::Message;
@@ -28,6 +27,8 @@ use jm_machine::{
     Answer, ClientCall, ConnectionState, Consumer, Definition, PlacedRow, Reply, SessionState,
     Station, Step,
 };
+use jm_parts::stored::{StoredMessage, StoredSubscription};
+use jm_plans::state::CoreState;
 use std::alloc::{AllocError, Global};
 use std::marker::Model;
 
@@ -48,7 +49,7 @@ impl Drop for Core {
 
 impl Model for Core {
     ghost use Rattle.jm_machine.specs.Isolation.{Reached};
-    ghost use Rattle.jm_core.specs.Provider.{Provider, state_of};
+    ghost use Rattle.jm_plans.specs.Provider.{Provider, state_of};
 
     ghost Value = { Provider };
 
@@ -311,6 +312,6 @@ impl Core {
         ensures err { OnErr result (state_of self.new ≡ state_of self.old) }
     {
         law_isolation_of_runs();
-        self.state.run(calls)
+        run_on(&mut self.state, calls)
     }
 }

@@ -6,20 +6,22 @@ ghost use Rattle.jm_dest.specs.declared.key.Key.{Key as KeyShown};
 ghost use Rattle.jm_header.specs.declared.content.Content.{Content};
 ghost use Rattle.jm_machine.specs.Life as life;
 ghost use Rattle.jm_machine.specs.Machine as machine;
-ghost use Rattle.jm_core.specs.Plans.{IsPlanned};
-ghost use Rattle.jm_core.specs.Provider.{state_of};
-ghost use Rattle.jm_core.specs.Publications.{IsReady};
+ghost use Rattle.jm_plans.specs.Plans.{IsPlanned};
+ghost use Rattle.jm_plans.specs.Provider.{state_of};
+ghost use Rattle.jm_parts.specs.Publications.{IsReady};
 ghost use Rattle.jm_core.specs.Reading as spec;
-ghost use Rattle.jm_core.specs.Takings.{is_queue};
+ghost use Rattle.jm_queues.specs.Rows.{rows_under};
+ghost use Rattle.jm_parts.specs.Takings.{is_queue};
 
-use crate::plan::{Change, Plan};
+use crate::planned::Plan;
 use crate::provider::Core;
-use crate::publish::{Goal, Publication};
-use crate::rows::Rows;
-use crate::state::CoreState;
 use jm_base::Mode;
 use jm_dest::{ConnectionId, ConsumerId, Key, SessionId};
 use jm_machine::{Consumer, Definition};
+use jm_parts::publish::{Goal, Publication};
+use jm_plans::plan::Change;
+use jm_plans::state::CoreState;
+use jm_queues::rows::Rows;
 use jm_stations::Stations;
 use std::alloc::{AllocError, Global};
 
@@ -58,75 +60,73 @@ fn one_key(alloc: Global, key: &Key) -> Result<Vec<Key>, AllocError>
     Ok(keys)
 }
 
-impl CoreState {
-    fn law_places(&self)
-        ensures { (state_of self.now).next_place ≤ machine.places_end }
-    {
-        let _ = &self.stations;
-    }
+fn law_places_in(core: &CoreState)
+    ensures { (state_of core.now).next_place ≤ machine.places_end }
+{
+    let _ = &core.stations;
+}
 
-    fn keys_len(&self) -> usize
-        ensures len { result ≡ length (spec.keys_in self.now) }
-        ensures covers { spec.CoversRows self.now }
-    {
-        self.stations.len() + self.queues.len()
-    }
+fn keys_len_in(core: &CoreState) -> usize
+    ensures len { result ≡ length (spec.keys_in core.now) }
+    ensures covers { spec.CoversRows core.now }
+{
+    core.stations.len() + core.queues.len()
+}
 
-    fn key_at(&self, index: usize) -> &Key
-        requires { index < length (spec.keys_in self.now) }
-        ensures { (d : KeyShown) → result.now ≡ slice_index_or (spec.keys_in self.now) index d }
-    {
-        let subscriptions = self.stations.len();
-        if index < subscriptions {
-            return self.stations.key_at(index);
-        }
-        self.queues.key_at(index - subscriptions)
+fn key_at_in(core: &CoreState, index: usize) -> &Key
+    requires { index < length (spec.keys_in core.now) }
+    ensures { (d : KeyShown) → result.now ≡ slice_index_or (spec.keys_in core.now) index d }
+{
+    let subscriptions = core.stations.len();
+    if index < subscriptions {
+        return core.stations.key_at(index);
     }
+    core.queues.key_at(index - subscriptions)
+}
 
-    fn index_of(&self, key: &Key) -> Option<usize>
-        ensures { spec.IsIndexOf self.now key.now result }
-    {
-        match key {
-            Key::Queue(_) => self.index_of_queue(key),
-            Key::Own(_, _) | Key::SharedOwn(_, _) | Key::Durable(_, _) => {
-                self.stations.index_of(key)
-            }
+fn index_of_in(core: &CoreState, key: &Key) -> Option<usize>
+    ensures { spec.IsIndexOf core.now key.now result }
+{
+    match key {
+        Key::Queue(_) => index_of_queue_in(core, key),
+        Key::Own(_, _) | Key::SharedOwn(_, _) | Key::Durable(_, _) => {
+            core.stations.index_of(key)
         }
     }
+}
 
-    fn index_of_queue(&self, key: &Key) -> Option<usize>
-        requires { is_queue (Some key.now) ≡ true }
-        ensures { spec.IsIndexOf self.now key.now result }
-    {
-        // The numbers of keys are what says that the sum is in range.
-        let subscriptions = self.stations.len();
-        let _queues = self.queues.len();
-        match self.queues.index_of(key) {
-            None => None,
-            Some(index) => Some(subscriptions + index),
-        }
+fn index_of_queue_in(core: &CoreState, key: &Key) -> Option<usize>
+    requires { is_queue (Some key.now) ≡ true }
+    ensures { spec.IsIndexOf core.now key.now result }
+{
+    // The numbers of keys are what says that the sum is in range.
+    let subscriptions = core.stations.len();
+    let _queues = core.queues.len();
+    match core.queues.index_of(key) {
+        None => None,
+        Some(index) => Some(subscriptions + index),
     }
+}
 
-    fn rows_at(&self, index: usize) -> Rows<'_>
-        requires { index < length (spec.keys_in self.now) }
-        ensures { (d : KeyShown) → result ≡ spec.rows_under (state_of self.now) (slice_index_or (spec.keys_in self.now) index d) }
-    {
-        let subscriptions = self.stations.len();
-        if index < subscriptions {
-            return Rows::new(&self.stations, index);
-        }
-        self.queues.rows_at(index - subscriptions)
+fn rows_at_in(core: &CoreState, index: usize) -> Rows<'_>
+    requires { index < length (spec.keys_in core.now) }
+    ensures { (d : KeyShown) → result ≡ rows_under (state_of core.now) (slice_index_or (spec.keys_in core.now) index d) }
+{
+    let subscriptions = core.stations.len();
+    if index < subscriptions {
+        return Rows::new(&core.stations, index);
     }
+    core.queues.rows_at(index - subscriptions)
+}
 
-    /// The keys at which the publication's message lasts.
-    fn lasting_keys(&self, publication: &Publication) -> Result<Vec<Key>, AllocError>
-        requires { (n : ℕ) × IsReady n self.now.known.life self.now.subscriptions.list self.now.held self.now.queues publication.now }
-        ensures { IfOk result (λ keys. spec.AreLasting (state_of self.now) publication.now.message keys.items) }
-    {
-        match &publication.goal {
-            Goal::Queue(index) => one_key(self.alloc, self.queues.key_at(*index)),
-            Goal::Subscriptions(indexes) => durable_keys(self.alloc, &self.stations, indexes),
-        }
+/// The keys at which the publication's message lasts.
+fn lasting_keys_in(core: &CoreState, publication: &Publication) -> Result<Vec<Key>, AllocError>
+    requires { (n : ℕ) × IsReady n core.now.known.life core.now.subscriptions.list core.now.held core.now.queues publication.now }
+    ensures { IfOk result (λ keys. spec.AreLasting (state_of core.now) publication.now.message keys.items) }
+{
+    match &publication.goal {
+        Goal::Queue(index) => one_key(core.alloc, core.queues.key_at(*index)),
+        Goal::Subscriptions(indexes) => durable_keys(core.alloc, &core.stations, indexes),
     }
 }
 
@@ -136,7 +136,7 @@ impl CoreState {
 pub fn law_places(core: &Core)
     ensures { (state_of core.now).next_place ≤ machine.places_end }
 {
-    core.state.law_places();
+    law_places_in(&core.state);
 }
 
 impl Core {
@@ -146,7 +146,7 @@ impl Core {
         ensures len { result ≡ length (spec.keys_in self.now) }
         ensures covers { spec.CoversRows self.now }
     {
-        self.state.keys_len()
+        keys_len_in(&self.state)
     }
 
     /// The key with that index: from 0 those of subscriptions, in order of creation, and behind them those of queues.
@@ -154,7 +154,7 @@ impl Core {
         requires { index < length (spec.keys_in self.now) }
         ensures { (d : KeyShown) → result.now ≡ slice_index_or (spec.keys_in self.now) index d }
     {
-        self.state.key_at(index)
+        key_at_in(&self.state, index)
     }
 
     /// Where the key stands among those; none where it is none of them, and then no row stands under it. It is found by the
@@ -162,15 +162,15 @@ impl Core {
     pub fn index_of(&self, key: &Key) -> Option<usize>
         ensures { spec.IsIndexOf self.now key.now result }
     {
-        self.state.index_of(key)
+        index_of_in(&self.state, key)
     }
 
     /// The rows under the key with that index, which are not copied.
     pub fn rows_at(&self, index: usize) -> Rows<'_>
         requires { index < length (spec.keys_in self.now) }
-        ensures { (d : KeyShown) → result ≡ spec.rows_under (state_of self.now) (slice_index_or (spec.keys_in self.now) index d) }
+        ensures { (d : KeyShown) → result ≡ rows_under (state_of self.now) (slice_index_or (spec.keys_in self.now) index d) }
     {
-        self.state.rows_at(index)
+        rows_at_in(&self.state, index)
     }
 
     /// Whether the connection is open and started.
@@ -203,7 +203,7 @@ impl Core {
         ensures { (m : Content) → slice_get (spec.publishes plan.now) index ≡ Some m →
             IfOk result (λ keys. spec.AreLasting (state_of self.now) m keys.items) }
     {
-        self.state.lasting_keys(&plan.publications()[index])
+        lasting_keys_in(&self.state, &plan.publications()[index])
     }
 }
 

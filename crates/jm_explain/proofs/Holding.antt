@@ -16,7 +16,7 @@ use Rattle.jm_machine.specs.declared.state.RowState.TheVariants.{Waiting, Out}
 use Rattle.jm_machine.specs.Machine.{State, holding_of, is_home, is_idle, rows_of, station_of}
 use Rattle.jm_machine.specs.Rows.{bare, goes_out, is_out, is_waiting, waits}
 use Rattle.jm_machine.specs.Wants.{placed_rows}
-use Rattle.jm_core.specs.Reading.{rows_under}
+use Rattle.jm_queues.specs.Rows.{rows_under}
 use Rattle.jm_overview.specs.Overview.{out_in}
 use Rattle.jm_explain.specs.Held.{is_any_active, is_any_out}
 

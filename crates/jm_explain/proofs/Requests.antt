@@ -12,7 +12,7 @@ use Rattle.jm_machine.specs.declared.call.Call.TheVariants.{Ask}
 use Rattle.jm_machine.specs.declared.state.Definition.{Definition}
 use Rattle.jm_machine.specs.Life.{client_of}
 use Rattle.jm_machine.specs.Machine.{State, asked, definition_of, durable_of, holding_of, is_home, is_idle, selected_by, station_of}
-use Rattle.jm_core.specs.Reading.{rows_under}
+use Rattle.jm_queues.specs.Rows.{rows_under}
 use Rattle.jm_why.specs.declared.cause.Why.{Why}
 use Rattle.jm_why.specs.declared.cause.Why.TheVariants.{NoClient}
 use Rattle.jm_why.specs.Why.{begin_why, delete_why, first_why, join_why, request_why, resume_why, session_why, subscription_why, unless, why as why_of}

@@ -1,7 +1,7 @@
 //! Causes of calls.
 
 ghost use Rattle.std.specs.Prelude.{◌≡◌, [], ◌∷◌, ◌==◌, ◌&&◌, true, IfOk, OnErr};
-ghost use Rattle.jm_core.specs.Provider.{state_of};
+ghost use Rattle.jm_plans.specs.Provider.{state_of};
 ghost use Rattle.jm_dest.specs.Names.{session_eq};
 ghost use Rattle.jm_explain.specs.Held.{IsNoState, names_none};
 ghost use Rattle.jm_header.specs.declared.content.Content.{Content};
@@ -310,7 +310,7 @@ pub fn why(alloc: Global, core: &Core, step: &Step) -> Result<Option<Why>, Alloc
 /// Why the core refuses as `IllegalState` that the session publishes one message of that sender: the first cause that stands;
 /// none where it is not refused so. Of the message it needs no more, which may be gone. It looks only, and changes nothing.
 /// Takes no memory.
-pub fn publish_why(core: &Core, session: &SessionId, sender: &Sender) -> Option<Why>
+pub fn send_why(core: &Core, session: &SessionId, sender: &Sender) -> Option<Why>
     ensures { (message : Content) → message.sender ≡ sender.now →
         result ≡ spec.why (state_of core.now) (Who.Session session.now) (Call.Publish (message ∷ [])) }
 {

@@ -1,8 +1,8 @@
 //! What is held of a key that has a name, as far as a cause looks at it.
 
 ghost use Rattle.std.specs.Prelude.{◌≡◌, not};
-ghost use Rattle.jm_core.specs.Provider.{state_of};
-ghost use Rattle.jm_core.specs.Reading.{rows_under};
+ghost use Rattle.jm_plans.specs.Provider.{state_of};
+ghost use Rattle.jm_queues.specs.Rows.{rows_under};
 ghost use Rattle.jm_explain.specs.Held.{is_active_at, is_any_active, is_any_out};
 
 use jm_core::Core;

@@ -10,7 +10,7 @@
 //! `why` fails only where what is held under a key of a subscription is looked at (`IsNoState`): never for a cause behind an
 //! `IllegalState`.
 //!
-//! `publish_why` answers the same, without fail, of a session that publishes one message, of which it needs the sender alone: so
+//! `send_why` answers the same, without fail, of a session that publishes one message, of which it needs the sender alone: so
 //! a message that is moved into its publication can be gone by then.
 #![tactic(auto)]
 
@@ -20,5 +20,5 @@ mod held;
 mod life;
 mod named;
 
-pub use calls::{publish_why, why};
+pub use calls::{send_why, why};
 pub use jm_why::Why;

@@ -2,8 +2,8 @@
 
 ghost use Rattle.std.specs.Prelude.{◌≡◌, is_some, IfOk};
 ghost use Rattle.std.specs.Option.{option_copied};
-ghost use Rattle.jm_core.specs.Provider.{state_of};
-ghost use Rattle.jm_core.specs.Reading.{rows_under};
+ghost use Rattle.jm_plans.specs.Provider.{state_of};
+ghost use Rattle.jm_queues.specs.Rows.{rows_under};
 ghost use Rattle.jm_explain.specs.Held.{had_why as had_cause, is_any_active, is_any_out};
 ghost use Rattle.jm_machine.specs.Life as life;
 ghost use Rattle.jm_machine.specs.Machine as machine;

@@ -12,8 +12,8 @@ use Rattle.jm_machine.specs.declared.call.Call.TheVariants.{Ask, Publish, Commit
 use Rattle.jm_machine.specs.Life.{mode_of}
 use Rattle.jm_machine.specs.Machine.{State, held, refusal, answer, publish_refusal, commit_refusal, after, after_commit, published, replied, moved, reply, step, has_places, is_stamped, is_transacted, is_untransacted, unless}
 use Rattle.jm_machine.proofs.Outside.{no_store}
-use Rattle.jm_core.specs.Plans.{IsRefused}
-use Rattle.jm_core.specs.Steps.{StepFits}
+use Rattle.jm_plans.specs.Plans.{IsRefused}
+use Rattle.jm_plans.specs.Steps.{StepFits}
 use Rattle.jm_kept.specs.Kept.{KeptFits}
 
 refused : (o : Option Refusal) (r : Refusal) (a : Answer) (x y : State) → Err r ≡ replied o a → moved o x y ≡ y

@@ -1,7 +1,7 @@
 //! Runs lists of client calls over a keeper.
 
 ghost use Rattle.std.specs.Prelude.{◌≡◌, ◌≤◌, false, Err, Contains, IsTrue, IfOk, OnErr};
-ghost use Rattle.jm_core.specs.Provider.{state_of};
+ghost use Rattle.jm_plans.specs.Provider.{state_of};
 ghost use Rattle.jm_keep.specs.Persisted.{IsPersisted};
 ghost use Rattle.jm_kept.specs.Runs.{HasFailed, RunKept};
 ghost use Rattle.jm_machine.specs.Client.{Progress, begun, RunOwed};

@@ -1,9 +1,9 @@
 //! Steps whose changes a keeper keeps.
 
 ghost use Rattle.std.specs.Prelude.{◌≡◌, ◌≤◌, [], ◌∷◌, false, true, Err, IsTrue, IfErr, OnOk, OnErr, IsErrOf};
-ghost use Rattle.jm_core.specs.Plans.{IsPlan};
-ghost use Rattle.jm_core.specs.Provider.{state_of};
-ghost use Rattle.jm_core.specs.Steps.{StepFits};
+ghost use Rattle.jm_plans.specs.Plans.{IsPlan};
+ghost use Rattle.jm_plans.specs.Provider.{state_of};
+ghost use Rattle.jm_plans.specs.Steps.{StepFits};
 ghost use Rattle.jm_keep.specs.Persisted.{IsPersisted};
 ghost use Rattle.jm_keep.specs.Stored.{HasRisen, changed_all};
 ghost use Rattle.jm_kept.specs.Kept.{KeptFits};

@@ -11,11 +11,11 @@ use Rattle.jm_machine.specs.declared.state.Definition.{Definition}
 use Rattle.jm_machine.specs.Life.{client_of}
 use Rattle.jm_machine.specs.Machine.{State, asked, definition_of, durable_of, same_definition, station_of}
 use Rattle.jm_sub.specs.Subscriptions.{Subscription}
-use Rattle.jm_core.specs.declared.plan.Change.{Change}
-use Rattle.jm_core.specs.declared.plan.Change.TheVariants as change
-use Rattle.jm_core.specs.Named.{IsDecidedFor, decision_of}
-use Rattle.jm_core.specs.Plans.{IsPlan}
-use Rattle.jm_core.specs.Provider.{Provider, state_of}
+use Rattle.jm_plans.specs.declared.plan.Change.{Change}
+use Rattle.jm_plans.specs.declared.plan.Change.TheVariants as change
+use Rattle.jm_plans.specs.Named.{IsDecidedFor, decision_of}
+use Rattle.jm_plans.specs.Plans.{IsPlan}
+use Rattle.jm_plans.specs.Provider.{Provider, state_of}
 use Rattle.jm_core.specs.Reading.{decides, deletes, publishes, puts}
 use Rattle.jm_changes.specs.Planned.{IsDecided, IsPlannedCall, IsPlannedRequest}
 

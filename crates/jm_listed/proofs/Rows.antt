@@ -19,11 +19,12 @@ use Rattle.jm_changes.specs.declared.planned.Standing.{Standing}
 use Rattle.jm_changes.specs.Standing.{first_where, standing}
 use Rattle.jm_keep_law.proofs.Published.{under_in_order}
 use Rattle.jm_core.specs.Reading as reading
-use Rattle.jm_core.specs.Takings.{is_queue}
+use Rattle.jm_queues.specs.Rows as queues
+use Rattle.jm_parts.specs.Takings.{is_queue}
 
 -- ---- the same words
 
-pub same_rows : (state : State) (key : Key) → reading.rows_under state key ≡ rows_under state key
+pub same_rows : (state : State) (key : Key) → queues.rows_under state key ≡ rows_under state key
 same_rows state (Queue name) = refl
 same_rows state (Own s c) = refl
 same_rows state (SharedOwn client name) = refl

@@ -4,8 +4,8 @@ ghost use Rattle.std.specs.Prelude.{IfOk};
 ghost use Rattle.jm_machine.specs.Machine as machine;
 ghost use Rattle.jm_keep.specs.Calls.{AreChanges};
 ghost use Rattle.jm_keep.specs.Persisted.{LeadsTo};
-ghost use Rattle.jm_core.specs.Plans.{IsPlan};
-ghost use Rattle.jm_core.specs.Provider.{state_of};
+ghost use Rattle.jm_plans.specs.Plans.{IsPlan};
+ghost use Rattle.jm_plans.specs.Provider.{state_of};
 
 use crate::planned::PlannedStep;
 use jm_core::{Core, Plan, Step};

@@ -6,8 +6,8 @@ ghost use Rattle.jm_keep.specs.Persisted.{is_persistent as persists};
 ghost use Rattle.jm_stations.specs.Standing as reads;
 ghost use Rattle.jm_keep.specs.Steps.{StandsInOrder, next_under};
 ghost use Rattle.jm_changes.specs.Standing as standing;
-ghost use Rattle.jm_core.specs.Plans.{IsPlanned};
-ghost use Rattle.jm_core.specs.Provider.{state_of};
+ghost use Rattle.jm_plans.specs.Plans.{IsPlanned};
+ghost use Rattle.jm_plans.specs.Provider.{state_of};
 
 use jm_base::Mode;
 use jm_changes::{Planned, Standing, Which};
@@ -29,8 +29,8 @@ impl<'a> Model for PlannedStep<'a> {
     ghost use Rattle.std.specs.Prelude.{◌≤◌};
     ghost use Rattle.jm_machine.specs.Machine.{places_end};
     ghost use Rattle.jm_keep.specs.Steps.{StandsInOrder};
-    ghost use Rattle.jm_core.specs.Plans.{IsPlanned};
-    ghost use Rattle.jm_core.specs.Provider.{state_of};
+    ghost use Rattle.jm_plans.specs.Plans.{IsPlanned};
+    ghost use Rattle.jm_plans.specs.Provider.{state_of};
     ghost use Rattle.jm_listed.specs.Planning.{Planning};
 
     ghost Value = { Planning };
@@ -124,7 +124,7 @@ impl<'a> PlannedStep<'a> {
 }
 
 impl<'a> Planned for PlannedStep<'a> {
-    ghost use Rattle.jm_core.specs.Provider.{state_of};
+    ghost use Rattle.jm_plans.specs.Provider.{state_of};
     ghost use Rattle.jm_core.specs.Reading as reading;
 
     ghost state = { λ p. state_of p.core };

@@ -26,7 +26,7 @@ use Rattle.jm_machine.specs.Machine.{is_to}
 use Rattle.jm_machine.specs.Reopened.{is_durable}
 use Rattle.jm_machine.proofs.Keys.{key_refl, key_same, text_same}
 use Rattle.jm_keep.specs.Persisted.{is_persistent}
-use Rattle.jm_core.specs.Stored as core
+use Rattle.jm_parts.specs.Stored as core
 use Rattle.jm_selector.specs.Selectors.{matches, selector_read}
 use Rattle.jm_tables.specs.Keys.{is_key, key_of}
 use Rattle.jm_tables.specs.Rows.{definition_in, is_at, is_under, record_at}

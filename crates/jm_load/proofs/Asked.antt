@@ -15,7 +15,7 @@ use Rattle.jm_selector.specs.Selectors.{read_refusal, selector_read, selector_re
 use Rattle.jm_machine.specs.declared.state.Definition.{Definition}
 use Rattle.jm_machine.specs.Reopened.{is_durable}
 use Rattle.jm_holds.specs.Holds.{HoldsMessages}
-use Rattle.jm_core.specs.Provider.{Provider, state_of}
+use Rattle.jm_plans.specs.Provider.{Provider, state_of}
 use Rattle.jm_tables.specs.Keys.{client_in, key_of, queue_in}
 use Rattle.jm_tables.specs.Rows.{definition_in, selector_in}
 use Rattle.jm_tables.specs.Valid.{is_queue, is_subscription}

@@ -2,7 +2,7 @@
 use Rattle.std.proofs.Common.{◌≡◌, None, Option, Result, Ok, Err, IfErr, IfOk, OnOk, subst}
 use Rattle.sqlite.specs.Effect.{Database}
 use Rattle.sqlite_trees.specs.Tree.{Trees}
-use Rattle.jm_core.specs.Provider.{Provider, state_of}
+use Rattle.jm_plans.specs.Provider.{Provider, state_of}
 use Rattle.jm_keep.specs.Persisted.{IsPersisted}
 use Rattle.jm_machine.specs.Machine.{State}
 use Rattle.jm_tables.specs.Rows.{stored_in}

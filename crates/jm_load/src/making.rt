@@ -1,7 +1,7 @@
 //! A core of the decoded rows.
 
 ghost use Rattle.std.specs.Prelude.{◌≡◌, None, true, IfOk, IfErr, OnOk};
-ghost use Rattle.jm_core.specs.Provider.{may_open, state_of};
+ghost use Rattle.jm_plans.specs.Provider.{may_open, state_of};
 ghost use Rattle.jm_keep.specs.Persisted.{IsPersisted};
 ghost use Rattle.std.specs.List.{AllByRecursion};
 ghost use Rattle.jm_holds.specs.Holds.{HoldsMessages};

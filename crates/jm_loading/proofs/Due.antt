@@ -5,8 +5,8 @@ use Rattle.std.specs.List.{All}
 use Rattle.std.proofs.lemmas.Bool.{eq-eqb, eqb-true}
 use Rattle.std.proofs.lemmas.List.Elements.{All-head, All-tail}
 use Rattle.jm_header.specs.Headers.{is_delayed}
-use Rattle.jm_core.specs.declared.stored.StoredMessage.{StoredMessage}
-use Rattle.jm_core.specs.Stored.{ArePlaced}
+use Rattle.jm_parts.specs.declared.stored.StoredMessage.{StoredMessage}
+use Rattle.jm_parts.specs.Stored.{ArePlaced}
 use Rattle.jm_reopened.specs.Given.{due_given, given_at}
 use Rattle.jm_decoding.specs.declared.delay.DelayRow.{DelayRow}
 use Rattle.jm_loading.specs.Delays.{HasItsDelay, IsDelay}

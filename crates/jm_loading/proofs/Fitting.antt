@@ -22,18 +22,18 @@ use Rattle.jm_machine.specs.Rows.{greatest_count}
 use Rattle.jm_machine.proofs.Keys.{key_refl, key_same}
 use Rattle.jm_stations.specs.declared.loading.StoredRow.{StoredRow}
 use Rattle.jm_stations.specs.Loading.{stored_at}
-use Rattle.jm_core.specs.declared.stored.Holders.{Holders}
-use Rattle.jm_core.specs.declared.stored.Holders.TheVariants as holders
-use Rattle.jm_core.specs.declared.stored.StoredMessage.{StoredMessage}
-use Rattle.jm_core.specs.declared.stored.StoredSubscription.{StoredSubscription}
-use Rattle.jm_core.specs.Stored.{AreHolders, admits, count_at, count_under, queue_admits}
+use Rattle.jm_parts.specs.declared.stored.Holders.{Holders}
+use Rattle.jm_parts.specs.declared.stored.Holders.TheVariants as holders
+use Rattle.jm_parts.specs.declared.stored.StoredMessage.{StoredMessage}
+use Rattle.jm_parts.specs.declared.stored.StoredSubscription.{StoredSubscription}
+use Rattle.jm_parts.specs.Stored.{AreHolders, admits, count_at, count_under, queue_admits}
 use Rattle.jm_reopened.specs.Given.{AreSome, count_given, count_in, count_of_key, given_at}
 use Rattle.jm_decoding.specs.declared.delay.DelayRow.{DelayRow}
 use Rattle.jm_decoding.specs.declared.held.HeldRow.{HeldRow}
 use Rattle.jm_decoding.specs.declared.message.MessageRow.{MessageRow}
 use Rattle.jm_decoding.specs.declared.station.StationRow.{StationRow}
 use Rattle.jm_loading.specs.Delays.{IsDelay, IsDelayAt, IsDueAt}
-use Rattle.jm_core.specs.Stored.{ArePlaced}
+use Rattle.jm_parts.specs.Stored.{ArePlaced}
 use Rattle.jm_loading.specs.Messages.{content_at, content_said}
 use Rattle.jm_loading.proofs.Placed.{given_here}
 use Rattle.jm_loading.specs.Fitting.{IsDelayed, IsHeld, held_cmp, is_holder, may_hold}

@@ -19,11 +19,11 @@ use Rattle.jm_machine.proofs.Keys.{key_refl, text_same}
 use Rattle.jm_selector.specs.Selectors.{matches}
 use Rattle.jm_stations.specs.declared.loading.StoredRow.{StoredRow}
 use Rattle.jm_stations.specs.Loading.{stored_at}
-use Rattle.jm_core.specs.declared.stored.Holders.{Holders}
-use Rattle.jm_core.specs.declared.stored.Holders.TheVariants as holders
-use Rattle.jm_core.specs.declared.stored.StoredMessage.{StoredMessage}
-use Rattle.jm_core.specs.declared.stored.StoredSubscription.{StoredSubscription}
-use Rattle.jm_core.specs.Stored.{AreHolders, IsAdmitted, admits, count_at, count_under, is_persistent, queue_admits, sent_to}
+use Rattle.jm_parts.specs.declared.stored.Holders.{Holders}
+use Rattle.jm_parts.specs.declared.stored.Holders.TheVariants as holders
+use Rattle.jm_parts.specs.declared.stored.StoredMessage.{StoredMessage}
+use Rattle.jm_parts.specs.declared.stored.StoredSubscription.{StoredSubscription}
+use Rattle.jm_parts.specs.Stored.{AreHolders, IsAdmitted, admits, count_at, count_under, is_persistent, queue_admits, sent_to}
 use Rattle.jm_reopened.specs.Given.{count_in, count_of_key}
 use Rattle.jm_decoding.specs.declared.station.StationRow.{StationRow}
 use Rattle.jm_loading.specs.Fitting.{is_holder, may_hold}

@@ -15,13 +15,13 @@ use Rattle.jm_dest.specs.declared.key.Key.{Key}
 use Rattle.jm_dest.specs.Keys.{key_eq}
 use Rattle.jm_machine.specs.Machine.{places_end}
 use Rattle.jm_machine.specs.Rows.{greatest_count}
-use Rattle.jm_core.specs.declared.stored.StoredSubscription.{StoredSubscription}
+use Rattle.jm_parts.specs.declared.stored.StoredSubscription.{StoredSubscription}
 use Rattle.jm_decoding.specs.declared.delay.DelayRow.{DelayRow}
 use Rattle.jm_decoding.specs.declared.held.HeldRow.{HeldRow}
 use Rattle.jm_loading.specs.Delays.{IsDelay, IsDueAt}
 use Rattle.jm_loading.specs.Holding.{CanHold, CanHoldUnder, CanTake, EndsBefore}
-use Rattle.jm_core.specs.declared.stored.StoredMessage.{StoredMessage}
-use Rattle.jm_core.specs.Stored.{ArePlaced, admits}
+use Rattle.jm_parts.specs.declared.stored.StoredMessage.{StoredMessage}
+use Rattle.jm_parts.specs.Stored.{ArePlaced, admits}
 use Rattle.jm_reopened.specs.Given.{given_at}
 use Rattle.jm_decoding.specs.declared.message.MessageRow.{MessageRow}
 use Rattle.jm_loading.specs.Fitting.{FitMessages, IsPlaced, message_cmp}

@@ -20,7 +20,7 @@ use Rattle.jm_dest.specs.declared.key.Key.{Key}
 use Rattle.jm_dest.specs.Keys.{key_eq}
 use Rattle.jm_dest.specs.Names.{text_eq}
 use Rattle.jm_machine.proofs.Keys.{key_same, text_same}
-use Rattle.jm_core.specs.declared.stored.StoredSubscription.{StoredSubscription}
+use Rattle.jm_parts.specs.declared.stored.StoredSubscription.{StoredSubscription}
 use Rattle.jm_loading.specs.Order.{key_cmp}
 use Rattle.jm_loading.proofs.Keys.{key_order}
 use Rattle.jm_stations.specs.declared.loading.StoredRow.{StoredRow}

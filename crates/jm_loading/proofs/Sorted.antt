@@ -14,7 +14,7 @@ use Rattle.jm_dest.specs.Keys.{key_eq}
 use Rattle.jm_machine.specs.declared.state.Definition.{Definition}
 use Rattle.jm_machine.specs.Reopened.{is_durable}
 use Rattle.jm_machine.proofs.Keys.{key_same}
-use Rattle.jm_core.specs.declared.stored.StoredSubscription.{StoredSubscription}
+use Rattle.jm_parts.specs.declared.stored.StoredSubscription.{StoredSubscription}
 use Rattle.jm_decoding.specs.declared.station.StationRow.{StationRow}
 use Rattle.jm_loading.specs.Order.{key_cmp}
 use Rattle.jm_loading.specs.Said.{definition_said}

@@ -8,9 +8,9 @@ use Rattle.std.proofs.lemmas.List.Elements.{All-set}
 use Rattle.std.proofs.lemmas.List.Folds.{find-append}
 use Rattle.jm_dest.specs.declared.key.Key.{Key}
 use Rattle.jm_dest.specs.Keys.{key_eq}
-use Rattle.jm_core.specs.declared.stored.StoredMessage.{StoredMessage}
-use Rattle.jm_core.specs.declared.stored.StoredSubscription.{StoredSubscription}
-use Rattle.jm_core.specs.Stored.{AreHolders}
+use Rattle.jm_parts.specs.declared.stored.StoredMessage.{StoredMessage}
+use Rattle.jm_parts.specs.declared.stored.StoredSubscription.{StoredSubscription}
+use Rattle.jm_parts.specs.Stored.{AreHolders}
 use Rattle.jm_reopened.specs.Given.{count_given, count_of_key, given_at}
 use Rattle.jm_decoding.specs.declared.held.HeldRow.{HeldRow}
 use Rattle.jm_decoding.specs.declared.message.MessageRow.{MessageRow}

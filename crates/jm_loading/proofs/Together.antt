@@ -5,9 +5,9 @@ use Rattle.std.specs.List.{All}
 use Rattle.jm_format.specs.Format as format
 use Rattle.jm_header.specs.declared.content.Content.{Content}
 use Rattle.jm_dest.specs.Keys.{key_eq}
-use Rattle.jm_core.specs.declared.stored.StoredMessage.{StoredMessage}
-use Rattle.jm_core.specs.declared.stored.StoredSubscription.{StoredSubscription}
-use Rattle.jm_core.specs.Stored.{state_stored}
+use Rattle.jm_parts.specs.declared.stored.StoredMessage.{StoredMessage}
+use Rattle.jm_parts.specs.declared.stored.StoredSubscription.{StoredSubscription}
+use Rattle.jm_parts.specs.Stored.{state_stored}
 use Rattle.jm_keep.specs.Persisted.{IsDue, IsPersisted, IsRecord}
 use Rattle.jm_keep.specs.Stored.{Stored}
 use Rattle.jm_machine.specs.Machine.{State}

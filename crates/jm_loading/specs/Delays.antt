@@ -2,7 +2,7 @@
 use Rattle.std.specs.Prelude.{◌≡◌, ◌<◌, ℕ, true, List, length, slice_index_or}
 use Rattle.jm_header.specs.declared.content.Content.{Content}
 use Rattle.jm_header.specs.Headers.{is_delayed}
-use Rattle.jm_core.specs.declared.stored.StoredMessage.{StoredMessage}
+use Rattle.jm_parts.specs.declared.stored.StoredMessage.{StoredMessage}
 use Rattle.jm_reopened.specs.Given.{AreSome}
 use Rattle.jm_decoding.specs.declared.delay.DelayRow.{DelayRow}
 

@@ -11,7 +11,7 @@ use Rattle.jm_header.specs.Headers.{is_delayed}
 use Rattle.jm_machine.specs.declared.state.Definition.{Definition}
 use Rattle.jm_machine.specs.Machine.{places_end}
 use Rattle.jm_machine.specs.Rows.{greatest_count}
-use Rattle.jm_core.specs.Stored.{admits, queue_admits}
+use Rattle.jm_parts.specs.Stored.{admits, queue_admits}
 use Rattle.jm_decoding.specs.declared.station.StationRow.{StationRow}
 use Rattle.jm_decoding.specs.declared.message.MessageRow.{MessageRow}
 use Rattle.jm_decoding.specs.declared.held.HeldRow.{HeldRow}

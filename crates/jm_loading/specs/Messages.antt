@@ -1,10 +1,10 @@
 -- The messages, by place.
 use Rattle.std.specs.Prelude.{◌≡◌, ℕ, List, [], All, map, option_map, Option}
 use Rattle.jm_header.specs.declared.content.Content.{Content}
-use Rattle.jm_core.specs.declared.stored.Holders.{Holders}
-use Rattle.jm_core.specs.declared.stored.Holders.TheVariants as holders
-use Rattle.jm_core.specs.declared.stored.StoredMessage.{StoredMessage}
-use Rattle.jm_core.specs.Stored.{ArePlaced}
+use Rattle.jm_parts.specs.declared.stored.Holders.{Holders}
+use Rattle.jm_parts.specs.declared.stored.Holders.TheVariants as holders
+use Rattle.jm_parts.specs.declared.stored.StoredMessage.{StoredMessage}
+use Rattle.jm_parts.specs.Stored.{ArePlaced}
 use Rattle.jm_reopened.specs.Given.{given_at}
 use Rattle.jm_decoding.specs.declared.message.MessageRow.{MessageRow}
 use Rattle.jm_loading.specs.Said.{message_said}

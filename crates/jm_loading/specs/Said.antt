@@ -6,9 +6,9 @@ use Rattle.jm_header.specs.declared.content.Content.{Content}
 use Rattle.jm_format.specs.Format as format
 use Rattle.jm_machine.specs.declared.state.Definition.{Definition}
 use Rattle.jm_keep.specs.Stored.{Stored}
-use Rattle.jm_core.specs.declared.stored.StoredMessage.{StoredMessage}
-use Rattle.jm_core.specs.declared.stored.StoredSubscription.{StoredSubscription}
-use Rattle.jm_core.specs.Stored.{MayReopen}
+use Rattle.jm_parts.specs.declared.stored.StoredMessage.{StoredMessage}
+use Rattle.jm_parts.specs.declared.stored.StoredSubscription.{StoredSubscription}
+use Rattle.jm_parts.specs.Stored.{MayReopen}
 use Rattle.jm_reopened.specs.Given.{AreSome, given}
 use Rattle.jm_decoding.specs.declared.station.StationRow.{StationRow}
 use Rattle.jm_decoding.specs.declared.message.MessageRow.{MessageRow}

@@ -1,8 +1,8 @@
 //! The rows of delayed, and what no message may lack.
 
 ghost use Rattle.std.specs.Prelude.{◌≡◌, ◌+◌, ◌<◌, ℕ, All, length, slice_index_or, Decides, IsTrue, OnOk, IfErr};
-ghost use Rattle.jm_core.specs.declared.stored.StoredMessage.{StoredMessage as Stored};
-ghost use Rattle.jm_core.specs.Stored.{ArePlaced};
+ghost use Rattle.jm_parts.specs.declared.stored.StoredMessage.{StoredMessage as Stored};
+ghost use Rattle.jm_parts.specs.Stored.{ArePlaced};
 ghost use Rattle.jm_decoding.specs.declared.delay.DelayRow.{DelayRow as Delay};
 ghost use Rattle.jm_reopened.specs.Given.{AreSome};
 ghost use Rattle.jm_loading.specs.Delays.{HasItsDelay, IsDelay, IsDueAt, IsHeldInTime};

@@ -1,7 +1,7 @@
 //! Who holds a message.
 
 ghost use Rattle.std.specs.Prelude.{◌≡◌, ◌≤◌, true, Decides, IsTrue, IfOk};
-ghost use Rattle.jm_core.specs.Stored.{admits, queue_admits};
+ghost use Rattle.jm_parts.specs.Stored.{admits, queue_admits};
 ghost use Rattle.jm_machine.specs.Rows.{greatest_count};
 ghost use Rattle.jm_loading.specs.Holding.{EndsBefore, IsHeldInQueue, IsHeldUnder, end_of};
 ghost use Rattle.jm_loading.specs.Messages.{IsUnheld};

@@ -1,8 +1,8 @@
 //! The messages, by place.
 
 ghost use Rattle.std.specs.Prelude.{◌≡◌, ◌<◌, ◌≤◌, ℕ, None, All, slice_index_or, length, Decides, IfOk, IfErr, IfSome, OnOk};
-ghost use Rattle.jm_core.specs.declared.stored.StoredMessage.{StoredMessage as Stored};
-ghost use Rattle.jm_core.specs.Stored.{ArePlaced};
+ghost use Rattle.jm_parts.specs.declared.stored.StoredMessage.{StoredMessage as Stored};
+ghost use Rattle.jm_parts.specs.Stored.{ArePlaced};
 ghost use Rattle.jm_machine.specs.Machine.{places_end};
 ghost use Rattle.jm_loading.specs.Faults.{IsFaultAt};
 ghost use Rattle.jm_loading.specs.Fitting.{FitMessages, IsPlaced, message_cmp};

@@ -1,7 +1,7 @@
 //! A core of what the rows say.
 
 ghost use Rattle.std.specs.Prelude.{◌≡◌, true, IfOk, IfErr};
-ghost use Rattle.jm_core.specs.Provider.{may_open, state_of};
+ghost use Rattle.jm_plans.specs.Provider.{may_open, state_of};
 ghost use Rattle.jm_keep.specs.Persisted.{IsPersisted};
 ghost use Rattle.std.specs.List.{AllByRecursion};
 ghost use Rattle.jm_holds.specs.Holds.{HoldsMessages};

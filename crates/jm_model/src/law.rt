@@ -1,4 +1,4 @@
-ghost use Rattle.jm_core.specs.Provider.{state_of};
+ghost use Rattle.jm_plans.specs.Provider.{state_of};
 ghost use Rattle.jm_machine.specs.Isolation.{IsolationFrom};
 
 use jm_core::{Core, law_core_reached};

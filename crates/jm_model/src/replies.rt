@@ -3,7 +3,7 @@
 ghost use Rattle.std.specs.Prelude.{◌≡◌, ◌++◌, [], List, option_to_list, slice_get, true, Some, IfOk, OnOk, MatchResult, if◌then◌else◌};
 ghost use Rattle.std.specs.List.{list_all};
 ghost use Rattle.std.specs.Option.{option_copied};
-ghost use Rattle.jm_core.specs.Provider.{state_of};
+ghost use Rattle.jm_plans.specs.Provider.{state_of};
 ghost use Rattle.jm_lone.specs.Parts.{is_held_alone};
 ghost use Rattle.jm_machine.specs.Isolation as isolation;
 ghost use Rattle.jm_machine.specs.Life.{Life};

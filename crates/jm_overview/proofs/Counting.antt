@@ -11,7 +11,7 @@ use Rattle.jm_dest.specs.declared.key.Key.TheVariants.{Queue, Own, SharedOwn, Du
 use Rattle.jm_machine.specs.Machine.{State, places_end}
 use Rattle.jm_keep.specs.Steps.{StandsInOrder}
 use Rattle.jm_keep_law.proofs.Published.{under_in_order}
-use Rattle.jm_core.specs.Reading.{rows_under}
+use Rattle.jm_queues.specs.Rows.{rows_under}
 use Rattle.jm_overview.specs.Overview.{waiting_in, out_in}
 
 -- rows above a place stand from each place on that is not above the next

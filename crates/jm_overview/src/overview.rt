@@ -4,8 +4,9 @@ ghost use Rattle.std.specs.Prelude.{◌≡◌, ◌<◌, length, slice_index_or};
 ghost use Rattle.jm_dest.specs.declared.key.Key.{Key as KeyShown};
 ghost use Rattle.jm_machine.specs.Machine.{places_end};
 ghost use Rattle.jm_machine.specs.Rows.{InOrder};
-ghost use Rattle.jm_core.specs.Provider.{state_of};
-ghost use Rattle.jm_core.specs.Reading.{keys_in, rows_under};
+ghost use Rattle.jm_plans.specs.Provider.{state_of};
+ghost use Rattle.jm_core.specs.Reading.{keys_in};
+ghost use Rattle.jm_queues.specs.Rows.{rows_under};
 ghost use Rattle.jm_overview.specs.Overview as spec;
 
 use crate::tally::tally_of;

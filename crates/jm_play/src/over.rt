@@ -1,7 +1,7 @@
 //! Scenarios on a provider over a keeper.
 
 ghost use Rattle.std.specs.Prelude.{◌≡◌, ◌≢◌, ◌≤◌, ◌+◌, IsTrue, IfOk, IfErr, IfSome, OnErr, string_bytes};
-ghost use Rattle.jm_core.specs.Provider.{state_of};
+ghost use Rattle.jm_plans.specs.Provider.{state_of};
 ghost use Rattle.jm_keep.specs.Persisted.{IsPersisted};
 ghost use Rattle.jm_play.specs.Ending.{Ends, ToldBy};
 ghost use Rattle.jm_play.specs.Over.{PlaysOver, RepliesOver};

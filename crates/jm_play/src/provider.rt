@@ -1,7 +1,7 @@
 //! A new provider, which keeps nothing.
 
 ghost use Rattle.std.specs.Prelude.{◌≡◌, IfSome};
-ghost use Rattle.jm_core.specs.Provider.{state_of};
+ghost use Rattle.jm_plans.specs.Provider.{state_of};
 ghost use Rattle.jm_machine.specs.Machine as machine;
 ghost use Rattle.jm_words.specs.Words.{IsLimit};
 ghost use Rattle.jm_play.specs.Play as spec;

@@ -26,11 +26,11 @@ use Rattle.jm_machine.specs.Wants.{placed_rows}
 use Rattle.jm_machine.proofs.Keys.{key_refl}
 use Rattle.jm_stations.specs.declared.loading.StoredRow.{StoredRow}
 use Rattle.jm_stations.specs.Loading.{stored_at, stored_row}
-use Rattle.jm_core.specs.declared.stored.Holders.{Holders}
-use Rattle.jm_core.specs.declared.stored.Holders.TheVariants as holders
-use Rattle.jm_core.specs.declared.stored.StoredMessage.{StoredMessage}
-use Rattle.jm_core.specs.declared.stored.StoredSubscription.{StoredSubscription}
-use Rattle.jm_core.specs.Stored.{AreHolders, ArePlaced, IsAdmitted, MayReopen, count_at, count_under, is_persistent, row_stored, rows_stored, rows_under, sent_to, state_stored, stations_stored}
+use Rattle.jm_parts.specs.declared.stored.Holders.{Holders}
+use Rattle.jm_parts.specs.declared.stored.Holders.TheVariants as holders
+use Rattle.jm_parts.specs.declared.stored.StoredMessage.{StoredMessage}
+use Rattle.jm_parts.specs.declared.stored.StoredSubscription.{StoredSubscription}
+use Rattle.jm_parts.specs.Stored.{AreHolders, ArePlaced, IsAdmitted, MayReopen, count_at, count_under, is_persistent, row_stored, rows_stored, rows_under, sent_to, state_stored, stations_stored}
 use Rattle.jm_reopened.specs.Given.{AreSome, ReopenedIsGiven, count_given, count_in, count_of_key, due_given, given, given_at}
 
 -- what stands for a row where there is none

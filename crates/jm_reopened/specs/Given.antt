@@ -6,11 +6,11 @@ use Rattle.jm_dest.specs.Keys.{key_eq}
 use Rattle.jm_format.specs.Format as format
 use Rattle.jm_keep.specs.Persisted.{IsPersisted, due_time}
 use Rattle.jm_keep.specs.Stored.{Stored}
-use Rattle.jm_core.specs.declared.stored.Holders.{Holders}
-use Rattle.jm_core.specs.declared.stored.Holders.TheVariants as holders
-use Rattle.jm_core.specs.declared.stored.StoredMessage.{StoredMessage}
-use Rattle.jm_core.specs.declared.stored.StoredSubscription.{StoredSubscription}
-use Rattle.jm_core.specs.Stored.{MayReopen, count_at, count_under, state_stored}
+use Rattle.jm_parts.specs.declared.stored.Holders.{Holders}
+use Rattle.jm_parts.specs.declared.stored.Holders.TheVariants as holders
+use Rattle.jm_parts.specs.declared.stored.StoredMessage.{StoredMessage}
+use Rattle.jm_parts.specs.declared.stored.StoredSubscription.{StoredSubscription}
+use Rattle.jm_parts.specs.Stored.{MayReopen, count_at, count_under, state_stored}
 
 -- the message that was given at the place
 abbrev pub given_at : ℕ → List StoredMessage → Option StoredMessage

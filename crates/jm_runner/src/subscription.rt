@@ -1,5 +1,5 @@
 ghost use Rattle.std.specs.Prelude.{◌≡◌, ◌≤◌, ◌+◌, Some, None, true, string_bytes, IfOk, IfErr, IfSome, MatchResult};
-ghost use Rattle.jm_core.specs.Provider.{state_of};
+ghost use Rattle.jm_plans.specs.Provider.{state_of};
 ghost use Rattle.jm_machine.specs.Isolation.{AreIsolated};
 ghost use Rattle.jm_machine.specs.Machine.{new_core};
 ghost use Rattle.jm_scenario.specs.Items.{calls_of};

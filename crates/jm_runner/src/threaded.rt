@@ -2,7 +2,7 @@
 
 ghost use Rattle.std.specs.Prelude.{◌≡◌, ◌≤◌, ◌+◌, ◌&&◌, false, IsOkAnd, IsTrue, IfOk, IfErr, IfSome, string_bytes};
 ghost use Rattle.sqlite.specs.Held.{state};
-ghost use Rattle.jm_core.specs.Provider.{state_of};
+ghost use Rattle.jm_plans.specs.Provider.{state_of};
 ghost use Rattle.jm_keep.specs.Persisted.{IsPersisted};
 ghost use Rattle.jm_machine.specs.Machine.{State};
 ghost use Rattle.jm_opening.specs.Opening.{IsInNoTransaction};

@@ -52,8 +52,8 @@ use Rattle.jm_lane.specs.contracts.table.Table as Table
 use Rattle.jm_stations.specs.contracts.backlogs.Backlogs as Backlogs
 use Rattle.jm_stations.specs.contracts.outstanding.Outstanding as Outstanding
 use Rattle.jm_stations.specs.contracts.stations.Stations as Stations
-use Rattle.jm_core.specs.contracts.queues.Queues as Queues
-use Rattle.jm_core.specs.contracts.state.CoreState as CoreState
+use Rattle.jm_queues.specs.contracts.queues.Queues as Queues
+use Rattle.jm_plans.specs.contracts.state.CoreState as CoreState
 use Rattle.jm_core.specs.contracts.provider.Core as Core
 
 pub Key_send : IsSend Key.the_row

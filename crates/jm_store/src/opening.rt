@@ -3,7 +3,7 @@
 ghost use Rattle.std.specs.Prelude.{◌≡◌, ◌≤◌, ◌&&◌, ℕ, true, IsTrue, IfOk, IfErr};
 ghost use Rattle.sqlite.specs.Held.{state};
 ghost use Rattle.sqlite_trees.specs.Tree.{Trees};
-ghost use Rattle.jm_core.specs.Provider.{may_open, state_of};
+ghost use Rattle.jm_plans.specs.Provider.{may_open, state_of};
 ghost use Rattle.jm_holds.specs.Holds.{HoldsMessages};
 ghost use Rattle.jm_keep.specs.Persisted.{IsPersisted};
 ghost use Rattle.jm_opening.specs.Opening.{IsInNoTransaction, IsOpenedAgain, LeavesOf};

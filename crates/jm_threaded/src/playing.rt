@@ -1,7 +1,7 @@
 //! A scenario whose sessions call on threads of their own.
 
 ghost use Rattle.std.specs.Prelude.{◌≡◌, ◌≢◌, ◌≤◌, ℕ, All, Ok, Err, IfErr, IfOk, IsTrue};
-ghost use Rattle.jm_core.specs.Provider.{state_of};
+ghost use Rattle.jm_plans.specs.Provider.{state_of};
 ghost use Rattle.jm_forks.specs.Forks as forks;
 ghost use Rattle.jm_keep.specs.Persisted.{IsPersisted};
 ghost use Rattle.jm_scenario.specs.Items.{AreWellForked};

@@ -3,7 +3,7 @@
 use crate::runs::right_on;
 use jm_base::Mode;
 use jm_core::Core;
-use jm_explain::{Why, publish_why};
+use jm_explain::{Why, send_why};
 use std::alloc::Global;
 use tests_calls::{At, Op, sent, session};
 
@@ -23,7 +23,7 @@ fn is_told(alloc: Global, core: &Core, opening: u32, cause: Option<Why>) -> bool
         return false;
     };
     match sent(alloc, opening, At::Topic("t"), None) {
-        Ok(message) => publish_why(core, &session, &message.sender()) == cause,
+        Ok(message) => send_why(core, &session, &message.sender()) == cause,
         Err(_) => false,
     }
 }

@@ -8,4 +8,4 @@ returns-then-not-has_cause-clause-told c = λ message stamped refused.
 
 pub returns-clause-told : goal.returns-clause-told
 returns-clause-told c = λ message stamped refused.
-    told_as _ _ _ _ _ c.new-2.ensures (found_told _ _ _ _ _ (sym c.has_cause.ensures ∙ c.if-not-has_cause.false) refused (c.publish_why-cause.ensures message stamped))
+    told_as _ _ _ _ _ c.new-2.ensures (found_told _ _ _ _ _ (sym c.has_cause.ensures ∙ c.if-not-has_cause.false) refused (c.send_why-cause.ensures message stamped))

@@ -1,5 +1,5 @@
 use Rattle.jm_machine.proofs.Order.{reached_in_order, queues_in_order}
-use Rattle.jm_core.specs.Provider.{state_of}
+use Rattle.jm_plans.specs.Provider.{state_of}
 use Rattle.jm_core.proofs.provider.law_rows_in_order.Goals as goal
 
 pub returns-clause-ordered : goal.returns-clause-ordered

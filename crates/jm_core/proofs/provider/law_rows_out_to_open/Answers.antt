@@ -1,4 +1,4 @@
-use Rattle.jm_core.specs.Provider.{state_of}
+use Rattle.jm_plans.specs.Provider.{state_of}
 use Rattle.jm_core.proofs.Outstanding.{reached_open}
 use Rattle.jm_core.proofs.provider.law_rows_out_to_open.Goals as goal
 

@@ -1,4 +1,4 @@
-use Rattle.jm_core.specs.Provider.{state_of}
+use Rattle.jm_plans.specs.Provider.{state_of}
 use Rattle.jm_core.proofs.Within.{reached_within}
 use Rattle.jm_core.proofs.provider.law_rows_within_limit.Goals as goal
 

@@ -1,5 +1,5 @@
 use Rattle.std.proofs.Common.{sym}
-use Rattle.jm_core.specs.Provider.{state_of}
+use Rattle.jm_plans.specs.Provider.{state_of}
 use Rattle.jm_explain.proofs.Requests.{shared_durable_is}
 use Rattle.jm_explain.proofs.calls.shared_durable_why.Goals as goal
 

@@ -1,8 +1,8 @@
 use Rattle.std.proofs.Common.{[], nat_eq, ap, ◌∙◌}
 use Rattle.jm_dest.specs.declared.key.Key.{Key}
 use Rattle.jm_dest.specs.declared.key.Key.TheVariants.{Queue}
-use Rattle.jm_core.specs.Provider.{state_of}
-use Rattle.jm_core.specs.Reading.{rows_under}
+use Rattle.jm_plans.specs.Provider.{state_of}
+use Rattle.jm_queues.specs.Rows.{rows_under}
 use Rattle.jm_overview.specs.declared.overview.KeyOverview.{KeyOverview}
 use Rattle.jm_overview.specs.Overview.{out_in}
 use Rattle.jm_explain.proofs.Holding.{none_out}

@@ -1,4 +1,4 @@
-use Rattle.jm_core.specs.Provider.{state_of}
+use Rattle.jm_plans.specs.Provider.{state_of}
 use Rattle.jm_kept.proofs.Owed.{ask_kept}
 use Rattle.jm_kept.proofs.calls.ask.Goals as goal
 

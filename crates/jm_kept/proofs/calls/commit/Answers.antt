@@ -1,6 +1,6 @@
 use Rattle.std.proofs.Common.{ap, ◌∙◌}
 use Rattle.jm_tx.specs.Halves.{with_messages}
-use Rattle.jm_core.specs.Provider.{state_of}
+use Rattle.jm_plans.specs.Provider.{state_of}
 use Rattle.jm_kept.proofs.Owed.{commit_done, commit_refused}
 use Rattle.jm_kept.proofs.calls.commit.Goals as goal
 

@@ -1,4 +1,4 @@
-use Rattle.jm_core.specs.Provider.{state_of}
+use Rattle.jm_plans.specs.Provider.{state_of}
 use Rattle.jm_kept.proofs.Owed.{sent_kept, unsent_kept}
 use Rattle.jm_kept.proofs.calls.send.Goals as goal
 use Rattle.jm_kept.proofs.calls.send.Goals.{in-Ok, in-Err-publish}

@@ -1,5 +1,5 @@
 use Rattle.std.proofs.Common.{sym, ◌∙◌}
-use Rattle.jm_core.specs.Provider.{state_of}
+use Rattle.jm_plans.specs.Provider.{state_of}
 use Rattle.jm_kept.proofs.Owed.{closed_kept, stamp_kept, stamp_store}
 use Rattle.jm_kept.proofs.calls.stamp.Goals as goal
 

@@ -1,4 +1,4 @@
-use Rattle.jm_core.specs.Provider.{state_of}
+use Rattle.jm_plans.specs.Provider.{state_of}
 use Rattle.jm_kept.specs.Runs.{HasFailed}
 use Rattle.jm_kept.proofs.Running.{kept_isolated, owed_kept, owed_never_store}
 use Rattle.jm_kept.proofs.runs.run.Goals as goal

@@ -2,7 +2,7 @@ use Rattle.std.proofs.Common.{◌∙◌, refl, sym, ap, arith, ◌++◌, length,
 use Rattle.std.proofs.lemmas.List.{length-append}
 use Rattle.std.specs.Vec.Iter.{into_iter_items}
 use Rattle.jm_base.specs.declared.refusal.Refusal.TheVariants.{Store}
-use Rattle.jm_core.specs.Provider.{state_of}
+use Rattle.jm_plans.specs.Provider.{state_of}
 use Rattle.jm_core.specs.Runs.{progress}
 use Rattle.jm_kept.proofs.Lists.{list_assoc, nothing_left}
 use Rattle.jm_kept.proofs.Running.{begins, kept_more, none_in, store_more}

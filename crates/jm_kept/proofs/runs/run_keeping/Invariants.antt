@@ -4,7 +4,7 @@ use Rattle.std.specs.Vec.Iter.{into_iter_items}
 use Rattle.jm_base.specs.declared.refusal.Refusal.TheVariants.{Store}
 use Rattle.jm_machine.specs.Client.{begun}
 use Rattle.jm_tx.specs.Halves.{room}
-use Rattle.jm_core.specs.Provider.{state_of}
+use Rattle.jm_plans.specs.Provider.{state_of}
 use Rattle.jm_core.specs.Runs.{progress}
 use Rattle.jm_keep.specs.Persisted.{IsPersisted}
 use Rattle.jm_kept.specs.Runs.{HasFailed, RunKept}

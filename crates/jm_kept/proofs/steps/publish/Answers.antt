@@ -1,5 +1,5 @@
 use Rattle.std.proofs.Common.{◌∷◌, []}
-use Rattle.jm_core.specs.Provider.{state_of}
+use Rattle.jm_plans.specs.Provider.{state_of}
 use Rattle.jm_machine.specs.declared.call.Call.TheVariants.{Publish}
 use Rattle.jm_machine.specs.declared.call.Who.TheVariants.{Session}
 use Rattle.jm_kept.proofs.Refused.{fits_kept, step_never_store}

@@ -1,6 +1,6 @@
 use Rattle.std.proofs.Common.{◌≡◌}
 use Rattle.jm_base.specs.declared.refusal.Refusal.TheVariants.{Store}
-use Rattle.jm_core.specs.Provider.{state_of}
+use Rattle.jm_plans.specs.Provider.{state_of}
 use Rattle.jm_kept.proofs.Refused.{fits_kept, never_store, refused_fits, step_never_store}
 use Rattle.jm_kept.proofs.steps.step.Goals as goal
 

@@ -1,4 +1,4 @@
-use Rattle.jm_core.proofs.Answered.{planned_ok}
+use Rattle.jm_plans.proofs.Answered.{planned_ok}
 use Rattle.jm_listed.proofs.Calls.{planned_call}
 use Rattle.jm_listed.proofs.listing.changes.Goals as goal
 

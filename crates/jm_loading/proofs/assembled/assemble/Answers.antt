@@ -1,6 +1,6 @@
 use Rattle.std.proofs.Common.{◌≡◌, List, ap, arith, length}
 use Rattle.std.proofs.lemmas.Result.{err_from_is_err_and}
-use Rattle.jm_core.specs.declared.stored.StoredMessage.{StoredMessage}
+use Rattle.jm_parts.specs.declared.stored.StoredMessage.{StoredMessage}
 use Rattle.jm_loading.specs.Fitting.{AreAllFit}
 use Rattle.jm_loading.specs.Holding.{AreHeldAs}
 use Rattle.jm_loading.specs.Messages.{ArePlacedAs}

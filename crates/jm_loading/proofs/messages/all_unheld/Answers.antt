@@ -1,7 +1,7 @@
 use Rattle.std.proofs.Common.{◌≡◌, ◌++◌, ◌∙◌, [], ◌∷◌, ap, sym, subst, cond}
 use Rattle.std.specs.List.{All}
 use Rattle.std.proofs.lemmas.List.Elements.{All-push}
-use Rattle.jm_core.specs.declared.stored.StoredMessage.{StoredMessage}
+use Rattle.jm_parts.specs.declared.stored.StoredMessage.{StoredMessage}
 use Rattle.jm_loading.specs.Messages.{ArePairs, IsUnheld}
 use Rattle.jm_loading.proofs.Paired.{pairs_push}
 use Rattle.jm_loading.proofs.messages.all_unheld.Goals as goal

@@ -1,5 +1,5 @@
 use Rattle.std.specs.List.{All}
-use Rattle.jm_core.specs.declared.stored.StoredMessage.{StoredMessage}
+use Rattle.jm_parts.specs.declared.stored.StoredMessage.{StoredMessage}
 use Rattle.jm_loading.specs.Messages.{ArePairs, IsUnheld}
 use Rattle.jm_loading.proofs.messages.all_unheld.Given as goal
 

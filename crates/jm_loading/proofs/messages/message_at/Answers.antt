@@ -1,7 +1,7 @@
 use Rattle.std.proofs.Common.{rules, ap, nat_cmp, sym, ◌∙◌}
 use Rattle.std.proofs.lemmas.Cmp.{nat_cmp_total, tied_itself}
 use Rattle.std.proofs.lemmas.List.Sorted.{answers_always}
-use Rattle.jm_core.specs.declared.stored.StoredMessage.{StoredMessage}
+use Rattle.jm_parts.specs.declared.stored.StoredMessage.{StoredMessage}
 use Rattle.jm_loading.proofs.Paired.{placed_rise}
 use Rattle.jm_loading.proofs.Search.{found_at, none_left}
 use Rattle.jm_loading.proofs.messages.message_at.Goals as goal

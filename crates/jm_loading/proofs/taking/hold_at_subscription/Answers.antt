@@ -1,5 +1,5 @@
 use Rattle.std.proofs.Common.{sym, subst}
-use Rattle.jm_core.specs.declared.stored.StoredSubscription.{StoredSubscription}
+use Rattle.jm_parts.specs.declared.stored.StoredSubscription.{StoredSubscription}
 use Rattle.jm_loading.specs.Holding.{IsHeldUnder}
 use Rattle.jm_loading.proofs.More.{if_ok_then, under_row}
 use Rattle.jm_loading.proofs.Paired.{can_under}

@@ -1,6 +1,6 @@
 use Rattle.std.proofs.Common.{rules}
 use Rattle.std.proofs.lemmas.Fn.{always_returns_same}
-use Rattle.jm_core.specs.declared.stored.StoredSubscription.{StoredSubscription}
+use Rattle.jm_parts.specs.declared.stored.StoredSubscription.{StoredSubscription}
 use Rattle.jm_loading.specs.Order.{key_cmp}
 use Rattle.jm_loading.proofs.Search.{alone_named, none_named}
 use Rattle.jm_loading.proofs.taking.place_of.Goals as goal

@@ -1,4 +1,4 @@
-use Rattle.jm_core.specs.Provider.{state_of}
+use Rattle.jm_plans.specs.Provider.{state_of}
 use Rattle.jm_model.proofs.Nested.{reached_nested}
 use Rattle.jm_model.proofs.replies.transactions_of.Goals as goal
 

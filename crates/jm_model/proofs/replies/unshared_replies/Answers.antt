@@ -5,7 +5,7 @@ use Rattle.jm_base.specs.declared.refusal.Refusal.{Refusal}
 use Rattle.jm_machine.specs.declared.answer.Answer.{Answer}
 use Rattle.jm_machine.specs.Isolation.{asks_no_shared}
 use Rattle.jm_machine.specs.Lone.{Scope, scope_of, lone_of, lone_replies, feed}
-use Rattle.jm_core.specs.Provider.{state_of}
+use Rattle.jm_plans.specs.Provider.{state_of}
 use Rattle.jm_scope.specs.Scopes.{scope_seen}
 use Rattle.jm_model.proofs.Asked.{none_asks}
 use Rattle.jm_model.proofs.replies.unshared_replies.Goals as goal

@@ -3,7 +3,7 @@ use Rattle.std.specs.Prelude.{slice_index_or}
 use Rattle.jm_dest.specs.declared.key.Key.TheVariants.{Queue}
 use Rattle.jm_machine.specs.Machine.{places_end}
 use Rattle.jm_machine.specs.Rows.{InOrder}
-use Rattle.jm_core.specs.Provider.{state_of}
+use Rattle.jm_plans.specs.Provider.{state_of}
 use Rattle.jm_core.specs.Reading.{keys_in}
 use Rattle.jm_overview.proofs.Counting.{under_key}
 use Rattle.jm_overview.proofs.overview.overview_at.Goals as goal

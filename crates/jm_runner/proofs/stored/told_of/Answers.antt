@@ -1,5 +1,5 @@
 use Rattle.std.proofs.lemmas.Result.{IfOk-weaker}
-use Rattle.jm_core.specs.Provider.{state_of}
+use Rattle.jm_plans.specs.Provider.{state_of}
 use Rattle.sqlite.specs.Held.{state}
 use Rattle.jm_runner.proofs.Loaded.{loaded}
 use Rattle.jm_runner.proofs.stored.told_of.Goals as goal

@@ -1,4 +1,4 @@
-use Rattle.jm_core.specs.Provider.{state_of}
+use Rattle.jm_plans.specs.Provider.{state_of}
 use Rattle.jm_runner.proofs.stored.told_over.Goals as goal
 
 pub returns-in-Ok-clause-told : goal.returns-in-Ok-clause-told

@@ -1,5 +1,5 @@
 use Rattle.std.proofs.Common.{string_bytes}
-use Rattle.jm_core.specs.Provider.{state_of}
+use Rattle.jm_plans.specs.Provider.{state_of}
 use Rattle.jm_runner.proofs.Told.{told_ok}
 use Rattle.jm_runner.proofs.subscription.lines_alone.Goals as goal
 

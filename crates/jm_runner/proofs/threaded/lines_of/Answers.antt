@@ -1,4 +1,4 @@
-use Rattle.jm_core.specs.Provider.{state_of}
+use Rattle.jm_plans.specs.Provider.{state_of}
 use Rattle.jm_runner.proofs.Forked.{anew}
 use Rattle.jm_runner.proofs.threaded.lines_of.Goals as goal
 

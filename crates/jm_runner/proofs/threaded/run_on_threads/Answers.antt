@@ -1,5 +1,5 @@
 use Rattle.std.proofs.Common.{◌≡◌, map, rules}
-use Rattle.jm_core.specs.Provider.{state_of}
+use Rattle.jm_plans.specs.Provider.{state_of}
 use Rattle.jm_scenario.specs.Items.{kind_of}
 use Rattle.jm_runner.proofs.Forked.{printed}
 use Rattle.jm_runner.proofs.threaded.run_on_threads.Goals as goal

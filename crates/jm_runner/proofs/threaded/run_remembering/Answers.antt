@@ -1,5 +1,5 @@
 use Rattle.std.proofs.lemmas.Result.{IfOk-weaker}
-use Rattle.jm_core.specs.Provider.{state_of}
+use Rattle.jm_plans.specs.Provider.{state_of}
 use Rattle.jm_runner.proofs.threaded.run_remembering.Goals as goal
 
 pub returns-clause-told : goal.returns-clause-told

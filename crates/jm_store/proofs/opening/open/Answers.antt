@@ -1,6 +1,6 @@
 use Rattle.std.proofs.Common.{inr}
 use Rattle.sqlite.specs.Held.{state}
-use Rattle.jm_core.specs.Provider.{state_of}
+use Rattle.jm_plans.specs.Provider.{state_of}
 use Rattle.jm_opening.specs.declared.outcome.Left.TheVariants.{Settled}
 use Rattle.jm_store.proofs.Leaving.{leaves_valid, opened_leaves}
 use Rattle.jm_store.proofs.Reopening.{ours, still_holds, still_left, still_opened, still_stored, still_valid, stands_opened}

@@ -1,6 +1,6 @@
 use Rattle.std.proofs.Common.{◌≡◌, ◌∙◌, subst, sym}
 use Rattle.std.specs.Prelude.{All}
-use Rattle.jm_core.specs.Provider.{state_of}
+use Rattle.jm_plans.specs.Provider.{state_of}
 use Rattle.jm_forks.specs.Forks.{IsBySessions}
 use Rattle.jm_forks.proofs.Laws.{parts-by_sessions}
 use Rattle.jm_threaded.proofs.Played.{if_there, played}

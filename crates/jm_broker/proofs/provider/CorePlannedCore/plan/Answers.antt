@@ -1,4 +1,4 @@
-use Rattle.jm_core.specs.Provider.{state_of}
+use Rattle.jm_plans.specs.Provider.{state_of}
 use Rattle.jm_broker.proofs.Refused.{made_or_wanted, not_store}
 use Rattle.jm_broker.proofs.provider.CorePlannedCore.plan.Goals as goal
 

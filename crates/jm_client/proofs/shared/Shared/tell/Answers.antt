@@ -1,4 +1,4 @@
-use Rattle.jm_core.specs.Provider.{state_of}
+use Rattle.jm_plans.specs.Provider.{state_of}
 use Rattle.jm_client.proofs.shared.Shared.tell.Goals as goal
 
 pub returns : goal.returns

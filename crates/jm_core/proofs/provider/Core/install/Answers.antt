@@ -1,6 +1,6 @@
 use Rattle.std.proofs.Common.{Ok}
-use Rattle.jm_core.specs.Plans.{IsPlan}
-use Rattle.jm_core.specs.Provider.{state_of}
+use Rattle.jm_plans.specs.Plans.{IsPlan}
+use Rattle.jm_plans.specs.Provider.{state_of}
 use Rattle.jm_core.proofs.Reached.{step_reached}
 use Rattle.jm_core.proofs.provider.Core.install.Goals as goal
 

@@ -1,7 +1,7 @@
 use Rattle.std.proofs.Common.{◌∷◌, []}
 use Rattle.jm_machine.specs.declared.call.Call.TheVariants.{Publish}
 use Rattle.jm_machine.specs.declared.call.Who.TheVariants.{Session}
-use Rattle.jm_core.specs.Provider.{state_of}
+use Rattle.jm_plans.specs.Provider.{state_of}
 use Rattle.jm_core.proofs.Reached.{step_reached}
 use Rattle.jm_core.proofs.provider.Core.publish.Goals as goal
 

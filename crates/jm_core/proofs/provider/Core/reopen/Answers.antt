@@ -1,8 +1,8 @@
 use Rattle.std.proofs.Common.{sym, subst}
 use Rattle.jm_machine.specs.Isolation.{Reached}
 use Rattle.jm_machine.specs.Isolation.Reached.{Reopened}
-use Rattle.jm_core.specs.Stored.{place_after, rows_at, rows_under, stations_stored}
-use Rattle.jm_core.proofs.Restored.{are_stored}
+use Rattle.jm_parts.specs.Stored.{place_after, rows_at, rows_under, stations_stored}
+use Rattle.jm_plans.proofs.Restored.{are_stored}
 use Rattle.jm_core.proofs.provider.Core.reopen.Goals as goal
 
 pub invariant_of-result : goal.invariant_of-result

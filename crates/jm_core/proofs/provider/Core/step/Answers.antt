@@ -1,9 +1,9 @@
 use Rattle.std.proofs.Common.{subst, Ok}
 use Rattle.std.proofs.lemmas.Result.{err_from_is_err_and}
 use Rattle.jm_machine.specs.Machine.{State}
-use Rattle.jm_core.specs.Provider.{state_of}
-use Rattle.jm_core.specs.Steps.{StepFits}
-use Rattle.jm_core.proofs.Planned.{refused_fits}
+use Rattle.jm_plans.specs.Provider.{state_of}
+use Rattle.jm_plans.specs.Steps.{StepFits}
+use Rattle.jm_plans.proofs.Planned.{refused_fits}
 use Rattle.jm_core.proofs.provider.Core.step.Goals as goal
 
 pub returns-in_err-plan : goal.returns-in_err-plan

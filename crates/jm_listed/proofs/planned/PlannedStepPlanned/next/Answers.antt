@@ -7,7 +7,7 @@ use Rattle.jm_machine.specs.Machine.{selected_by}
 use Rattle.jm_keep.specs.Steps.{next_under}
 use Rattle.jm_changes.specs.declared.planned.Standing.{Standing}
 use Rattle.jm_changes.specs.Standing.{standing}
-use Rattle.jm_core.specs.Provider.{state_of}
+use Rattle.jm_plans.specs.Provider.{state_of}
 use Rattle.jm_core.specs.Reading.{keys_in}
 use Rattle.jm_listed.proofs.Rows.{next_below, same_rows}
 use Rattle.jm_listed.proofs.planned.PlannedStepPlanned.next.Goals as goal

@@ -4,7 +4,7 @@ use Rattle.jm_dest.specs.declared.key.Key.TheVariants.{Queue}
 use Rattle.jm_dest.specs.Numbers.{long_end}
 use Rattle.jm_changes.specs.declared.planned.Standing.{Standing}
 use Rattle.jm_changes.specs.Standing.{first_where, meant, standing}
-use Rattle.jm_core.specs.Provider.{state_of}
+use Rattle.jm_plans.specs.Provider.{state_of}
 use Rattle.jm_core.specs.Reading.{keys_in}
 use Rattle.jm_listed.proofs.Rows.{first_below, same_rows}
 use Rattle.jm_listed.proofs.planned.PlannedStepPlanned.row_where.Goals as goal

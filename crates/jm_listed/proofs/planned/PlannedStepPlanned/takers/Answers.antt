@@ -1,6 +1,6 @@
 use Rattle.std.proofs.Common.{◌∙◌}
-use Rattle.jm_core.specs.Provider.{state_of}
-use Rattle.jm_core.proofs.NextRows.{when_ok}
+use Rattle.jm_plans.specs.Provider.{state_of}
+use Rattle.jm_parts.proofs.NextRows.{when_ok}
 use Rattle.jm_listed.proofs.Rows.{same_takes}
 use Rattle.jm_listed.proofs.planned.PlannedStepPlanned.takers.Goals as goal
 

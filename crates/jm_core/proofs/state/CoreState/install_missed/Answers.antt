@@ -1,5 +1,0 @@
-use Rattle.jm_core.proofs.Planned.{missing_told}
-use Rattle.jm_core.proofs.state.CoreState.install_missed.Goals as goal
-
-pub returns : goal.returns
-returns c = λ who call h. missing_told c.args.self.now who call c.args.number h

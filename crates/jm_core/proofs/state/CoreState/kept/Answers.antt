@@ -1,5 +1,0 @@
-use Rattle.jm_core.proofs.Seen.{kept_same}
-use Rattle.jm_core.proofs.state.CoreState.kept.Goals as goal
-
-pub returns : goal.returns
-returns c = rw (← c.self.view_is) (kept_same c.kept.result c.self.inside.subs.list c.self.inside.stations.list c.self.invariant.0.number c.kept.ensures)

@@ -1,4 +1,0 @@
-use Rattle.jm_core.proofs.state.CoreState.law_accepted.Goals as goal
-
-pub returns : goal.returns
-returns c = rw (← c.self.view_is) c.self.invariant.0.accepted

@@ -1,7 +1,0 @@
-use Rattle.std.proofs.Common.{sym, ◌∙◌}
-use Rattle.jm_core.specs.Provider.{state_of}
-use Rattle.jm_core.proofs.Sends.{closed_fits}
-use Rattle.jm_core.proofs.state.CoreState.send.Goals as goal
-
-pub returns-in-None-clause-owed : goal.returns-in-None-clause-owed
-returns-in-None-clause-owed c = closed_fits (state_of c.args.self.now) c.args.halves.now c.args.halves.now c.args.session.now c.args.draft c.args.destination c.args.now (sym c.mode_of.ensures ∙ c.in-None.is)

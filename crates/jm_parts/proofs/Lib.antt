@@ -1,0 +1,7 @@
+pub mod Accepted
+pub mod Kept
+pub mod Naming
+pub mod NextRows
+pub mod Publishing
+pub mod Reopening
+pub mod Stations

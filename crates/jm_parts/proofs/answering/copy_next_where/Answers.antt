@@ -1,0 +1,16 @@
+use Rattle.std.proofs.Common.{ap, ◌∙◌}
+use Rattle.std.specs.Prelude.{option_map}
+use Rattle.jm_machine.specs.declared.state.PlacedRow.{PlacedRow}
+use Rattle.jm_machine.specs.Machine.{delivery}
+use Rattle.jm_selector.specs.Selectors.{matches}
+use Rattle.jm_parts.proofs.NextRows.{chosen_row, when_ok}
+use Rattle.jm_parts.proofs.answering.copy_next_where.Goals as goal
+
+pub returns-in-None : goal.returns-in-None
+returns-in-None c =
+    ap (λ o. delivery (option_map (λ (x : PlacedRow). x.row) o)) c.in-None.ensures ∙ ap delivery (chosen_row (matches c.args.selector.now) c.args.now c.args.rows.now)
+
+pub returns-in-Some : goal.returns-in-Some
+returns-in-Some c =
+    when_ok _ _ (λ answer e. e ∙ ap (λ o. delivery (option_map (λ (x : PlacedRow). x.row) o)) c.in-Some.ensures ∙ ap delivery (chosen_row (matches c.args.selector.now) c.args.now c.args.rows.now))
+    c.copy_handed_out.result c.copy_handed_out.ensures

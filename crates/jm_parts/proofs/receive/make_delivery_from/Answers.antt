@@ -1,0 +1,25 @@
+use Rattle.std.proofs.Common.{◌≡◌, None, Option, Some, refl, sym}
+use Rattle.jm_machine.specs.Rows.{deliver_chosen}
+use Rattle.jm_selector.specs.Selectors.{matches}
+use Rattle.jm_queues.specs.Queues.{rows_in}
+use Rattle.jm_parts.specs.Takings.{left_by}
+use Rattle.jm_parts.specs.declared.receive.Taking.{Taking}
+use Rattle.jm_queues.proofs.QueueRows.{nothing_changed, rows_missing}
+use Rattle.jm_parts.proofs.receive.make_delivery_from.Goals as goal
+
+-- what is nothing else is none
+none_there : (o : Option Taking) → ((x : Taking) → o ≡ Some x → ⊥) → o ≡ None
+none_there None h = refl
+none_there (Some x) h = absurd (h x refl)
+
+pub returns-in_default-clause-answer : goal.returns-in_default-clause-answer
+returns-in_default-clause-answer c = λ name t.
+    let queues = c.args.queues.now in
+    rw (rows_missing queues.keys queues.list name (rw (none_there c.args.taking c.in_default.not-Some) at t)) refl
+
+pub returns-in_default-clause-rows : goal.returns-in_default-clause-rows
+returns-in_default-clause-rows c = λ name t.
+    let queues = c.args.queues.now in
+    let r = c.args.receiver.now in
+    let none = rows_missing queues.keys queues.list name (rw (none_there c.args.taking c.in_default.not-Some) at t) in
+    sym (nothing_changed name (deliver_chosen (matches c.args.selector.now) r.moment (left_by r)) (rows_in queues) refl none)

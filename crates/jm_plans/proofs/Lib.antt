@@ -1,0 +1,13 @@
+pub mod Answered
+pub mod Closing
+pub mod Fits
+pub mod Listening
+pub mod Naming
+pub mod Opens
+pub mod Planned
+pub mod PlansNamed
+pub mod Published
+pub mod Restored
+pub mod Seen
+pub mod Sound
+pub mod Sources

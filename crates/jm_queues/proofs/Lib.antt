@@ -1,0 +1,5 @@
+pub mod Found
+pub mod Indexed
+pub mod QueueCounts
+pub mod QueueKeys
+pub mod QueueRows
