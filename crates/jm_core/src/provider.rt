@@ -60,8 +60,8 @@ impl Model for Core {
 
 /// The law that each core's state is reached, proved; the function itself does nothing.
 ///
-/// The state of every core is one that the provider reaches: that of a new core, or what steps lead to
-/// from one. So the law of isolation holds of whatever list of calls is run on it next.
+/// The state of every core is one that the provider reaches: that of a new core or of one that is opened again, or what
+/// steps lead to from one. So the law of isolation holds of whatever list of calls is run on it next.
 pub fn law_core_reached(core: &Core)
     ensures { Reached (state_of core.now) }
 {

@@ -41,12 +41,12 @@ abbrev pub is_started_connection : Option ConnectionState → Bool
 is_started_connection None = false
 is_started_connection (Some x) = x.is_started
 
--- the client identifier of a connection that was opened, where it has one
+-- the client identifier of a connection, where it was opened and has one, which it keeps while it is open
 abbrev pub client_at : Option ConnectionState → Option (List ℕ)
 client_at None = None
 client_at (Some x) = x.client
 
--- the client identifier of the connection of that number, where it was opened and has one
+-- the client identifier of the connection of that number, where it is open and has one
 abbrev pub client_of : Life → ℕ → Option (List ℕ)
 client_of life c = client_at (connection_of life.connections c)
 

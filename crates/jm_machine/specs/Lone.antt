@@ -42,7 +42,8 @@ client_opened [] c = None
 client_opened (Asked (Connection d) (Open client) told ∷ entries) c = if (d == c) && is_ok told then client else client_opened entries c
 client_opened (e ∷ entries) c = client_opened entries c
 
--- the client of a connection that was opened before, where it is open; else the one with which it is opened later
+-- the client of a connection that was opened before, while it is open; else, where it was not, the one with which it is
+-- opened later
 abbrev pub client_or : Option ConnectionState → Option (List ℕ) → Option (List ℕ)
 client_or None later = later
 client_or (Some x) later = if x.is_open then x.client else None

@@ -1,4 +1,4 @@
-//! The first ten lines: a durable subscription, a message in a transaction, and its second delivery.
+//! The first twelve lines: a durable subscription, a message in a transaction, and its second delivery.
 #![tactic(auto)]
 
 use anyhow::Result;
