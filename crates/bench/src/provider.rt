@@ -16,8 +16,9 @@ use std::alloc::Global;
 /// A message to be sent.
 #[derive(Clone, Copy)]
 pub(crate) struct Parcel {
-    /// The number of its topic.
+    /// The number of its topic, or of its queue.
     pub topic: u32,
+    pub is_queued: bool,
     /// The number that its property `x` is, if it has one.
     pub selected: Option<u32>,
     /// From 0 to 9.
@@ -54,6 +55,21 @@ fn topic_name(alloc: Global, topic: u32) -> Result<String, Refusal> {
 fn destination(alloc: Global, topic: u32) -> Result<Destination, Refusal> {
     let name = topic_name(alloc, topic)?;
     Destination::topic(alloc, name.as_str())
+}
+
+/// The queue of that number.
+fn queue(alloc: Global, number: u32) -> Result<Destination, Refusal> {
+    let name = topic_name(alloc, number)?;
+    Destination::queue(alloc, name.as_str())
+}
+
+/// Where the message of the parcel goes.
+fn destination_of(alloc: Global, parcel: Parcel) -> Result<Destination, Refusal> {
+    if parcel.is_queued {
+        queue(alloc, parcel.topic)
+    } else {
+        destination(alloc, parcel.topic)
+    }
 }
 
 /// The name of a subscription to the topic of that number.
@@ -180,17 +196,33 @@ impl<K: Keep + Drop> Provider<K> {
         Ok(())
     }
 
-    /// Makes a consumer of that number on the topic of that number, which selects the messages whose property `x` is its number.
-    pub(crate) fn subscribe_selecting(&mut self, consumer: u32, topic: u32) -> Result<(), Refusal> {
+    /// Makes a consumer of that number, which selects the messages whose property `x` is its number.
+    fn consume_selecting(
+        &mut self,
+        consumer: u32,
+        destination: Destination,
+    ) -> Result<(), Refusal> {
         let selector = format!(in self.alloc; "x = {consumer}")?;
         let request = Request::CreateConsumer {
             consumer: ConsumerId::new(consumer)?,
-            destination: destination(self.alloc, topic)?,
+            destination,
             selector: Some(Str::new(selector)),
             no_local: false,
         };
         self.ask(Who::Session(self.receiver), request)?;
         Ok(())
+    }
+
+    /// Makes such a consumer on the topic of that number.
+    pub(crate) fn subscribe_selecting(&mut self, consumer: u32, topic: u32) -> Result<(), Refusal> {
+        let topic = destination(self.alloc, topic)?;
+        self.consume_selecting(consumer, topic)
+    }
+
+    /// Makes such a consumer on the queue of that number.
+    pub(crate) fn choose(&mut self, consumer: u32, number: u32) -> Result<(), Refusal> {
+        let queue = queue(self.alloc, number)?;
+        self.consume_selecting(consumer, queue)
     }
 
     /// Makes a consumer of that number of the durable subscription to the topic of that number.
@@ -264,10 +296,10 @@ impl<K: Keep + Drop> Provider<K> {
     pub(crate) fn send(&mut self, parcel: Parcel) -> Result<(), Refusal> {
         let now = Moment::new(parcel.now)?;
         match (
-            destination(self.alloc, parcel.topic),
+            destination_of(self.alloc, parcel),
             draft(self.alloc, parcel),
         ) {
-            (Ok(topic), Ok(draft)) => match self.half.send(draft, topic, now) {
+            (Ok(to), Ok(draft)) => match self.half.send(draft, to, now) {
                 Ok(Sent::Publish(message)) => self.publish(message),
                 Ok(Sent::Kept(_)) => Ok(()),
                 Err(refusal) => Err(refusal),

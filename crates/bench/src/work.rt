@@ -13,6 +13,9 @@ pub(crate) enum Kind {
     FanOut,
     /// A message is sent, and received by the next of its subscribers, each of which selects messages of its own.
     Selectors,
+    /// A message is sent to a queue, and received by its one consumer, which selects it and none of the rows that are held
+    /// before it.
+    Choosing,
     /// A message is sent to the next of many topics, and received there.
     Topics,
     /// As one to one, with priorities in turn.
@@ -67,6 +70,7 @@ pub(crate) fn kind_named(name: &str) -> Option<Kind> {
         "one-to-one" => Some(Kind::OneToOne),
         "fan-out" => Some(Kind::FanOut),
         "selectors" => Some(Kind::Selectors),
+        "choosing" => Some(Kind::Choosing),
         "topics" => Some(Kind::Topics),
         "priorities" => Some(Kind::Priorities),
         "expiry" => Some(Kind::Expiry),
@@ -93,6 +97,7 @@ fn parcel(load: Load, round: u32) -> Parcel {
     };
     let selected = match load.kind {
         Kind::Selectors => Some(round % load.subscribers.clamp(1, 1_000_000) + 1),
+        Kind::Choosing => Some(1),
         _ => None,
     };
     let priority = match load.kind {
@@ -105,6 +110,7 @@ fn parcel(load: Load, round: u32) -> Parcel {
     };
     Parcel {
         topic,
+        is_queued: load.kind == Kind::Choosing,
         selected,
         priority,
         time_to_live,
@@ -123,10 +129,16 @@ fn held_parcel(load: Load, number: u32) -> Parcel {
         Kind::HeldBack => 10_000_000 + i64::from(number % 1_009) * 9_973,
         _ => 0,
     };
+    let parcel = parcel(load, number);
+    let selected = match load.kind {
+        Kind::Choosing => Some(0),
+        _ => parcel.selected,
+    };
     Parcel {
+        selected,
         time_to_live,
         delay,
-        ..parcel(load, number)
+        ..parcel
     }
 }
 
@@ -185,6 +197,7 @@ fn subscribe<K: Keep + Drop>(
     match kind {
         Kind::Durables => provider.subscribe_durably(consumer, topic),
         Kind::Selectors => provider.subscribe_selecting(consumer, topic),
+        Kind::Choosing => provider.choose(consumer, topic),
         Kind::Shared => provider.share(consumer, topic),
         _ => provider.subscribe(consumer, topic),
     }
