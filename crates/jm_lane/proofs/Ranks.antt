@@ -3,7 +3,7 @@ use Rattle.std.proofs.Common.{◌≡◌, ℕ, ◌+◌, ◌<◌, ◌≤◌, nat_l
 use Rattle.std.specs.List.{filter, find, All, slice_get}
 use Rattle.std.specs.List.Sorted.{IsPartitionPoint, IsPartitionedBy}
 use Rattle.std.proofs.lemmas.Bool.{lt-ltb, le-ltb, ltb-true, ltb-false, eq-eqb, ne_eqb}
-use Rattle.std.proofs.lemmas.List.Elements.{All-head, All-tail, All-weaker}
+use Rattle.std.proofs.lemmas.List.Elements.{All-cons, All-head, All-tail, All-weaker}
 use Rattle.jm_lane.specs.declared.row.Row.{Row}
 use Rattle.jm_lane.specs.Rows.{IsRising}
 use Rattle.jm_lane.specs.Lanes.{is_at, is_below}
@@ -91,3 +91,12 @@ ranked (x ∷ xs) p n h low high = go (nat_lt x.place p) refl n low high (ranked
         let above = above_all p x xs more h.0 in
         let rest : length (filter (is_below (p + 1)) xs) ≡ 0 = none_below (p + 1) xs above in
         here (nat_lt x.place (p + 1)) refl n high more rest
+
+-- the row at an index stands behind as many as are below its place
+pub rank_at : (rs : List Row) (i : ℕ) (d : Row) → IsRising rs → i < length rs → length (filter (is_below (get_or rs i d).place) rs) ≡ i
+rank_at [] i d h l = absurd (omega arith)
+rank_at (x ∷ xs) zero d h l =
+    none_below x.place (x ∷ xs) (All-cons (λ (r : Row). x.place ≤ r.place) x xs (omega arith) (All-weaker (λ (y : Row). x.place < y.place) (λ (r : Row). x.place ≤ r.place) (λ y k. omega (arith, k)) xs h.0))
+rank_at (x ∷ xs) (suc i) d h l =
+    let up : x.place < (get_or xs i d).place = h.0 i d (omega arith) in
+    rw (lt-ltb x.place (get_or xs i d).place up) (omega (arith, rank_at xs i d h.1 (omega arith)))

@@ -1,10 +1,11 @@
 -- What stands at a spot, and what a lane keeps when it goes.
-use Rattle.std.proofs.Common.{◌≡◌, ℕ, ◌+◌, ◌<◌, ◌≤◌, ◌==◌, List, length, set, map, take, true, false, cond, refl, sym, subst, ◌∙◌, arith, ◌⊎◌, inl, inr}
-use Rattle.std.specs.List.{filter, remove, All}
+use Rattle.std.proofs.Common.{◌≡◌, ℕ, ◌+◌, ◌<◌, ◌≤◌, ◌==◌, List, length, set, map, take, true, false, cond, Some, refl, sym, subst, ◌∙◌, arith, ◌⊎◌, inl, inr}
+use Rattle.std.specs.List.{filter, remove, slice_get, All}
 use Rattle.std.proofs.lemmas.Bool.{eq-eqb, ne_eqb}
 use Rattle.std.proofs.lemmas.Bool.Decides.{eqb_tells}
 use Rattle.std.proofs.lemmas.List.{get_or-take, length-take, take_more_set, take-set-le}
 use Rattle.std.proofs.lemmas.List.Elements.{All-push}
+use Rattle.std.proofs.lemmas.Option.{get_or_from_slice_get, slice_get_within}
 use Rattle.jm_dest.specs.declared.session.SessionId.{SessionId}
 use Rattle.jm_lane.specs.declared.row.Row.{Row}
 use Rattle.jm_lane.specs.declared.spot.Spot.{Spot}
@@ -53,3 +54,8 @@ spot_sent s c rs x up at = rw (at.row x.row) at (set_sent s c rs x.index x.row u
 
 pub spot_removed : (rs : List Row) (x : Spot) → IsRising rs → StandsIn rs x → remove rs x.index ≡ filter (is_elsewhere x.row.place) rs
 spot_removed rs x up at = rw (at.row x.row) at (remove_at rs x.index x.row up at.within)
+
+-- the row that is read at an index stands there, and of any fewer rows than do not wait none does
+pub stands_at : (rs : List Row) (lane low lower index : ℕ) (r : Row) → slice_get rs index ≡ Some r → lower ≤ low → lower ≤ index → All (λ r. is_waiting r ≡ false) (take low rs) → StandsIn rs (record { lane = lane; low = lower; index = index; row = r })
+stands_at rs lane low lower index r at less in_front before =
+    record { within = slice_get_within rs index r at; row = λ d. get_or_from_slice_get rs index r d at; low = in_front; before = fewer (λ r. is_waiting r ≡ false) lower low rs less before }

@@ -1,7 +1,8 @@
 //! The rows of one priority, by place.
 
-ghost use Rattle.std.specs.Prelude.{◌≡◌, ◌+◌, ◌<◌, ◌≤◌, [], ◌∷◌, ◌++◌, length, All, find, filter, map, take, true, false, OnOk, slice_get};
+ghost use Rattle.std.specs.Prelude.{◌≡◌, ◌+◌, ◌<◌, ◌≤◌, [], ◌∷◌, ◌++◌, length, All, find, filter, map, take, true, false, IfSome, OnOk, slice_get};
 ghost use Rattle.jm_lane.specs.declared.row.Row.{Row};
+ghost use Rattle.jm_lane.specs.declared.spot.Spot.{Spot};
 ghost use Rattle.jm_lane.specs.Rows.{IsRising, are_home, back, is_among, is_elsewhere, is_waiting, keeps, sent_at, stays};
 ghost use Rattle.jm_lane.specs.Rows as spec;
 ghost use Rattle.jm_lane.specs.Chosen.{StandsIn, goes_before, is_better, is_ready_before, row_of};
@@ -315,8 +316,38 @@ impl Lane {
         }
     }
 
+    /// How many rows are of lower places. The row behind the first `low` is looked at first.
+    fn rank(&self, low: usize, place: u64) -> usize
+        ensures { result ≡ length (filter (is_below place) self.now.rows) }
+    {
+        match self.get(low) {
+            Some(row) if row.place == place => low,
+            _ => self.below(place),
+        }
+    }
+
+    /// Where the row at that place stands, where there is one, in this lane, whose index is `lane`. The first row that waits is
+    /// looked at first; any other is looked for by halves.
+    pub fn spot_of(&self, lane: usize, place: u64) -> Option<Spot>
+        ensures row { row_of result ≡ find (is_at place) self.now.rows }
+        ensures spot { IfSome result (λ (s : Spot). (s.lane ≡ lane) × (s.row.place ≡ place) × StandsIn self.now.rows s) }
+    {
+        let low = self.first_waiting();
+        let index = self.rank(low, place);
+        let row = self.get(index)?;
+        if row.place != place {
+            return None;
+        }
+        Some(Spot {
+            lane,
+            low: low.min(index),
+            index,
+            row,
+        })
+    }
+
     /// Sends the row that stands there out to the session through its consumer, and returns it as it is then.
-    pub fn take_at(&mut self, spot: &Spot, session: SessionId, consumer: ConsumerId) -> Row
+    pub fn send_at(&mut self, spot: &Spot, session: SessionId, consumer: ConsumerId) -> Row
         requires { StandsIn self.old.rows spot.now }
         ensures priority { self.new.priority ≡ self.old.priority }
         ensures result { result ≡ spec.sent session consumer spot.now.row }

@@ -10,8 +10,9 @@
 //!
 //! `Lane` is seen as the list of its rows by place, with their priority and for how many more there is room; inside four
 //! bounds spare walks, of which nothing is said outside. `push` adds a row behind all others; `drop_expired`, `settle` and
-//! `clear` are one filter each on that list, `give_back` and `take_at` change states alone, and `remove_at` takes out the row
-//! of a `Spot`. Those that drop rows say what they do to the holders in the table (`Follows`).
+//! `clear` are one filter each on that list, `give_back` and `send_at` change states alone, and `remove_at` takes out the row
+//! of a `Spot`; `spot_of` gives the spot of the row at a place. Those that drop rows say what they do to the holders in the
+//! table (`Follows`).
 //!
 //! `first_ready` and `first_choice` say where the row stands that goes first of those that may be delivered, of all or of
 //! those whose messages a selector selects, and `first_lapsed` and `first_out` where the first by place stands that waits and

@@ -4,16 +4,36 @@ use Rattle.std.specs.List.{filter, find, All}
 use Rattle.std.specs.Option.{IsSome}
 use Rattle.std.proofs.lemmas.List.{length-set, get_or-set_same, get_or-set_other, take_more, take-append-drop, drop_more, get_or-take, get_or-drop, length-take, length-drop, append-nil, get_or_default, length-append}
 use Rattle.std.proofs.lemmas.Grind.{flat_map-append}
-use Rattle.std.proofs.lemmas.List.Elements.{filter-append}
+use Rattle.std.proofs.lemmas.Bool.{eq-eqb, ne_eqb}
+use Rattle.std.proofs.lemmas.List.Elements.{All-cons, All-nil, filter-append}
 use Rattle.std.proofs.lemmas.Bool.Decides.{eqb_tells, leb_tells}
 use Rattle.jm_lane.specs.declared.row.Row.{Row}
-use Rattle.jm_lane.specs.Lanes.{Lane}
+use Rattle.jm_lane.specs.Lanes.{Lane, is_at}
 use Rattle.jm_lanes.specs.Lanes.{Becomes, EachBecomes, all_rows, IsApart}
 use Rattle.jm_lanes.proofs.Places.{all_front, all_back, apart_before, apart_behind, apart_tail}
 
 pub none_of : {X : Type 0} (o : Option X) → is_some o ≡ false → o ≡ None
 none_of None h = refl
 none_of (Some x) h = absurd (cc)
+
+-- where no row is found at a place, all are at others
+pub none_found : (p : ℕ) (xs : List Row) → find (is_at p) xs ≡ None → All (λ (y : Row). y.place ≢ p) xs
+none_found p [] h = All-nil (λ (y : Row). y.place ≢ p)
+none_found p (x ∷ xs) h = elim (eqb_tells x.place p) [
+  | inl s ↦ absurd (let here : find (is_at p) (x ∷ xs) ≡ Some x = rw (eq-eqb x.place p s.1) refl in cc)
+  | inr n ↦ All-cons (λ (y : Row). y.place ≢ p) x xs n.1 (none_found p xs (rw (ne_eqb x.place p n.1) at h))
+]
+
+-- a row that is found at a place is there
+pub found_place : (p : ℕ) (xs : List Row) (r : Row) → find (is_at p) xs ≡ Some r → r.place ≡ p
+found_place p [] r h = absurd (cc)
+found_place p (x ∷ xs) r h = elim (eqb_tells x.place p) [
+  | inl s ↦
+      let here : find (is_at p) (x ∷ xs) ≡ Some x = rw (eq-eqb x.place p s.1) refl in
+      let is : x ≡ r = cc in
+      rw (← is) s.1
+  | inr n ↦ found_place p xs r (rw (ne_eqb x.place p n.1) at h)
+]
 
 pub find_past : (p : Row → Bool) (xs ys : List Row) → find p xs ≡ None → find p (xs ++ ys) ≡ find p ys
 find_past p [] ys h = refl

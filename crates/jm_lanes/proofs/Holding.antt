@@ -1,14 +1,14 @@
 -- What the table keeps while rows of all lanes move and go.
 use Rattle.std.proofs.Common.{◌≡◌, ◌≢◌, ℕ, ◌+◌, ◌<◌, ◌≤◌, ◌==◌, List, [], ◌∷◌, length, get_or, set, map, true, false, Bool, cond, Option, Some, None, refl, ap, sym, subst, ◌∙◌, arith, suc, zero}
 use Rattle.std.specs.List.{filter, find}
-use Rattle.std.specs.Option.{IfSome, MatchOption}
+use Rattle.std.specs.Option.{IfSome}
 use Rattle.std.proofs.lemmas.Bool.{eq-eqb, eqb-true, ne_eqb}
 use Rattle.std.proofs.lemmas.List.{map-append, get_or_default}
 use Rattle.std.proofs.lemmas.List.Elements.{All-weaker}
 use Rattle.jm_dest.specs.declared.session.SessionId.{SessionId}
 use Rattle.jm_lane.specs.declared.row.Row.{Row}
 use Rattle.jm_lanes.specs.Lists.{sorted, put}
-use Rattle.jm_lane.specs.Rows.{IsRising, is_elsewhere, sent, sent_at}
+use Rattle.jm_lane.specs.Rows.{IsRising, is_elsewhere, sent_at}
 use Rattle.jm_lane.specs.Lanes.{Lane}
 use Rattle.jm_lanes.specs.Lanes.{all_rows, rows_of, is_lower, EachBecomes, IsApart}
 use Rattle.jm_lane.specs.Holders.{Messages, holders_of, last_message, rows_at, Follows, Covers, KeepsMessages, LosesHolder}
@@ -74,14 +74,10 @@ covers_all t xs c = covers_same t (rows_of xs) (all_rows xs) (λ p. sym (shown_c
 pub follows_all : (origin t : Messages) (xs ys : List Lane) → Follows origin t (all_rows xs) (all_rows ys) → Follows origin t (rows_of xs) (rows_of ys)
 follows_all origin t xs ys f = follows_shown origin t xs ys (rows_of xs) (rows_of ys) (λ p. shown_count p xs) (λ p. shown_count p ys) f
 
-taken_count : (s : SessionId) (c : ℕ) (ys zs : List Lane) (res o : Option Row) → MatchOption o ((res ≡ None) × EachBecomes (λ rs. rs) ys zs) (λ r. (res ≡ Some (sent s c r)) × EachBecomes (map (sent_at r.place s c)) ys zs) → (p : ℕ) → rows_at p (all_rows zs) ≡ rows_at p (all_rows ys)
-taken_count s c ys zs res None m p = ap (rows_at p) (all_rows_each (λ rs. rs) refl (λ us vs. refl) ys zs m.1)
-taken_count s c ys zs res (Some r) m p =
-    ap (rows_at p) (all_rows_each (map (sent_at r.place s c)) refl (map-append (sent_at r.place s c)) ys zs m.1) ∙ map_count (sent_at r.place s c) (sent_at_place r.place s c) p (all_rows ys)
-
-pub follows_taken : (origin t : Messages) (s : SessionId) (c : ℕ) (xs ys zs : List Lane) (res o : Option Row) → MatchOption o ((res ≡ None) × EachBecomes (λ rs. rs) ys zs) (λ r. (res ≡ Some (sent s c r)) × EachBecomes (map (sent_at r.place s c)) ys zs) → Follows origin t (all_rows xs) (all_rows ys) → Follows origin t (rows_of xs) (rows_of zs)
-follows_taken origin t s c xs ys zs res o m f =
-    follows_shown origin t xs ys (rows_of xs) (rows_of zs) (λ p. shown_count p xs) (λ p. shown_count p zs ∙ taken_count s c ys zs res o m p) f
+-- a row that goes out is counted where it was
+pub follows_sent : (origin t : Messages) (s : SessionId) (c place : ℕ) (xs ys zs : List Lane) → EachBecomes (map (sent_at place s c)) ys zs → Follows origin t (all_rows xs) (all_rows ys) → Follows origin t (rows_of xs) (rows_of zs)
+follows_sent origin t s c place xs ys zs e f =
+    follows_shown origin t xs ys (rows_of xs) (rows_of zs) (λ p. shown_count p xs) (λ p. shown_count p zs ∙ ap (rows_at p) (all_rows_each (map (sent_at place s c)) refl (map-append (sent_at place s c)) ys zs e) ∙ map_count (sent_at place s c) (sent_at_place place s c) p (all_rows ys)) f
 
 pub edited_one : (q : Row → Bool) (init lanes : List Lane) (i : ℕ) (d lane : Lane) → IsEdited (filter q) init lanes i → i < length init → lane.priority ≡ (get_or lanes i d).priority → lane.rows ≡ filter q (get_or lanes i d).rows → (get_or lanes i d).spare ≤ lane.spare → IsEdited (filter q) init (set lanes i lane) (i + 1)
 edited_one q init lanes i d lane e l pr rows room =

@@ -1,6 +1,6 @@
 pub mod Places
 pub mod Edited
-mod Found
+pub mod Found
 pub mod Keeping
 mod Order
 pub mod Pushing
@@ -12,7 +12,6 @@ mod Shown
 pub mod Home
 pub mod From
 mod Spots
-pub mod Taking
 mod Lowest
 mod Written
 mod Within

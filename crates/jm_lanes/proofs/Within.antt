@@ -13,7 +13,6 @@ use Rattle.jm_lane.specs.Lanes.{Lane, IsCopied}
 use Rattle.jm_lanes.specs.Lanes.{AreEmptyLanes, Becomes, EachBecomes, IsWithin, all_rows}
 use Rattle.jm_lanes.proofs.Edited.{each_tail}
 use Rattle.jm_lanes.proofs.Keeping.{copied_number}
-use Rattle.jm_lanes.proofs.Taking.{Sends, Removes}
 use Rattle.jm_lanes.proofs.Written.{written}
 
 -- lanes without rows
@@ -122,23 +121,6 @@ spread f nil s count first end xs old ys is number g e h each = record { each = 
 
     rows' : all_rows (us ++ (ys ++ vs)) ≡ all_rows ys
     rows' = mid_rows us ys vs (before_span xs s h) (behind_span xs s h)
-
--- the same of a sending, and of a removal
-pub spread_sent : (session : SessionId) (c : ℕ) (s : Span) (count first end : ℕ) (xs old ys : List Lane) (res o : Option Row) → old ≡ xs → length old ≡ count → first ≡ s.first → end ≡ s.end → {room : ℕ} → IsWithin xs s room → Sends session c (take (end - first) (drop first old)) ys res o → Sends session c xs (back_of count first end xs old ys) res o × IsWithin (back_of count first end xs old ys) s room
-spread_sent session c s count first end xs old ys res None is number f e h m =
-    let out = spread (λ rs. rs) refl s count first end xs old ys is number f e h m.1 in
-    ((m.0, out.each), out.within)
-spread_sent session c s count first end xs old ys res (Some r) is number f e h m =
-    let out = spread (map (sent_at r.place session c)) refl s count first end xs old ys is number f e h m.1 in
-    ((m.0, out.each), out.within)
-
-pub spread_removed : (s : Span) (count first end : ℕ) (xs old ys : List Lane) (res o : Option Row) → old ≡ xs → length old ≡ count → first ≡ s.first → end ≡ s.end → {room : ℕ} → IsWithin xs s room → Removes (take (end - first) (drop first old)) ys res o → Removes xs (back_of count first end xs old ys) res o × IsWithin (back_of count first end xs old ys) s room
-spread_removed s count first end xs old ys res None is number f e h m =
-    let out = spread (λ rs. rs) refl s count first end xs old ys is number f e h m.1 in
-    ((m.0, out.each), out.within)
-spread_removed s count first end xs old ys res (Some r) is number f e h m =
-    let out = spread (filter (is_elsewhere r.place)) refl s count first end xs old ys is number f e h m.1 in
-    ((m.0, out.each), out.within)
 
 -- no lanes, and lanes with the same rows
 pub no_lanes : (s : Span) → s.first ≡ 0 → s.end ≡ 0 → IsWithin [] s 0

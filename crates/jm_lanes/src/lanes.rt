@@ -2,9 +2,10 @@
 //! free: rows that expire in turn stand together, so that a delivery drops those of them that are expired from the front;
 //! and those that are delayed stand apart, so that a delivery passes over all that are held back.
 
-ghost use Rattle.std.specs.Prelude.{◌≡◌, ℕ, ◌+◌, ◌-◌, ◌^◌, ◌<◌, ◌≤◌, ◌++◌, List, [], length, All, IfOk, IfSome, find, filter, map, true, false, None, Some, Option, OnOk, MatchOption, slice_get, slice_index_or, slice_set};
+ghost use Rattle.std.specs.Prelude.{◌≡◌, ℕ, ◌+◌, ◌-◌, ◌^◌, ◌<◌, ◌≤◌, ◌++◌, List, [], length, All, IfOk, IfSome, find, filter, map, option_map, true, false, Option, OnOk, slice_get, slice_index_or, slice_set};
 ghost use Rattle.jm_dest.specs.Numbers.{long_end};
 ghost use Rattle.jm_lane.specs.declared.row.Row.{Row};
+ghost use Rattle.jm_lane.specs.declared.spot.Spot.{Spot};
 ghost use Rattle.jm_lanes.specs.declared.span.Span.{Span};
 ghost use Rattle.jm_lane.specs.Rows.{IsRising, back, is_among, is_elsewhere, is_ready, keeps, sent_at, stays};
 ghost use Rattle.jm_lane.specs.Rows as spec;
@@ -312,70 +313,43 @@ pub(crate) fn drop_expired(lanes: &mut [Lane], table: &mut Table, now: Moment) -
     left
 }
 
-/// Sends the row that goes first of those that are ready.
-pub(crate) fn take_first(
+/// Where the row at that place stands, where there is one.
+fn spot_of(lanes: &[Lane], place: u64) -> Option<Spot>
+    ensures row { row_of result ≡ find (is_at place) (all_rows lanes.now) }
+    ensures spot { IfSome result (λ (s : Spot). (s.row.place ≡ place) × IsSpot lanes.now s) }
+{
+    for i in 0..lanes.len() {
+        let found = lanes[i].spot_of(i, place);
+        if found.is_some() {
+            return found;
+        }
+    }
+    None
+}
+
+/// Sends the row at that place, where there is one.
+pub(crate) fn send_at(
     lanes: &mut [Lane],
-    now: Moment,
+    place: u64,
     session: SessionId,
     consumer: ConsumerId,
 ) -> Option<Row>
     requires { IsApart (all_rows lanes.old) }
-    ensures { (first : Option Row) × IsSoonestOf (is_ready now) (all_rows lanes.old) first × MatchOption first
-        ((result ≡ None) × EachBecomes (λ rows. rows) lanes.old lanes.new)
-        (λ r. (result ≡ Some (spec.sent session consumer r)) ×
-        EachBecomes (map (sent_at r.place session consumer)) lanes.old lanes.new) }
+    ensures result { result ≡ option_map (spec.sent session consumer) (find (is_at place) (all_rows lanes.old)) }
+    ensures rows { EachBecomes (map (sent_at place session consumer)) lanes.old lanes.new }
 {
-    let spot = first_spot(lanes, now)?;
+    let spot = spot_of(lanes, place)?;
     let lane = &mut lanes[spot.lane];
-    Some(lane.take_at(&spot, session, consumer))
+    Some(lane.send_at(&spot, session, consumer))
 }
 
-/// Removes the row that goes first of those that are ready.
-pub(crate) fn remove_first(lanes: &mut [Lane], now: Moment) -> Option<Row>
+/// Removes the row at that place, where there is one.
+pub(crate) fn remove_at(lanes: &mut [Lane], place: u64) -> Option<Row>
     requires { IsApart (all_rows lanes.old) }
-    ensures { (first : Option Row) × IsSoonestOf (is_ready now) (all_rows lanes.old) first × MatchOption first
-        ((result ≡ None) × EachBecomes (λ rows. rows) lanes.old lanes.new)
-        (λ r. (result ≡ Some r) × EachBecomes (filter (is_elsewhere r.place)) lanes.old lanes.new) }
+    ensures result { result ≡ find (is_at place) (all_rows lanes.old) }
+    ensures rows { EachBecomes (filter (is_elsewhere place)) lanes.old lanes.new }
 {
-    let spot = first_spot(lanes, now)?;
-    let lane = &mut lanes[spot.lane];
-    lane.remove_at(&spot);
-    Some(spot.row)
-}
-
-/// Sends the row that goes first of those that are ready and whose messages the selector selects.
-pub(crate) fn take_where(
-    lanes: &mut [Lane],
-    table: &Table,
-    now: Moment,
-    selector: &Selector,
-    session: SessionId,
-    consumer: ConsumerId,
-) -> Option<Row>
-    requires { IsApart (all_rows lanes.old) }
-    ensures { (first : Option Row) × IsSoonestOf (is_choice (matches selector.now) table.now now) (all_rows lanes.old) first × MatchOption first
-        ((result ≡ None) × EachBecomes (λ rows. rows) lanes.old lanes.new)
-        (λ r. (result ≡ Some (spec.sent session consumer r)) ×
-        EachBecomes (map (sent_at r.place session consumer)) lanes.old lanes.new) }
-{
-    let spot = best_spot(lanes, table, now, selector)?;
-    let lane = &mut lanes[spot.lane];
-    Some(lane.take_at(&spot, session, consumer))
-}
-
-/// Removes the row that goes first of those that are ready and whose messages the selector selects.
-pub(crate) fn remove_where(
-    lanes: &mut [Lane],
-    table: &Table,
-    now: Moment,
-    selector: &Selector,
-) -> Option<Row>
-    requires { IsApart (all_rows lanes.old) }
-    ensures { (first : Option Row) × IsSoonestOf (is_choice (matches selector.now) table.now now) (all_rows lanes.old) first × MatchOption first
-        ((result ≡ None) × EachBecomes (λ rows. rows) lanes.old lanes.new)
-        (λ r. (result ≡ Some r) × EachBecomes (filter (is_elsewhere r.place)) lanes.old lanes.new) }
-{
-    let spot = best_spot(lanes, table, now, selector)?;
+    let spot = spot_of(lanes, place)?;
     let lane = &mut lanes[spot.lane];
     lane.remove_at(&spot);
     Some(spot.row)

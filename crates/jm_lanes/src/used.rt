@@ -1,7 +1,7 @@
 //! The lanes of one subscription, of which none is looked at but those of a span: the lanes from the first to the last
 //! that got a row since there were none. Only a copy, and what makes lanes or more room than all have, goes over all.
 
-ghost use Rattle.std.specs.Prelude.{◌≡◌, ℕ, ◌^◌, ◌<◌, ◌≤◌, List, [], length, All, IfOk, OnOk, find, filter, map, false, None, Some, Option, MatchOption, slice_get, slice_index_or, slice_set};
+ghost use Rattle.std.specs.Prelude.{◌≡◌, ℕ, ◌^◌, ◌<◌, ◌≤◌, List, [], length, All, IfOk, OnOk, find, filter, map, option_map, false, Option, slice_get, slice_index_or, slice_set};
 ghost use Rattle.std.specs.List.{AllZip};
 ghost use Rattle.jm_dest.specs.Numbers.{long_end};
 ghost use Rattle.jm_machine.specs.Machine.{are_meant};
@@ -205,62 +205,25 @@ impl UsedLanes {
         lanes::drop_expired(used, table, now)
     }
 
-    /// Sends the row that goes first of those that are ready.
-    pub fn take_first(
-        &mut self,
-        now: Moment,
-        session: SessionId,
-        consumer: ConsumerId,
-    ) -> Option<Row>
+    /// Sends the row at that place, where there is one, and returns it as it is then. Looks for it by halves in each lane
+    /// that may have rows, but first at the first row there that waits.
+    pub fn send_at(&mut self, place: u64, session: SessionId, consumer: ConsumerId) -> Option<Row>
         requires { IsApart (all_rows self.old) }
-        ensures { (first : Option Row) × IsSoonestOf (is_ready now) (all_rows self.old) first × MatchOption first
-            ((result ≡ None) × EachBecomes (λ rows. rows) self.old self.new)
-            (λ r. (result ≡ Some (spec.sent session consumer r)) ×
-            EachBecomes (map (sent_at r.place session consumer)) self.old self.new) }
+        ensures result { result ≡ option_map (spec.sent session consumer) (find (is_at place) (all_rows self.old)) }
+        ensures rows { EachBecomes (map (sent_at place session consumer)) self.old self.new }
     {
         let used = &mut self.lanes[self.span.first()..self.span.end()];
-        lanes::take_first(used, now, session, consumer)
+        lanes::send_at(used, place, session, consumer)
     }
 
-    /// Removes the row that goes first of those that are ready.
-    pub fn remove_first(&mut self, now: Moment) -> Option<Row>
+    /// Removes the row at that place, where there is one, and returns it as it was. Looks for it as `send_at` does.
+    pub fn remove_at(&mut self, place: u64) -> Option<Row>
         requires { IsApart (all_rows self.old) }
-        ensures { (first : Option Row) × IsSoonestOf (is_ready now) (all_rows self.old) first × MatchOption first
-            ((result ≡ None) × EachBecomes (λ rows. rows) self.old self.new)
-            (λ r. (result ≡ Some r) × EachBecomes (filter (is_elsewhere r.place)) self.old self.new) }
+        ensures result { result ≡ find (is_at place) (all_rows self.old) }
+        ensures rows { EachBecomes (filter (is_elsewhere place)) self.old self.new }
     {
         let used = &mut self.lanes[self.span.first()..self.span.end()];
-        lanes::remove_first(used, now)
-    }
-
-    /// Sends the row that goes first of those that are ready and whose messages the selector selects.
-    pub fn take_where(
-        &mut self,
-        table: &Table,
-        now: Moment,
-        selector: &Selector,
-        session: SessionId,
-        consumer: ConsumerId,
-    ) -> Option<Row>
-        requires { IsApart (all_rows self.old) }
-        ensures { (first : Option Row) × IsSoonestOf (is_choice (matches selector.now) table.now now) (all_rows self.old) first × MatchOption first
-            ((result ≡ None) × EachBecomes (λ rows. rows) self.old self.new)
-            (λ r. (result ≡ Some (spec.sent session consumer r)) ×
-            EachBecomes (map (sent_at r.place session consumer)) self.old self.new) }
-    {
-        let used = &mut self.lanes[self.span.first()..self.span.end()];
-        lanes::take_where(used, table, now, selector, session, consumer)
-    }
-
-    /// Removes the row that goes first of those that are ready and whose messages the selector selects.
-    pub fn remove_where(&mut self, table: &Table, now: Moment, selector: &Selector) -> Option<Row>
-        requires { IsApart (all_rows self.old) }
-        ensures { (first : Option Row) × IsSoonestOf (is_choice (matches selector.now) table.now now) (all_rows self.old) first × MatchOption first
-            ((result ≡ None) × EachBecomes (λ rows. rows) self.old self.new)
-            (λ r. (result ≡ Some r) × EachBecomes (filter (is_elsewhere r.place)) self.old self.new) }
-    {
-        let used = &mut self.lanes[self.span.first()..self.span.end()];
-        lanes::remove_where(used, table, now, selector)
+        lanes::remove_at(used, place)
     }
 
     /// Removes the rows that are among those. Returns how many rows are left.

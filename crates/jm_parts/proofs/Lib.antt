@@ -1,5 +1,6 @@
 pub mod Accepted
 pub mod Kept
+mod Left
 pub mod Naming
 pub mod NextRows
 pub mod Publishing

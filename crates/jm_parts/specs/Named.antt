@@ -9,7 +9,7 @@ use Rattle.jm_dest.specs.Keys.{key_eq}
 use Rattle.jm_machine.specs.declared.state.Consumer.{Consumer}
 use Rattle.jm_machine.specs.declared.state.Definition.{Definition}
 use Rattle.jm_machine.specs.Life.{Life, client_of}
-use Rattle.jm_machine.specs.Machine.{after, asked, defined, durable_of, first_cause, held, may_begin, shared_of, unless}
+use Rattle.jm_machine.specs.Machine.{defined, durable_of, first_cause, held, may_begin, shared_of, unless}
 use Rattle.jm_selector.specs.Selectors.{selector_refusal}
 use Rattle.jm_stations.specs.Backlogs.{Backlog, are_home, empty, kept_under}
 use Rattle.jm_stations.specs.Stations.{Stations, index_in}

@@ -1,5 +1,5 @@
 -- A core that is made of what was stored, part by part.
-use Rattle.std.specs.Prelude.{◌≡◌, ◌<◌, ◌++◌, ℕ, List, [], All, map, length, nat_eq, slice_index_or, Option, None}
+use Rattle.std.specs.Prelude.{◌≡◌, ◌<◌, ◌++◌, ℕ, List, All, map, length, nat_eq, slice_index_or, Option, None}
 use Rattle.std.specs.List.{IsDistinct}
 use Rattle.jm_dest.specs.declared.key.Key.{Key}
 use Rattle.jm_header.specs.declared.content.Content.{Content}

@@ -14,7 +14,7 @@ use Rattle.jm_machine.specs.Life.{Life, is_started}
 use Rattle.jm_machine.specs.Rows.{deliver_placed, left_of, settles_at_once}
 use Rattle.jm_machine.specs.Machine.{consumer_of, missed_of, station_of}
 use Rattle.jm_machine.specs.Wants.{is_queued_after, next_chosen}
-use Rattle.jm_stations.specs.Backlogs.{Backlog, answered, changed_at, copy_wanted, copy_wanted_where}
+use Rattle.jm_stations.specs.Backlogs.{Backlog, IsPicked, answered, changed_at, copy_wanted, next_placed, picked_of}
 use Rattle.jm_stations.specs.Stations.{Stations, index_in}
 use Rattle.jm_parts.specs.declared.receive.Receiver.{Receiver}
 use Rattle.jm_parts.specs.declared.receive.Taking.{Taking}
@@ -39,21 +39,25 @@ settles r = settles_at_once (Some r.mode)
 abbrev pub left_by : Receiver → Row → List Row
 left_by r = left_of (Some r.mode) r.session r.consumer
 
--- a delivery takes nothing where there is no key, or nothing stands under it; else the next row there, with the copy
--- that is wanted
+-- what a delivery takes at an index is what is picked there: the next row, where there is one, with the copy that it wants
+abbrev pub IsPickedAt : Receiver → List Backlog → Taking → Type 0
+IsPickedAt r list x = (d : Backlog) → x.picked ≡ picked_of (settles r) list (next_placed r.moment (slice_index_or list x.index d).rows)
+
+-- a delivery takes nothing where there is no key, or nothing stands under it; else what is picked there: the next row, with
+-- the copy that is wanted
 abbrev pub IsTaken : Option Key → Receiver → List Key → List Backlog → Option Taking → Type 0
 IsTaken None r keys list taking = taking ≡ None
 IsTaken (Some key) r keys list None = index_in keys key ≡ None
 IsTaken (Some key) r keys list (Some x) =
-    (index_in keys key ≡ Some x.index) × ((d : Backlog) → x.copy ≡ copy_wanted (settles r) r.moment list (slice_index_or list x.index d).rows)
+    (index_in keys key ≡ Some x.index) × IsPickedAt r list x
 
 -- a delivery from the queue of that name takes nothing where nothing stands under its key; else the next row there whose
--- message passes, with the copy that is wanted
+-- message passes, where there is one, with the copy that it wants
 abbrev pub IsTakenFrom : List ℕ → (Content → Bool) → Receiver → Stations → Option Taking → Type 0
 IsTakenFrom name p r queues None = index_in queues.keys (Queue name) ≡ None
 IsTakenFrom name p r queues (Some x) =
     (index_in queues.keys (Queue name) ≡ Some x.index) × (x.index < length queues.list)
-    × ((d : Backlog) → x.copy ≡ copy_wanted_where p (settles r) r.moment queues.list (slice_index_or queues.list x.index d).rows)
+    × IsPicked p (settles r) r.moment queues.list x.index x.picked
 
 -- a delivery from the rows of a queue wants a copy
 abbrev pub wants_copy_of : (Content → Bool) → Receiver → List PlacedRow → Bool

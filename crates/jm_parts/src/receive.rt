@@ -1,28 +1,26 @@
-//! Delivers the next row under a key. A delivery is prepared first, which makes the copy that it wants, and
-//! then made, which takes no memory.
+//! Delivers the next row under a key. A delivery is prepared first, which picks the row and makes the copy that it wants, and
+//! then made, which takes that row by its place, and no memory.
 
-ghost use Rattle.std.specs.Prelude.{◌≡◌, ◌<◌, ℕ, List, true, false, length, slice_index_or, IfSome, IfOk, IfErr, OnOk, OnErr, Some};
+ghost use Rattle.std.specs.Prelude.{◌≡◌, ◌<◌, Bool, ℕ, List, true, false, length, slice_index_or, IfSome, IfOk, IfErr, OnOk, OnErr, Some};
 ghost use Rattle.std.specs.Option.{option_copied};
 ghost use Rattle.jm_base.specs.declared.refusal.Refusal.TheVariants.{IllegalState};
+ghost use Rattle.jm_header.specs.declared.content.Content.{Content};
 ghost use Rattle.jm_machine.specs.Life.{mode_of};
 ghost use Rattle.jm_dest.specs.declared.key.Key.TheVariants as queue;
 ghost use Rattle.jm_machine.specs.Machine.{at_queue, consumer_of, key_at, may_receive, may_use, selected_by};
 ghost use Rattle.jm_machine.specs.Rows.{deliver_chosen, settles_at_once};
-ghost use Rattle.jm_selector.specs.Selectors.{matches};
-ghost use Rattle.jm_stations.specs.Backlogs.{Backlog, answered, answered_where, changed_at, copy_wanted, copy_wanted_where};
+ghost use Rattle.jm_stations.specs.Backlogs.{Backlog, IsPicked, answered, answered_where, changed_at};
 ghost use Rattle.jm_stations.specs.Stations.{index_in};
 ghost use Rattle.jm_parts.specs.Takings as spec;
 ghost use Rattle.jm_queues.specs.Queues.{rows_in};
-ghost use Rattle.jm_parts.specs.Takings.{IsMissed, IsTaken, IsTakenFrom, IsTold, source_of, taken_from, wants_copy, wants_copy_of};
+ghost use Rattle.jm_parts.specs.Takings.{IsMissed, IsPickedAt, IsTaken, IsTakenFrom, IsTold, source_of, taken_from, wants_copy, wants_copy_of};
 
-use jm_base::{Boxed, Mode, Refusal};
+use jm_base::{Mode, Refusal};
 use jm_dest::{ConsumerId, Key, Moment, SessionId};
-use jm_header::Message;
 use jm_machine::{Answer, Consumer};
 use jm_queues::queues::Queues;
-use jm_selector::Selector;
 use jm_session::Sessions;
-use jm_stations::Stations;
+use jm_stations::{Picked, Stations};
 use std::alloc::AllocError;
 
 /// Who receives, and when: a session in its mode, through its consumer, at a moment.
@@ -34,11 +32,11 @@ pub struct Receiver {
     pub moment: Moment,
 }
 
-/// A delivery that is to be made: the index of the key, and the copy that it wants.
+/// A delivery that is to be made: the index of the key, and what was picked there.
 #[derive(Drop)]
 pub struct Taking {
     pub index: usize,
-    pub copy: Option<Boxed<Message>>,
+    pub picked: Option<Picked>,
 }
 
 /// Whether the mode settles a message in the step that delivers it.
@@ -79,7 +77,7 @@ pub fn receiving<'a>(
     }
 }
 
-/// Finds the rows under the key, where some stand there, and makes the copy that a delivery wants.
+/// Picks what a delivery takes of the rows under the key, where some stand there, with the copy that it wants.
 pub fn prepare_delivery(
     stations: &Stations,
     key: &Key,
@@ -92,8 +90,8 @@ pub fn prepare_delivery(
     match stations.index_of(key) {
         None => Ok(None),
         Some(index) => {
-            let copy = stations.copy_for(index, receiver.moment, settles(receiver.mode))?;
-            Ok(Some(Taking { index, copy }))
+            let picked = stations.pick(index, receiver.moment, settles(receiver.mode))?;
+            Ok(Some(Taking { index, picked }))
         }
     }
 }
@@ -102,32 +100,28 @@ pub fn prepare_delivery(
 /// out to the session.
 pub fn make_delivery(stations: &mut Stations, receiver: &Receiver, taking: Option<Taking>) -> Answer
     requires within { IfSome taking (λ x. x.index < length stations.old.list) }
-    requires copy { IfSome taking (λ x. (d : Backlog) →
-        x.copy ≡ copy_wanted (spec.settles receiver.now) receiver.now.moment stations.old.list
-        (slice_index_or stations.old.list x.index d).rows) }
+    requires picked { IfSome taking (IsPickedAt receiver.now stations.old.list) }
     ensures answer { IsTold taking receiver.now.moment stations.old.list result }
     ensures keys { stations.new.keys ≡ stations.old.keys }
     ensures list { stations.new.list ≡ taken_from taking receiver.now stations.old.list }
     ensures next_place { stations.new.next_place ≡ stations.old.next_place }
 {
-    let Some(Taking { index, copy }) = taking else {
+    let Some(Taking { index, picked }) = taking else {
         return Answer::Nothing;
     };
-    deliver_from(stations, index, receiver, copy)
+    deliver_from(stations, index, receiver, picked)
 }
 
-/// Delivers the next row under the key with that index, where there is one.
+/// Delivers what was picked under the key with that index.
 #[tactic(auto, unfolding(jm_machine::specs::Rows::left_of))]
 fn deliver_from(
     stations: &mut Stations,
     index: usize,
     receiver: &Receiver,
-    copy: Option<Boxed<Message>>,
+    picked: Option<Picked>,
 ) -> Answer
     requires within { index < length stations.old.list }
-    requires copy { (d : Backlog) →
-        copy ≡ copy_wanted (spec.settles receiver.now) receiver.now.moment stations.old.list
-        (slice_index_or stations.old.list index d).rows }
+    requires picked { IsPickedAt receiver.now stations.old.list (record { index = index; picked = picked }) }
     ensures answer { (d : Backlog) → result ≡ answered receiver.now.moment (slice_index_or stations.old.list index d).rows }
     ensures keys { stations.new.keys ≡ stations.old.keys }
     ensures list { stations.new.list ≡
@@ -135,19 +129,19 @@ fn deliver_from(
     ensures next_place { stations.new.next_place ≡ stations.old.next_place }
 {
     if settles(receiver.mode) {
-        return stations.receive(index, receiver.moment, copy);
+        return stations.receive(index, receiver.moment, picked);
     }
     stations.deliver(
         index,
         receiver.moment,
-        copy,
+        picked,
         receiver.session,
         receiver.consumer,
     )
 }
 
-/// Finds the rows of the consumer's queue, where some stand there, and makes the copy that a delivery of those wants that
-/// its selector selects.
+/// Picks what a delivery takes of the rows of the consumer's queue, where some stand there: the next one that its selector
+/// selects, with the copy that it wants. The selector is asked here, and not again.
 pub fn prepare_delivery_from(
     queues: &Queues,
     source: &Consumer,
@@ -162,59 +156,57 @@ pub fn prepare_delivery_from(
         None => Ok(None),
         Some(index) => {
             let at_once = settles(receiver.mode);
-            let copy = queues.copy_for(index, receiver.moment, at_once, &source.selector)?;
-            Ok(Some(Taking { index, copy }))
+            let picked = queues.pick(index, receiver.moment, at_once, &source.selector)?;
+            Ok(Some(Taking { index, picked }))
         }
     }
 }
 
-/// Delivers the next row of the queue that the selector selects, where there is one, as `make_delivery` does.
+/// Delivers what was picked from the queue, of the rows whose messages pass, as `make_delivery` does.
 pub fn make_delivery_from(
     queues: &mut Queues,
-    selector: &Selector,
     receiver: &Receiver,
     taking: Option<Taking>,
 ) -> Answer
-    requires { (name : List ℕ) × IsTakenFrom name (matches selector.now) receiver.now queues.old taking }
-    ensures answer { (name : List ℕ) → IsTakenFrom name (matches selector.now) receiver.now queues.old taking →
-        result ≡ answered_where (matches selector.now) receiver.now.moment (rows_in queues.old name) }
-    ensures rows { (name : List ℕ) → IsTakenFrom name (matches selector.now) receiver.now queues.old taking →
+    requires { (name : List ℕ) × (p : Content → Bool) × IsTakenFrom name p receiver.now queues.old taking }
+    ensures answer { (name : List ℕ) (p : Content → Bool) → IsTakenFrom name p receiver.now queues.old taking →
+        result ≡ answered_where p receiver.now.moment (rows_in queues.old name) }
+    ensures rows { (name : List ℕ) (p : Content → Bool) → IsTakenFrom name p receiver.now queues.old taking →
         rows_in queues.new ≡ at_queue name
-        (deliver_chosen (matches selector.now) receiver.now.moment (spec.left_by receiver.now)) (rows_in queues.old) }
+        (deliver_chosen p receiver.now.moment (spec.left_by receiver.now)) (rows_in queues.old) }
     ensures next_place { queues.new.next_place ≡ queues.old.next_place }
 {
-    let Some(Taking { index, copy }) = taking else {
+    let Some(Taking { index, picked }) = taking else {
         return Answer::Nothing;
     };
-    take_from(queues, index, selector, receiver, copy)
+    take_from(queues, index, receiver, picked)
 }
 
-/// Delivers the next row of the queue with that index that the selector selects.
+/// Delivers what was picked from the queue with that index.
 #[tactic(auto, unfolding(jm_machine::specs::Rows::left_of))]
 fn take_from(
     queues: &mut Queues,
     index: usize,
-    selector: &Selector,
     receiver: &Receiver,
-    copy: Option<Boxed<Message>>,
+    picked: Option<Picked>,
 ) -> Answer
     requires within { index < length queues.old.list }
-    requires copy { (d : Backlog) → copy ≡ copy_wanted_where (matches selector.now) (spec.settles receiver.now)
-        receiver.now.moment queues.old.list (slice_index_or queues.old.list index d).rows }
-    ensures answer { (name : List ℕ) → index_in queues.old.keys (queue.Queue name) ≡ Some index →
-        result ≡ answered_where (matches selector.now) receiver.now.moment (rows_in queues.old name) }
-    ensures rows { (name : List ℕ) → index_in queues.old.keys (queue.Queue name) ≡ Some index → rows_in queues.new ≡ at_queue name
-        (deliver_chosen (matches selector.now) receiver.now.moment (spec.left_by receiver.now)) (rows_in queues.old) }
+    requires picked { (p : Content → Bool) × IsPicked p (spec.settles receiver.now) receiver.now.moment queues.old.list index picked }
+    ensures answer { (name : List ℕ) (p : Content → Bool) → index_in queues.old.keys (queue.Queue name) ≡ Some index →
+        IsPicked p (spec.settles receiver.now) receiver.now.moment queues.old.list index picked →
+        result ≡ answered_where p receiver.now.moment (rows_in queues.old name) }
+    ensures rows { (name : List ℕ) (p : Content → Bool) → index_in queues.old.keys (queue.Queue name) ≡ Some index →
+        IsPicked p (spec.settles receiver.now) receiver.now.moment queues.old.list index picked →
+        rows_in queues.new ≡ at_queue name (deliver_chosen p receiver.now.moment (spec.left_by receiver.now)) (rows_in queues.old) }
     ensures next_place { queues.new.next_place ≡ queues.old.next_place }
 {
     if settles(receiver.mode) {
-        return queues.receive(index, receiver.moment, selector, copy);
+        return queues.receive(index, receiver.moment, picked);
     }
     queues.deliver(
         index,
         receiver.moment,
-        selector,
-        copy,
+        picked,
         receiver.session,
         receiver.consumer,
     )

@@ -8,14 +8,14 @@ use Rattle.std.proofs.lemmas.List.Elements.{filter-append}
 use Rattle.jm_dest.specs.declared.session.SessionId.{SessionId}
 use Rattle.jm_lane.specs.declared.row.Row.{Row}
 use Rattle.jm_lane.specs.Rows.{is_elsewhere, sent_at}
-use Rattle.jm_lane.specs.Lanes.{Lane, IsSoonestOf, is_at}
-use Rattle.jm_lanes.specs.Lanes.{all_rows, rows_of, IsApart}
+use Rattle.jm_lane.specs.Lanes.{Lane, is_at}
+use Rattle.jm_lanes.specs.Lanes.{all_rows, rows_of, EachBecomes, IsApart}
 use Rattle.jm_lanes.proofs.Edited.{all_rows_each}
 use Rattle.jm_lanes.proofs.Places.{find_has}
 use Rattle.jm_lane.proofs.Rising.{filter_elsewhere}
 use Rattle.jm_pending.proofs.Shown.{length_shown}
-use Rattle.jm_lanes.proofs.Taking.{Sends, Removes}
-use Rattle.jm_pending.proofs.Taking.{taken_out, left_all}
+use Rattle.jm_lanes.proofs.Found.{found_place}
+use Rattle.jm_pending.proofs.Taking.{none_left}
 
 -- where none is counted, there is none
 pub none_there : (rows : List Row) (count : ℕ) → count ≡ length rows → (count == 0) ≡ true → rows ≡ []
@@ -37,17 +37,16 @@ elsewhere_number q (x ∷ xs) r h f = go (q x) (elsewhere_number q xs r h.1) (fi
         rw (ne_eqb x.place r.place (λ s. ne (sym s))) (omega (arith, rec e))
 
 -- a sending leaves as many
-pub sent_number : (s : SessionId) (c : ℕ) (ys zs : List Lane) (res o : Option Row) → Sends s c ys zs res o → length (rows_of zs) ≡ length (all_rows ys)
-sent_number s c ys zs res None m = length_shown zs ∙ ap length (all_rows_each (λ rs. rs) refl (λ us vs. refl) ys zs m.1)
-sent_number s c ys zs res (Some r) m =
-    length_shown zs ∙ ap length (all_rows_each (map (sent_at r.place s c)) refl (map-append (sent_at r.place s c)) ys zs m.1) ∙ length-map (all_rows ys) (sent_at r.place s c)
+pub sent_number : (s : SessionId) (c place : ℕ) (ys zs : List Lane) → EachBecomes (map (sent_at place s c)) ys zs → length (rows_of zs) ≡ length (all_rows ys)
+sent_number s c place ys zs e =
+    length_shown zs ∙ ap length (all_rows_each (map (sent_at place s c)) refl (map-append (sent_at place s c)) ys zs e) ∙ length-map (all_rows ys) (sent_at place s c)
 
--- a removal leaves one less, or as many where nothing is removed
-pub removed_number : (p : Row → Bool) (res : Option Row) (row : Row) (ys zs : List Lane) → IsApart (all_rows ys) → (o : Option Row) × IsSoonestOf p (all_rows ys) o × Removes ys zs res o → res ≡ Some row → length (rows_of zs) + 1 ≡ length (all_rows ys)
-removed_number p res row ys zs apart m some =
-    let out = taken_out p res row ys zs apart m some in
-    let left = all_rows_each (filter (is_elsewhere row.place)) refl (filter-append (is_elsewhere row.place)) ys zs out.1 in
-    omega (arith, length_shown zs, ap length left, elsewhere_number (is_at row.place) (all_rows ys) row apart out.0)
+-- a removal leaves one less, or as many where nothing is there
+pub removed_number : (place : ℕ) (row : Row) (ys zs : List Lane) → IsApart (all_rows ys) → find (is_at place) (all_rows ys) ≡ Some row → EachBecomes (filter (is_elsewhere place)) ys zs → length (rows_of zs) + 1 ≡ length (all_rows ys)
+removed_number place row ys zs apart found e =
+    let left = all_rows_each (filter (is_elsewhere place)) refl (filter-append (is_elsewhere place)) ys zs e in
+    let one = subst (λ (n : ℕ). length (filter (is_elsewhere n) (all_rows ys)) + 1 ≡ length (all_rows ys)) (found_place place (all_rows ys) row found) (elsewhere_number (is_at place) (all_rows ys) row apart found) in
+    omega (arith, length_shown zs, ap length left, one)
 
-pub kept_number : (res o : Option Row) (ys zs : List Lane) → Removes ys zs res o → res ≡ None → length (rows_of zs) ≡ length (all_rows ys)
-kept_number res o ys zs m none = length_shown zs ∙ ap length (left_all res o ys zs m none)
+pub kept_number : (place : ℕ) (ys zs : List Lane) → find (is_at place) (all_rows ys) ≡ None → EachBecomes (filter (is_elsewhere place)) ys zs → length (rows_of zs) ≡ length (all_rows ys)
+kept_number place ys zs none e = length_shown zs ∙ ap length (none_left place ys zs none e)

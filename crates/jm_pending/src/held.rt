@@ -1,6 +1,6 @@
 //! The rows of one subscription.
 
-ghost use Rattle.std.specs.Prelude.{◌≡◌, ◌+◌, ◌-◌, ◌^◌, ◌<◌, ◌≤◌, [], ◌∷◌, ◌++◌, length, slice_get, All, find, filter, map, not, true, false, None, Some, IfSome, IfOk, OnOk, MatchOption};
+ghost use Rattle.std.specs.Prelude.{◌≡◌, ◌+◌, ◌-◌, ◌^◌, ◌<◌, ◌≤◌, [], ◌∷◌, ◌++◌, length, slice_get, All, find, filter, map, option_map, not, true, false, IfSome, IfOk, OnOk};
 ghost use Rattle.jm_dest.specs.Numbers.{long_end};
 ghost use Rattle.jm_machine.specs.Machine.{are_meant, one_missed};
 ghost use Rattle.jm_lane.specs.declared.row.Row.{Row};
@@ -282,23 +282,20 @@ impl Held {
         self.lanes.next_where(table, now, selector)
     }
 
-    /// Drops the waiting rows that are expired at that moment, and delivers the next row, which goes
-    /// out to the session through its consumer. Takes no memory.
-    pub fn take(
+    /// Drops the waiting rows that are expired at that moment, and delivers the row at that place, which goes out to the
+    /// session through its consumer, and is returned as it is then. Where none of those that are left is there, none is
+    /// delivered. Takes no memory.
+    pub fn deliver_at(
         &mut self,
         table: &mut Table,
         now: Moment,
+        place: u64,
         session: SessionId,
         consumer: ConsumerId,
     ) -> Option<Row>
         requires { Covers table.old self.old.rows }
-        ensures rows { MatchOption (next now self.old.rows)
-            ((result ≡ None) × (self.new ≡ record self.old { rows = filter (spec.stays now) self.old.rows }))
-            (λ r. (result ≡ Some (spec.sent session consumer r)) ×
-            (self.new ≡ record self.old {
-              rows =
-                  map (spec.sent_at r.place session consumer) (filter (spec.stays now) self.old.rows);
-            })) }
+        ensures result { result ≡ option_map (spec.sent session consumer) (find (is_at place) (filter (spec.stays now) self.old.rows)) }
+        ensures rows { self.new ≡ record self.old { rows = map (spec.sent_at place session consumer) (filter (spec.stays now) self.old.rows) } }
         ensures table { Follows table.old table.new self.old.rows self.new.rows }
         ensures rising { spec.IsRising self.old.rows }
     {
@@ -307,21 +304,17 @@ impl Held {
         }
         self.count = self.lanes.drop_expired(table, now);
         self.receivers = self.receivers.with_one(&session, consumer);
-        self.lanes.take_first(now, session, consumer)
+        self.lanes.send_at(place, session, consumer)
     }
 
-    /// Drops the waiting rows that are expired at that moment, and delivers the next row, which is
-    /// settled at once. Its message is handed out where no other row holds it, and else stays in the
-    /// table. Takes no memory.
-    pub fn take_settled(&mut self, table: &mut Table, now: Moment) -> Option<Taken>
+    /// Drops the waiting rows that are expired at that moment, and delivers the row at that place, which is settled at once.
+    /// Its message is handed out where no other row holds it, and else stays in the table. Where none of those that are left
+    /// is there, none is delivered. Takes no memory.
+    pub fn receive_at(&mut self, table: &mut Table, now: Moment, place: u64) -> Option<Taken>
         requires { Covers table.old self.old.rows }
-        ensures rows { MatchOption (next now self.old.rows)
-            ((result ≡ None) × (self.new ≡ record self.old { rows = filter (spec.stays now) self.old.rows }))
-            (λ r. (result ≡ Some (record { row = spec.counted r; message = last_message table.old r.place })) ×
-            (self.new ≡ record self.old {
-              rows =
-                  filter (spec.is_elsewhere r.place) (filter (spec.stays now) self.old.rows);
-            })) }
+        ensures result { result ≡ option_map (λ r. record { row = spec.counted r; message = last_message table.old r.place })
+            (find (is_at place) (filter (spec.stays now) self.old.rows)) }
+        ensures rows { self.new ≡ record self.old { rows = filter (spec.is_elsewhere place) (filter (spec.stays now) self.old.rows) } }
         ensures table { Follows table.old table.new self.old.rows self.new.rows }
         ensures rising { spec.IsRising self.old.rows }
     {
@@ -329,76 +322,26 @@ impl Held {
             return None;
         }
         self.count = self.lanes.drop_expired(table, now);
-        let row = self.lanes.remove_first(now)?;
+        let row = self.lanes.remove_at(place)?;
         self.count -= 1;
-        let message = table.release(row.place);
+        let message = table.release(place);
         Some(Taken {
             row: row.counted(),
             message,
         })
     }
 
-    /// Drops the waiting rows that are expired at that moment, also those that are not selected, and delivers the next row
-    /// of those whose messages the selector selects, which goes out to the session through its consumer. Takes no memory.
-    pub fn take_where(
-        &mut self,
-        table: &mut Table,
-        now: Moment,
-        selector: &Selector,
-        session: SessionId,
-        consumer: ConsumerId,
-    ) -> Option<Row>
+    /// Drops the waiting rows that are expired at that moment. Takes no memory.
+    pub fn drop_expired(&mut self, table: &mut Table, now: Moment)
         requires { Covers table.old self.old.rows }
-        ensures rows { MatchOption (next_where (matches selector.now) table.old now self.old.rows)
-            ((result ≡ None) × (self.new ≡ record self.old { rows = filter (spec.stays now) self.old.rows }))
-            (λ r. (result ≡ Some (spec.sent session consumer r)) ×
-            (self.new ≡ record self.old {
-              rows =
-                  map (spec.sent_at r.place session consumer) (filter (spec.stays now) self.old.rows);
-            })) }
+        ensures rows { self.new ≡ record self.old { rows = filter (spec.stays now) self.old.rows } }
         ensures table { Follows table.old table.new self.old.rows self.new.rows }
         ensures rising { spec.IsRising self.old.rows }
     {
         if self.is_empty() {
-            return None;
+            return;
         }
         self.count = self.lanes.drop_expired(table, now);
-        self.receivers = self.receivers.with_one(&session, consumer);
-        self.lanes
-            .take_where(table, now, selector, session, consumer)
-    }
-
-    /// Drops the waiting rows that are expired at that moment, also those that are not selected, and delivers the next row
-    /// of those whose messages the selector selects, which is settled at once. Its message is handed out where no other
-    /// row holds it, and else stays in the table. Takes no memory.
-    pub fn take_settled_where(
-        &mut self,
-        table: &mut Table,
-        now: Moment,
-        selector: &Selector,
-    ) -> Option<Taken>
-        requires { Covers table.old self.old.rows }
-        ensures rows { MatchOption (next_where (matches selector.now) table.old now self.old.rows)
-            ((result ≡ None) × (self.new ≡ record self.old { rows = filter (spec.stays now) self.old.rows }))
-            (λ r. (result ≡ Some (record { row = spec.counted r; message = last_message table.old r.place })) ×
-            (self.new ≡ record self.old {
-              rows =
-                  filter (spec.is_elsewhere r.place) (filter (spec.stays now) self.old.rows);
-            })) }
-        ensures table { Follows table.old table.new self.old.rows self.new.rows }
-        ensures rising { spec.IsRising self.old.rows }
-    {
-        if self.is_empty() {
-            return None;
-        }
-        self.count = self.lanes.drop_expired(table, now);
-        let row = self.lanes.remove_where(table, now, selector)?;
-        self.count -= 1;
-        let message = table.release(row.place);
-        Some(Taken {
-            row: row.counted(),
-            message,
-        })
     }
 
     /// The rows that are out through one of those consumers go. Where it is known that none is, no row is looked at.

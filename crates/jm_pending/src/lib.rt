@@ -11,17 +11,17 @@
 //! there were none.
 //!
 //! A row waits, or is out to a session through one of its consumers, and `add` takes it in either state, behind all
-//! others; rows in both states count at the limit, where a row is missed instead and counted. `add`, `take`,
-//! `take_settled`, `settle`, `settle_one`, `give_back`, `give_back_one` and `clear` are one equation each on that
-//! list, and say what they do to the holders (`Follows`).
+//! others; rows in both states count at the limit, where a row is missed instead and counted. `add`, `deliver_at`,
+//! `receive_at`, `drop_expired`, `settle`, `settle_one`, `give_back`, `give_back_one` and `clear` are one equation each on
+//! that list, and say what they do to the holders (`Follows`).
 //!
-//! `take` drops the expired rows that wait and sends the next one out, counted once more: the first in order of
-//! priority and place of those that wait, are not expired and are not held back (`is_ready`); what is held back
-//! stays, counts at the limit and hides no other; `take_settled` takes it out instead and hands its message out
-//! exactly where no other row holds it.
+//! `next` gives the row that a delivery takes: the first in order of priority and place of those that wait, are not expired
+//! and are not held back (`is_ready`); what is held back stays, counts at the limit and hides no other. `next_where` gives
+//! the first of those whose messages a selector selects; with no selector it looks at no message.
 //!
-//! `next_where`, `take_where` and `take_settled_where` do the same of the next row whose message a selector selects,
-//! and drop all the expired rows that wait, selected or not; with no selector they look at no message.
+//! `deliver_at` drops the expired rows that wait, and sends the row at a place out, counted once more; `receive_at` takes it
+//! out instead and hands its message out exactly where no other row holds it. So a row is searched once, by `next` or
+//! `next_where`, and then taken by its place.
 //!
 //! `settle` and `give_back` are of the rows that are out through consumers that are meant (`Consumers`), and of no
 //! other: these go, or wait again at their places with their counts; those that end in `_one` are of the row at one

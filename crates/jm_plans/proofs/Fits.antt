@@ -32,7 +32,7 @@ use Rattle.jm_parts.specs.declared.receive.Taking.{Taking}
 use Rattle.jm_parts.specs.State.{stations_of, keys_of, IsSound}
 use Rattle.jm_plans.specs.Plans.{IsRefused}
 use Rattle.jm_plans.specs.Steps.{StepFits}
-use Rattle.jm_parts.specs.Takings.{IsMissed, IsTaken, IsTold, backlog_at, is_queue, left_by, settles, source_of, taken_from, wants_copy, wants_copy_of, wants_from}
+use Rattle.jm_parts.specs.Takings.{IsMissed, IsPickedAt, IsTaken, IsTold, backlog_at, is_queue, left_by, settles, source_of, taken_from, wants_copy, wants_copy_of, wants_from}
 use Rattle.jm_queues.proofs.Found.{found_at, found_none, fails_all}
 use Rattle.jm_parts.proofs.Stations.{key_found, key_missing, copy_is_copied, length-keys}
 use Rattle.jm_plans.proofs.Sound.{sound_received}
@@ -207,8 +207,8 @@ sound_taken limit consumers ss keys list place r k None h t = h
 sound_taken limit consumers ss keys list place r None (Some x) h t = cc
 sound_taken limit consumers ss keys list place r (Some key) (Some x) h t = sound_received limit consumers ss keys list place x.index r.moment key (Some r.mode) r.session r.consumer h t.0
 
--- the copy is that which the delivery wants
-pub copy_taken : (keys : List Key) (list : List Backlog) (r : Receiver) (k : Option Key) (o : Option Taking) → IsTaken k r keys list o → IfSome o (λ x. (d : Backlog) → x.copy ≡ copy_wanted (settles r) r.moment list (get_or list x.index d).rows)
-copy_taken keys list r k None t = tt
-copy_taken keys list r None (Some x) t = cc
-copy_taken keys list r (Some key) (Some x) t = t.1
+-- what is picked is what the delivery takes
+pub picked_taken : (keys : List Key) (list : List Backlog) (r : Receiver) (k : Option Key) (o : Option Taking) → IsTaken k r keys list o → IfSome o (IsPickedAt r list)
+picked_taken keys list r k None t = tt
+picked_taken keys list r None (Some x) t = cc
+picked_taken keys list r (Some key) (Some x) t = t.1

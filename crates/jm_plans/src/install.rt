@@ -151,20 +151,12 @@ impl CoreState {
         make_delivery(&mut self.stations, receiver, taking)
     }
 
-    /// Delivers from the queue what the receiver's consumer selects.
+    /// Delivers what was picked from the queue.
     fn install_delivery_from(&mut self, receiver: &Receiver, taking: Option<Taking>) -> Answer
         requires { IsPlanned self.old (Change.ReceiveFrom receiver.now taking) }
         ensures { InstallFits self.old (Change.ReceiveFrom receiver.now taking) result self.new }
     {
-        match self
-            .sessions
-            .consumer_of(&receiver.session, receiver.consumer)
-        {
-            None => Answer::Nothing,
-            Some(consumer) => {
-                make_delivery_from(&mut self.queues, &consumer.selector, receiver, taking)
-            }
-        }
+        make_delivery_from(&mut self.queues, receiver, taking)
     }
 
     fn install_listener(&mut self, session: &SessionId, id: ConsumerId, on: bool) -> Answer
@@ -189,32 +181,19 @@ impl CoreState {
         answer
     }
 
-    /// Takes from the queue what the receiver's consumer selects.
+    /// Takes what was picked from the queue.
     fn install_take_from(&mut self, receiver: &Receiver, taking: Option<Taking>) -> Answer
         requires { IsPlanned self.old (Change.TakeFrom receiver.now taking) }
         ensures { InstallFits self.old (Change.TakeFrom receiver.now taking) result self.new }
     {
-        match self
-            .sessions
-            .consumer_of(&receiver.session, receiver.consumer)
-        {
-            None => Answer::Nothing,
-            Some(consumer) => {
-                let answer = make_delivery_from(
-                    &mut self.queues,
-                    &consumer.selector,
-                    receiver,
-                    taking,
-                );
-                make_busy(
-                    &mut self.sessions,
-                    &receiver.session,
-                    receiver.consumer,
-                    &answer,
-                );
-                answer
-            }
-        }
+        let answer = make_delivery_from(&mut self.queues, receiver, taking);
+        make_busy(
+            &mut self.sessions,
+            &receiver.session,
+            receiver.consumer,
+            &answer,
+        );
+        answer
     }
 
     fn install_nothing(&self) -> Answer

@@ -1,9 +1,10 @@
 //! What the queues hold.
 
-ghost use Rattle.std.specs.Prelude.{◌≡◌, ◌≤◌, ◌<◌, ◌+◌, ◌^◌, ◌++◌, ◌&&◌, ℕ, true, false, List, [], ◌∷◌, not, is_some, map, length, slice_index_or, None, Some, IfSome, IfOk, OnOk, OnErr};
+ghost use Rattle.std.specs.Prelude.{◌≡◌, ◌≤◌, ◌<◌, ◌+◌, ◌^◌, ◌++◌, ◌&&◌, Bool, ℕ, true, false, List, [], ◌∷◌, not, is_some, map, length, slice_index_or, None, Some, IfSome, IfOk, OnOk, OnErr};
 ghost use Rattle.jm_dest.specs.declared.key.Key.{Key as KeyShown};
 ghost use Rattle.jm_dest.specs.declared.key.Key.TheVariants as key;
 ghost use Rattle.jm_dest.specs.declared.destination.Destination.TheVariants as destination;
+ghost use Rattle.jm_header.specs.declared.content.Content.{Content};
 ghost use Rattle.jm_machine.specs.Machine.{State, are_meant, at_queue, at_queues, places_end, queued, returned_rows, settled_rows};
 ghost use Rattle.jm_machine.specs.Rows.{bare, chosen, deliver_chosen};
 ghost use Rattle.jm_machine.specs.Wants.{next_chosen};
@@ -16,12 +17,11 @@ ghost use Rattle.jm_queues.specs.Queues.{IsReserved, HaveMoreRoom, rows_in, join
 ghost use Rattle.jm_queues.specs.Rows as reading;
 
 use crate::rows::Rows;
-use jm_base::Boxed;
 use jm_dest::{ConsumerId, Key, Moment, Name, SessionId};
 use jm_header::Message;
 use jm_machine::{Answer, Consumers, PlacedRow, Row, RowState};
 use jm_selector::Selector;
-use jm_stations::Stations;
+use jm_stations::{Picked, Stations};
 use std::alloc::{AllocError, Global};
 use std::marker::Model;
 use std::slice::from_ref;
@@ -219,68 +219,60 @@ impl Queues {
         self.stations.load(index, row);
     }
 
-    /// The copy that a delivery from the queue with that index wants at that moment, which settles at once or not, of the
-    /// messages that the selector selects. `AllocError` where a request for memory was refused, which comes only where a
-    /// row stays: a queue's message is held there alone.
-    pub fn copy_for(
+    /// What a delivery from the queue with that index takes at that moment, which settles at once or not, of the messages that
+    /// the selector selects: the next one, with the copy that it wants. `AllocError` where a request for memory was refused,
+    /// which comes only where a row stays: a queue's message is held there alone.
+    pub fn pick(
         &self,
         index: usize,
         now: Moment,
         settles: bool,
         selector: &Selector,
-    ) -> Result<Option<Boxed<Message>>, AllocError>
+    ) -> Result<Option<Picked>, AllocError>
         requires within { index < length self.now.list }
-        ensures copy { (d : Backlog) → IfOk result (λ copy. copy ≡ backlogs.copy_wanted_where (matches selector.now)
-            settles now self.now.list (slice_index_or self.now.list index d).rows) }
+        ensures picked { IfOk result (backlogs.IsPicked (matches selector.now) settles now self.now.list index) }
         ensures err { (name : List ℕ) → index_in self.now.keys (key.Queue name) ≡ Some index → OnErr result
             ((not settles && is_some (next_chosen (matches selector.now) now (rows_in self.now name))) ≡ true) }
     {
-        self.stations.copy_where(index, now, settles, selector)
+        self.stations.pick_where(index, now, settles, selector)
     }
 
-    /// Drops the waiting rows of the queue with that index that are expired at that moment, and delivers the next one of
-    /// those that the selector selects, which is settled. Takes no memory.
-    pub fn receive(
-        &mut self,
-        index: usize,
-        now: Moment,
-        selector: &Selector,
-        copy: Option<Boxed<Message>>,
-    ) -> Answer
+    /// Drops the waiting rows of the queue with that index that are expired at that moment, and delivers the row that was
+    /// picked of those whose messages pass, which is settled. Takes no memory.
+    pub fn receive(&mut self, index: usize, now: Moment, picked: Option<Picked>) -> Answer
         requires within { index < length self.old.list }
-        requires copy { (d : Backlog) → copy ≡ backlogs.copy_wanted_where (matches selector.now) true now
-            self.old.list (slice_index_or self.old.list index d).rows }
-        ensures answer { (name : List ℕ) → index_in self.old.keys (key.Queue name) ≡ Some index →
-            result ≡ backlogs.answered_where (matches selector.now) now (rows_in self.old name) }
-        ensures rows { (name : List ℕ) → index_in self.old.keys (key.Queue name) ≡ Some index →
-            rows_in self.new ≡ at_queue name (deliver_chosen (matches selector.now) now backlogs.gone) (rows_in self.old) }
+        requires picked { (p : Content → Bool) × backlogs.IsPicked p true now self.old.list index picked }
+        ensures answer { (name : List ℕ) (p : Content → Bool) → index_in self.old.keys (key.Queue name) ≡ Some index →
+            backlogs.IsPicked p true now self.old.list index picked →
+            result ≡ backlogs.answered_where p now (rows_in self.old name) }
+        ensures rows { (name : List ℕ) (p : Content → Bool) → index_in self.old.keys (key.Queue name) ≡ Some index →
+            backlogs.IsPicked p true now self.old.list index picked →
+            rows_in self.new ≡ at_queue name (deliver_chosen p now backlogs.gone) (rows_in self.old) }
         ensures next_place { self.new.next_place ≡ self.old.next_place }
     {
-        self.stations.receive_where(index, now, selector, copy)
+        self.stations.receive(index, now, picked)
     }
 
-    /// Drops the waiting rows of the queue with that index that are expired at that moment, and delivers the next one of
-    /// those that the selector selects, which goes out to the session through its consumer. Takes no memory.
+    /// The same, but that the row goes out to the session through its consumer.
     pub fn deliver(
         &mut self,
         index: usize,
         now: Moment,
-        selector: &Selector,
-        copy: Option<Boxed<Message>>,
+        picked: Option<Picked>,
         session: SessionId,
         consumer: ConsumerId,
     ) -> Answer
         requires within { index < length self.old.list }
-        requires copy { (d : Backlog) → copy ≡ backlogs.copy_wanted_where (matches selector.now) false now
-            self.old.list (slice_index_or self.old.list index d).rows }
-        ensures answer { (name : List ℕ) → index_in self.old.keys (key.Queue name) ≡ Some index →
-            result ≡ backlogs.answered_where (matches selector.now) now (rows_in self.old name) }
-        ensures rows { (name : List ℕ) → index_in self.old.keys (key.Queue name) ≡ Some index → rows_in self.new ≡
-            at_queue name (deliver_chosen (matches selector.now) now (backlogs.out_row session consumer)) (rows_in self.old) }
+        requires picked { (p : Content → Bool) × backlogs.IsPicked p false now self.old.list index picked }
+        ensures answer { (name : List ℕ) (p : Content → Bool) → index_in self.old.keys (key.Queue name) ≡ Some index →
+            backlogs.IsPicked p false now self.old.list index picked →
+            result ≡ backlogs.answered_where p now (rows_in self.old name) }
+        ensures rows { (name : List ℕ) (p : Content → Bool) → index_in self.old.keys (key.Queue name) ≡ Some index →
+            backlogs.IsPicked p false now self.old.list index picked → rows_in self.new ≡
+            at_queue name (deliver_chosen p now (backlogs.out_row session consumer)) (rows_in self.old) }
         ensures next_place { self.new.next_place ≡ self.old.next_place }
     {
-        self.stations
-            .deliver_where(index, now, selector, copy, session, consumer)
+        self.stations.deliver(index, now, picked, session, consumer)
     }
 
     /// The rows that are out through one of those consumers go. Takes no memory.

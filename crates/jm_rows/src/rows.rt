@@ -170,8 +170,8 @@ impl Rows {
         if self.stations.len() == 0 {
             return Ok(Answer::Nothing);
         }
-        let copy = self.stations.copy_for(0, now, true)?;
-        Ok(self.stations.receive(0, now, copy))
+        let picked = self.stations.pick(0, now, true)?;
+        Ok(self.stations.receive(0, now, picked))
     }
 
     /// Drops the rows that wait and have lapsed, and delivers the next one, which goes out to the session through its
@@ -189,8 +189,8 @@ impl Rows {
         if self.stations.len() == 0 {
             return Ok(Answer::Nothing);
         }
-        let copy = self.stations.copy_for(0, now, false)?;
-        Ok(self.stations.deliver(0, now, copy, *session, consumer))
+        let picked = self.stations.pick(0, now, false)?;
+        Ok(self.stations.deliver(0, now, picked, *session, consumer))
     }
 
     /// The rows that are out through one of those consumers go. Takes no memory.

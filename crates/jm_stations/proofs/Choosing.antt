@@ -1,8 +1,9 @@
 -- A delivery from those of the rows whose messages pass is the machine's from the rows as callers see them.
-use Rattle.std.proofs.Common.{◌≡◌, ℕ, ◌<◌, List, [], ◌∷◌, get_or, map, Bool, true, false, not, ◌&&◌, cond, Option, Some, None, refl, ap, sym, ◌∙◌, arith, option_map, nat_eq}
+use Rattle.std.proofs.Common.{◌≡◌, subst, ℕ, ◌<◌, List, [], ◌∷◌, get_or, map, Bool, true, false, not, ◌&&◌, cond, Option, Some, None, refl, ap, sym, ◌∙◌, arith, option_map, nat_eq}
 use Rattle.std.specs.List.{filter, find, All}
 use Rattle.std.specs.Map.{lookup}
 use Rattle.std.specs.Option.{IfSome}
+use Rattle.std.proofs.lemmas.Bool.{eq-eqb, ne_eqb}
 use Rattle.std.proofs.lemmas.List.{get_or_default}
 use Rattle.std.proofs.lemmas.List.Elements.{All-head, All-tail, All-filter}
 use Rattle.jm_dest.specs.declared.session.SessionId.{SessionId}
@@ -14,16 +15,17 @@ use Rattle.jm_machine.specs.Wants as wants
 use Rattle.jm_lane.specs.declared.row.Row.{Row}
 use Rattle.jm_lane.specs.declared.table.Stored.{Stored}
 use Rattle.jm_lane.specs.Chosen.{is_passed, passes}
+use Rattle.jm_lane.specs.Lanes.{is_at}
 use Rattle.jm_pending.specs.Chosen.{next_where}
 use Rattle.jm_lane.specs.Rows.{IsRising, stays}
 use Rattle.jm_pending.specs.Rows.{Held, is_next}
 use Rattle.jm_lane.specs.Holders.{Messages, Covers, holders_in, holders_of, message_in}
 use Rattle.jm_pending.specs.Placed.{placed, all_placed, content_of, message_or_none, IsRowOf}
 use Rattle.jm_lane.proofs.Holding.{holder_there}
+use Rattle.jm_lane.proofs.Rising.{rising-filter}
 use Rattle.jm_lanes.proofs.Places.{find_has}
 use Rattle.jm_stations.specs.Backlogs.{gone, out_row}
-use Rattle.jm_stations.specs.Kept.{settled_where, is_left, sent_if, sent_off_where}
-use Rattle.jm_stations.proofs.Delivery.{row_at, is_next_same, next_stays, settled_by, sent_by, found_by, next_row_same}
+use Rattle.jm_stations.proofs.Delivery.{is_left, sent_if, row_at, is_next_same, next_stays, settled_by, sent_by, found_by, find_kept, next_row_same}
 
 -- rows that are covered have their holders
 pub all_held : (t : Messages) (rows : List Row) → Covers t rows → All (λ (r : Row). 0 < holders_of t r.place) rows
@@ -92,6 +94,14 @@ where_each p t now rows covers own = λ k d l.
     is_next_same t now (filter (passes p t) rows) r (All-filter (passes p t) (IsRowOf t) rows own) (own k d l) ∙ ap (λ xs. machine.is_next now xs (row_at t r)) among in
     λ i. one i && other i
 
+-- rows without the waiting ones that are expired, and without the next one of those whose messages pass
+abbrev pub settled_where : (Content → Bool) → Messages → ℕ → Held → Held
+settled_where p t now h = record h { rows = filter (is_left (next_where p t now h.rows)) (filter (stays now) h.rows) }
+
+-- the same of which that one goes out
+abbrev pub sent_off_where : (Content → Bool) → Messages → SessionId → ℕ → ℕ → Held → Held
+sent_off_where p t s c now h = record h { rows = map (sent_if (next_where p t now h.rows) s c) (filter (stays now) h.rows) }
+
 -- where the row is settled
 pub settled_where_same : (p : Content → Bool) (t : Messages) (now : ℕ) (h : Held) → Covers t h.rows → All (IsRowOf t) h.rows → IsRising h.rows → all_placed t (settled_where p t now h).rows ≡ deliver_chosen p now gone (all_placed t h.rows)
 settled_where_same p t now h covers own rising =
@@ -118,3 +128,21 @@ row_where_same p t now rows covers own =
 pub where_held : (p : Content → Bool) (t : Messages) (now : ℕ) (rows : List Row) → Covers t rows → IfSome (next_where p t now rows) (λ (x : Row). 0 < holders_of t x.place)
 where_held p t now rows covers =
     find_has (λ (x : Row). 0 < holders_of t x.place) (is_next now (filter (passes p t) rows)) (filter (passes p t) rows) (All-filter (passes p t) (λ (x : Row). 0 < holders_of t x.place) rows (all_held t rows covers))
+
+-- in rows by place a row that is found is that at its place
+found_there : (q : Row → Bool) (rows : List Row) (x : Row) → IsRising rows → find q rows ≡ Some x → find (is_at x.place) rows ≡ Some x
+found_there q [] x up h = absurd (cc)
+found_there q (r ∷ rows) x up h = go (q r) h (found_there q rows x up.1) (find_has (λ (y : Row). r.place < y.place) q rows up.0)
+  where
+    go : (b : Bool) → cond b (Some r) (find q rows) ≡ Some x → (find q rows ≡ Some x → find (is_at x.place) rows ≡ Some x) → IfSome (find q rows) (λ (y : Row). r.place < y.place) → find (is_at x.place) (r ∷ rows) ≡ Some x
+    go true e rec above =
+        let is : r ≡ x = cc in
+        rw (is, eq-eqb x.place x.place refl) refl
+    go false e rec above =
+        let over : r.place < x.place = subst (λ o. IfSome o (λ (y : Row). r.place < y.place)) e above in
+        rw (ne_eqb r.place x.place (omega (arith, over))) (rec e)
+
+-- so the next one is that at its place, of those that are left
+pub where_left : (p : Content → Bool) (t : Messages) (now : ℕ) (rows : List Row) (x : Row) → IsRising rows → next_where p t now rows ≡ Some x → find (is_at x.place) (filter (stays now) rows) ≡ Some x
+where_left p t now rows x rising next =
+    found_there (is_next_where p t now rows) (filter (stays now) rows) x (rising-filter (stays now) rows rising) (find_kept (is_next_where p t now rows) (stays now) (where_stays p t now rows) rows ∙ sym (found_where p t now rows) ∙ next)

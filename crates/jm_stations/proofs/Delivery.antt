@@ -1,7 +1,7 @@
 -- A delivery from rows over their table is the machine's delivery from the rows as callers see them.
 use Rattle.std.proofs.Common.{◌≡◌, ◌≢◌, ℕ, ◌<◌, ◌==◌, List, [], ◌∷◌, ◌++◌, map, Bool, true, false, not, ◌&&◌, ◌||◌, nat_le, nat_lt, cond, Option, Some, None, refl, ap, sym, ◌∙◌, arith, option_map}
 use Rattle.std.specs.List.{filter, find, list_all, All}
-use Rattle.std.specs.Option.{IfSome, MatchOption}
+use Rattle.std.specs.Option.{IfSome}
 use Rattle.std.proofs.lemmas.Bool.{eq-eqb, ne_eqb}
 use Rattle.std.proofs.lemmas.Bool.Decides.{nat_tests}
 use Rattle.std.proofs.lemmas.List.{map-append}
@@ -10,17 +10,25 @@ use Rattle.jm_dest.specs.declared.session.SessionId.{SessionId}
 use Rattle.jm_machine.specs.declared.state.Row.{Row as MachineRow}
 use Rattle.jm_machine.specs.declared.state.PlacedRow.{PlacedRow}
 use Rattle.jm_machine.specs.Rows as machine
-use Rattle.jm_machine.specs.Rows.{is_next as machine_is_next, has_lapsed, live, bare, live_placed, change_placed, deliver_placed}
+use Rattle.jm_machine.specs.Rows.{is_next as machine_is_next, has_lapsed, live, bare, live_placed, change_placed}
 use Rattle.jm_lane.specs.declared.row.Row.{Row}
-use Rattle.jm_lane.specs.Rows.{IsRising, is_waiting, is_expired, is_held_back, is_ready, is_elsewhere, stays, counted, sent, sent_at}
-use Rattle.jm_pending.specs.Rows.{Held, is_next, next}
-use Rattle.jm_lane.specs.Holders.{Messages, last_message}
-use Rattle.jm_pending.specs.declared.held.Taken.{Taken}
+use Rattle.jm_lane.specs.Rows.{IsRising, is_waiting, is_expired, is_held_back, is_ready, is_elsewhere, stays, sent, sent_at}
+use Rattle.jm_pending.specs.Rows.{is_next, next}
+use Rattle.jm_lane.specs.Holders.{Messages}
 use Rattle.jm_pending.specs.Placed.{placed, all_placed, IsRowOf}
 use Rattle.jm_lanes.proofs.Places.{find_has}
 use Rattle.jm_lane.proofs.Rising.{rising-filter, filter_elsewhere, map_elsewhere, sent_here, sent_elsewhere}
 use Rattle.jm_stations.specs.Backlogs.{gone, out_row}
-use Rattle.jm_stations.specs.Kept.{is_left, settled, sent_if, sent_off, taken}
+
+-- a row is not the one that is taken
+abbrev pub is_left : Option Row → Row → Bool
+is_left None r = true
+is_left (Some x) r = is_elsewhere x.place r
+
+-- a row, sent where it is the one that goes out
+abbrev pub sent_if : Option Row → SessionId → ℕ → Row → Row
+sent_if None s c r = r
+sent_if (Some x) s c r = sent_at x.place s c r
 
 -- the row of a placed row
 abbrev pub row_at : Messages → Row → MachineRow
@@ -107,7 +115,7 @@ next_stays now rs r h = go (is_waiting r) (is_expired now r) (is_held_back now r
     go true false held b h = refl
     go false e held b h = refl
 
-find_kept : (q p : Row → Bool) → ((r : Row) → q r ≡ true → p r ≡ true) → (rs : List Row) → find q (filter p rs) ≡ find q rs
+pub find_kept : (q p : Row → Bool) → ((r : Row) → q r ≡ true → p r ≡ true) → (rs : List Row) → find q (filter p rs) ≡ find q rs
 find_kept q p imp [] = refl
 find_kept q p imp (r ∷ rs) = go (p r) (q r) refl refl (find_kept q p imp rs)
   where
@@ -175,11 +183,6 @@ settled_by t now q test rs stay own each rising =
     let left : filter (is_left (find q rs)) ls ≡ put_first q no_row ls = ap (λ o. filter (is_left o) ls) (sym (find_kept q (stays now) stay rs)) ∙ left_first q ls (rising-filter (stays now) rs rising) in
     ap (all_placed t) left ∙ delivered_by t now q test rs no_row gone (λ r. refl) own each
 
-pub settled_same : (t : Messages) (now : ℕ) (h : Held) → All (IsRowOf t) h.rows → IsRising h.rows → all_placed t (settled now h).rows ≡ deliver_placed now gone (all_placed t h.rows)
-settled_same t now h own rising =
-    let rs = h.rows in
-    settled_by t now (is_next now rs) (machine.is_next now (live now (bare (all_placed t rs)))) rs (next_stays now rs) own (next_each t now rs rs own own) rising
-
 -- where it goes out
 sent_first : (q : Row → Bool) (s : SessionId) (c : ℕ) (rs : List Row) → IsRising rs → map (sent_if (find q rs) s c) rs ≡ put_first q (sent_row s c) rs
 sent_first q s c [] h = refl
@@ -201,11 +204,6 @@ sent_by t s c now q test rs stay own each rising =
     let ls = filter (stays now) rs in
     let left : map (sent_if (find q rs) s c) ls ≡ put_first q (sent_row s c) ls = ap (λ o. map (sent_if o s c) ls) (sym (find_kept q (stays now) stay rs)) ∙ sent_first q s c ls (rising-filter (stays now) rs rising) in
     ap (all_placed t) left ∙ delivered_by t now q test rs (sent_row s c) (out_row s c) (λ r. refl) own each
-
-pub sent_same : (t : Messages) (s : SessionId) (c now : ℕ) (h : Held) → All (IsRowOf t) h.rows → IsRising h.rows → all_placed t (sent_off s c now h).rows ≡ deliver_placed now (out_row s c) (all_placed t h.rows)
-sent_same t s c now h own rising =
-    let rs = h.rows in
-    sent_by t s c now (is_next now rs) (machine.is_next now (live now (bare (all_placed t rs)))) rs (next_stays now rs) own (next_each t now rs rs own own) rising
 
 find_placed : (t : Messages) (q : Row → Bool) (test : MachineRow → Bool) (rs : List Row) → All (λ r. q r ≡ test (row_at t r)) rs → find (λ (x : PlacedRow). test x.row) (all_placed t rs) ≡ option_map (placed t) (find q rs)
 find_placed t q test [] h = refl
@@ -248,22 +246,7 @@ next_row_same t now rs plain =
     ∙ find_bare (machine.is_next now (live now (bare (all_placed t rs)))) (live_placed now (all_placed t rs))
     ∙ ap (option_map (λ (x : PlacedRow). x.row)) (next_same t now rs plain)
 
--- a list with these rows
-abbrev pub held_with : Held → List Row → Held
-held_with h rows = record h { rows = rows }
-
--- what a list of rows says of a delivery, in one equation
-pub taken_settled : (t : Messages) (now : ℕ) (o : Option Row) (h h' : Held) (res : Option Taken) → MatchOption o ((res ≡ None) × (h' ≡ record h { rows = filter (stays now) h.rows })) (λ r. (res ≡ Some (record { row = counted r; message = last_message t r.place })) × (h' ≡ record h { rows = filter (is_elsewhere r.place) (filter (stays now) h.rows) }))
-    → (res ≡ taken t o) × (h' ≡ record h { rows = filter (is_left o) (filter (stays now) h.rows) })
-taken_settled t now None h h' res m = (m.0, m.1 ∙ ap (held_with h) (sym (left_all (filter (stays now) h.rows))))
-taken_settled t now (Some r) h h' res m = (m.0, m.1)
-
-left_same : (s : SessionId) (c : ℕ) (rs : List Row) → map (sent_if None s c) rs ≡ rs
+-- where none is taken, each row is as before
+pub left_same : (s : SessionId) (c : ℕ) (rs : List Row) → map (sent_if None s c) rs ≡ rs
 left_same s c [] = refl
 left_same s c (r ∷ rs) = ap (λ xs. r ∷ xs) (left_same s c rs)
-
--- the same of a row that goes out
-pub taken_sent : (s : SessionId) (c now : ℕ) (o : Option Row) (h h' : Held) (res : Option Row) → MatchOption o ((res ≡ None) × (h' ≡ record h { rows = filter (stays now) h.rows })) (λ r. (res ≡ Some (sent s c r)) × (h' ≡ record h { rows = map (sent_at r.place s c) (filter (stays now) h.rows) }))
-    → (res ≡ option_map (sent s c) o) × (h' ≡ record h { rows = map (sent_if o s c) (filter (stays now) h.rows) })
-taken_sent s c now None h h' res m = (m.0, m.1 ∙ ap (held_with h) (sym (left_same s c (filter (stays now) h.rows))))
-taken_sent s c now (Some r) h h' res m = (m.0, m.1)

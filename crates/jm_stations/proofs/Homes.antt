@@ -6,20 +6,19 @@ use Rattle.std.proofs.lemmas.Bool.Decides.{eqb_tells, nat_tests}
 use Rattle.std.proofs.lemmas.List.{get_or-map, get_or_append_left, get_or_push, length_push, length-map}
 use Rattle.std.proofs.lemmas.List.Edits.{get_or-remove_below, get_or-remove_above, length-remove}
 use Rattle.jm_dest.specs.declared.session.SessionId.{SessionId}
-use Rattle.jm_header.specs.declared.content.Content.{Content}
 use Rattle.jm_machine.specs.declared.state.RowState.{RowState}
 use Rattle.jm_machine.specs.declared.state.RowState.TheVariants.{Waiting, Out}
 use Rattle.jm_machine.specs.Rows.{goes_out}
 use Rattle.jm_lane.specs.declared.row.Row.{Row}
-use Rattle.jm_lane.specs.Rows.{are_home, back, is_out, sent, stays}
-use Rattle.jm_pending.specs.Rows.{Held, is_at_limit, next}
-use Rattle.jm_pending.specs.Chosen.{next_where}
-use Rattle.jm_lane.specs.Holders.{Messages}
+use Rattle.jm_lane.specs.Rows.{are_home, back, is_elsewhere, is_out, sent, stays}
+use Rattle.jm_pending.specs.Rows.{Held, is_at_limit}
 use Rattle.jm_stations.specs.declared.loading.StoredRow.{StoredRow}
 use Rattle.jm_stations.specs.Backlogs.{changed_at, is_named}
-use Rattle.jm_stations.specs.Kept.{given_back, is_left, sent_if, sent_off, sent_off_where, settled, settled_out, settled_where, with_row, without_room, HasMoreRoom, IsOffered}
+use Rattle.jm_stations.specs.Kept.{delivered_at, dropped, given_back, left_at, received_at, settled_out, with_row, without_room, HasMoreRoom, IsOffered}
 use Rattle.jm_stations.specs.Loading.{stored_at, with_stored, AreOffered}
 use Rattle.jm_stations.specs.Outstanding.{AreHomeBut, moved_down}
+use Rattle.jm_lane.proofs.Rising.{map_elsewhere}
+use Rattle.jm_lanes.proofs.Found.{none_found}
 use Rattle.jm_stations.proofs.Indexes.{length-changed}
 
 -- a row is out to somebody
@@ -121,9 +120,6 @@ back_home p r e = go (goes_out p r.state)
 pub returned_home : (p : SessionId → ℕ → Bool) → LeavesHome (given_back p)
 returned_home p h e = home_map (back (is_out p)) (back_home p) h.rows e
 
-pub unsent_home : (o : Option Row) (s : SessionId) (c : ℕ) (rows : List Row) → o ≡ None → are_home rows ≡ true → are_home (map (sent_if o s c) rows) ≡ true
-unsent_home o s c rows none h = rw none (home_map (λ r. r) (λ r e. e) rows h)
-
 -- a row that comes and waits
 home_push : (rows : List Row) (row : Row) → are_home rows ≡ true → is_away row ≡ false → are_home (rows ++ row ∷ []) ≡ true
 home_push [] row h e = home_cons row [] e refl
@@ -193,11 +189,10 @@ no_next : (s : SessionId) (c : ℕ) (o row : Option Row) (is_out : Bool) → is_
 no_next s c None row is_out there is e = refl
 no_next s c (Some x) row is_out there is e = let some : is_some row ≡ true = ap is_some is in absurd (cc)
 
-pub sent_home : (s : SessionId) (c now : ℕ) (h : Held) (row : Option Row) (is_out : Bool) → is_out ≡ is_some row → row ≡ option_map (sent s c) (next now h.rows) → is_out ≡ false → are_home h.rows ≡ true → are_home (sent_off s c now h).rows ≡ true
-sent_home s c now h row is_out there is e home = unsent_home (next now h.rows) s c (filter (stays now) h.rows) (no_next s c (next now h.rows) row is_out there is e) (home_filter (stays now) h.rows home)
-
-pub sent_where_home : (p : Content → Bool) (t : Messages) (s : SessionId) (c now : ℕ) (h : Held) (row : Option Row) (is_out : Bool) → is_out ≡ is_some row → row ≡ option_map (sent s c) (next_where p t now h.rows) → is_out ≡ false → are_home h.rows ≡ true → are_home (sent_off_where p t s c now h).rows ≡ true
-sent_where_home p t s c now h row is_out there is e home = unsent_home (next_where p t now h.rows) s c (filter (stays now) h.rows) (no_next s c (next_where p t now h.rows) row is_out there is e) (home_filter (stays now) h.rows home)
+pub delivered_home : (place : ℕ) (s : SessionId) (c now : ℕ) (h : Held) (row : Option Row) (is_out : Bool) → is_out ≡ is_some row → row ≡ option_map (sent s c) (left_at place now h) → is_out ≡ false → are_home h.rows ≡ true → are_home (delivered_at place s c now h).rows ≡ true
+delivered_home place s c now h row is_out there is e home =
+    let none = no_next s c (left_at place now h) row is_out there is e in
+    rw (map_elsewhere s c place (filter (stays now) h.rows) (none_found place (filter (stays now) h.rows) none)) (home_filter (stays now) h.rows home)
 
 -- one of which it is known whether a row is out
 pub but_known : (old new : List ℕ) (is_home : Bool) (i : ℕ) (lists : List Held) → ((k : ℕ) → is_named new k ≡ (is_named old k && not (is_home && (k == i)))) → ((d : Held) → is_home ≡ true → i < length lists → are_home (get_or lists i d).rows ≡ true) → AreHomeBut old lists → AreHomeBut new lists
@@ -277,8 +272,8 @@ but_copied indexes lists o = λ k d l n.
     rw (get_or-map without_room lists k d d inside) (o k d inside n)
 
 -- rows that are delivered and settled
-pub received_home : (now : ℕ) → LeavesHome (settled now)
-received_home now h e = home_filter (is_left (next now h.rows)) (filter (stays now) h.rows) (home_filter (stays now) h.rows e)
+pub dropped_home : (now : ℕ) → LeavesHome (dropped now)
+dropped_home now h e = home_filter (stays now) h.rows e
 
-pub received_where_home : (p : Content → Bool) (t : Messages) (now : ℕ) → LeavesHome (settled_where p t now)
-received_where_home p t now h e = home_filter (is_left (next_where p t now h.rows)) (filter (stays now) h.rows) (home_filter (stays now) h.rows e)
+pub received_home : (place now : ℕ) → LeavesHome (received_at place now)
+received_home place now h e = home_filter (is_elsewhere place) (filter (stays now) h.rows) (home_filter (stays now) h.rows e)

@@ -7,6 +7,7 @@ mod Publishing
 mod Receiving
 mod Room
 mod Wanted
+pub mod Any
 mod Indexes
 mod Copied
 mod Removed

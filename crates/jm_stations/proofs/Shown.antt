@@ -9,17 +9,17 @@ use Rattle.jm_machine.specs.declared.state.Row.{Row as MachineRow}
 use Rattle.jm_machine.specs.declared.state.RowState.{RowState}
 use Rattle.jm_machine.specs.declared.state.PlacedRow.{PlacedRow}
 use Rattle.jm_lane.specs.declared.row.Row.{Row}
-use Rattle.jm_lane.specs.Rows.{IsRising, due_of, row_of, stays, sent}
-use Rattle.jm_pending.specs.Rows.{Held, is_at_limit, next}
+use Rattle.jm_lane.specs.Rows.{IsRising, due_of, is_elsewhere, row_of, stays, sent, sent_at}
+use Rattle.jm_pending.specs.Rows.{Held, is_at_limit}
 use Rattle.jm_pending.specs.Chosen.{next_where}
 use Rattle.jm_lane.specs.Holders.{Messages, KeepsMessages, Covers, message_of}
 use Rattle.jm_pending.specs.Placed.{placed, all_placed, message_or_none, IsRowOf}
 use Rattle.jm_pending.specs.Counts.{IsCounted}
 use Rattle.jm_pending.proofs.Counting.{placed_same, rows_same}
-use Rattle.jm_stations.specs.Backlogs.{Backlog, is_named, joined, changed_at, received, received_where, delivered, delivered_where}
-use Rattle.jm_stations.specs.Kept.{all_rows, shown, all_shown, with_row, settled, settled_where, is_left, sent_if, sent_off, sent_off_where, AreBelow, IsBacklog, IsOffered}
+use Rattle.jm_stations.specs.Backlogs.{Backlog, is_named, joined, changed_at, received, delivered}
+use Rattle.jm_stations.specs.Kept.{all_rows, shown, all_shown, with_row, dropped, received_at, delivered_at, AreBelow, IsBacklog, IsOffered}
 use Rattle.jm_stations.proofs.Holders.{covers_one}
-use Rattle.jm_stations.proofs.Delivery.{settled_same, sent_same}
+use Rattle.jm_stations.proofs.Delivery.{is_left, left_all, left_same, sent_if}
 use Rattle.jm_stations.proofs.Choosing.{settled_where_same, sent_where_same}
 
 -- a list of rows with these rows, as callers see it
@@ -73,44 +73,44 @@ mapped_backlog t place f like h b = record {
   own = record { each = All-map (IsRowOf t) f h.rows (All-weaker (IsRowOf t) (λ (r : Row). IsRowOf t (f r)) (λ r o. like_own t r (f r) (like r) o) h.rows b.own.each) };
 }
 
--- a delivery from one list that settles at once
-pub settled_shown : (t : Messages) (place now : ℕ) (h : Held) → Covers t h.rows → IsBacklog t place h → IsRising h.rows → shown t (settled now h) ≡ received now (shown t h)
-settled_shown t place now h covers b rising = ap (backlog_of h) (settled_same t now h b.own.each rising)
+-- a list whose expired rows are dropped
+pub dropped_backlog : (t : Messages) (place now : ℕ) (h : Held) → IsBacklog t place h → IsBacklog t place (dropped now h)
+dropped_backlog t place now h b = filtered_backlog t place (stays now) h b
 
-pub settled_backlog : (t : Messages) (place now : ℕ) (h : Held) → IsBacklog t place h → IsBacklog t place (settled now h)
-settled_backlog t place now h b =
-    filtered_backlog t place (is_left (next now h.rows)) (record h { rows = filter (stays now) h.rows }) (filtered_backlog t place (stays now) h b)
+-- and from which a row is taken out
+pub received_backlog : (t : Messages) (place at now : ℕ) (h : Held) → IsBacklog t place h → IsBacklog t place (received_at at now h)
+received_backlog t place at now h b =
+    filtered_backlog t place (is_elsewhere at) (dropped now h) (dropped_backlog t place now h b)
 
--- one after which the row is out
-pub sent_shown : (t : Messages) (place : ℕ) (s : SessionId) (c now : ℕ) (h : Held) → Covers t h.rows → IsBacklog t place h → IsRising h.rows → shown t (sent_off s c now h) ≡ delivered s c now (shown t h)
-sent_shown t place s c now h covers b rising = ap (backlog_of h) (sent_same t s c now h b.own.each rising)
-
-sent_like : (o : Option Row) (s : SessionId) (c : ℕ) (r : Row) → IsLike r (sent_if o s c r)
-sent_like None s c r = record { place = refl; priority = refl; expiration = refl; due = refl }
-sent_like (Some x) s c r = go (r.place == x.place)
+sent_like : (place : ℕ) (s : SessionId) (c : ℕ) (r : Row) → IsLike r (sent_at place s c r)
+sent_like place s c r = go (r.place == place)
   where
     go : (b : Bool) → IsLike r (cond b (sent s c r) r)
     go true = record { place = refl; priority = refl; expiration = refl; due = refl }
     go false = record { place = refl; priority = refl; expiration = refl; due = refl }
 
-pub sent_backlog : (t : Messages) (place : ℕ) (s : SessionId) (c now : ℕ) (h : Held) → IsBacklog t place h → IsBacklog t place (sent_off s c now h)
-sent_backlog t place s c now h b =
-    mapped_backlog t place (sent_if (next now h.rows) s c) (sent_like (next now h.rows) s c) (record h { rows = filter (stays now) h.rows }) (filtered_backlog t place (stays now) h b)
+-- or of which one goes out
+pub delivered_backlog : (t : Messages) (place at : ℕ) (s : SessionId) (c now : ℕ) (h : Held) → IsBacklog t place h → IsBacklog t place (delivered_at at s c now h)
+delivered_backlog t place at s c now h b =
+    mapped_backlog t place (sent_at at s c) (sent_like at s c) (dropped now h) (dropped_backlog t place now h b)
 
--- the same of a delivery from those of its rows whose messages pass
-pub settled_where_shown : (p : Content → Bool) (t : Messages) (place now : ℕ) (h : Held) → Covers t h.rows → IsBacklog t place h → IsRising h.rows → shown t (settled_where p t now h) ≡ received_where p now (shown t h)
-settled_where_shown p t place now h covers b rising = ap (backlog_of h) (settled_where_same p t now h covers b.own.each rising)
+-- where nothing is next of those of its rows whose messages pass, a delivery drops the expired ones
+pub dropped_received : (p : Content → Bool) (t : Messages) (place now : ℕ) (h : Held) → next_where p t now h.rows ≡ None → Covers t h.rows → IsBacklog t place h → IsRising h.rows → shown t (dropped now h) ≡ received p now (shown t h)
+dropped_received p t place now h none covers b rising =
+    ap (backlog_of h) (ap (all_placed t) (sym (left_all (filter (stays now) h.rows)) ∙ ap (λ o. filter (is_left o) (filter (stays now) h.rows)) (sym none)) ∙ settled_where_same p t now h covers b.own.each rising)
 
-pub settled_where_backlog : (p : Content → Bool) (t : Messages) (place now : ℕ) (h : Held) → IsBacklog t place h → IsBacklog t place (settled_where p t now h)
-settled_where_backlog p t place now h b =
-    filtered_backlog t place (is_left (next_where p t now h.rows)) (record h { rows = filter (stays now) h.rows }) (filtered_backlog t place (stays now) h b)
+pub dropped_delivered : (p : Content → Bool) (t : Messages) (place : ℕ) (s : SessionId) (c now : ℕ) (h : Held) → next_where p t now h.rows ≡ None → Covers t h.rows → IsBacklog t place h → IsRising h.rows → shown t (dropped now h) ≡ delivered p s c now (shown t h)
+dropped_delivered p t place s c now h none covers b rising =
+    ap (backlog_of h) (ap (all_placed t) (sym (left_same s c (filter (stays now) h.rows)) ∙ ap (λ o. map (sent_if o s c) (filter (stays now) h.rows)) (sym none)) ∙ sent_where_same p t s c now h covers b.own.each rising)
 
-pub sent_where_shown : (p : Content → Bool) (t : Messages) (place : ℕ) (s : SessionId) (c now : ℕ) (h : Held) → Covers t h.rows → IsBacklog t place h → IsRising h.rows → shown t (sent_off_where p t s c now h) ≡ delivered_where p s c now (shown t h)
-sent_where_shown p t place s c now h covers b rising = ap (backlog_of h) (sent_where_same p t s c now h covers b.own.each rising)
+-- and else it takes the row at the place of the next one
+pub received_shown : (p : Content → Bool) (t : Messages) (place now : ℕ) (x : Row) (h : Held) → next_where p t now h.rows ≡ Some x → Covers t h.rows → IsBacklog t place h → IsRising h.rows → shown t (received_at x.place now h) ≡ received p now (shown t h)
+received_shown p t place now x h next covers b rising =
+    ap (backlog_of h) (ap (λ o. all_placed t (filter (is_left o) (filter (stays now) h.rows))) (sym next) ∙ settled_where_same p t now h covers b.own.each rising)
 
-pub sent_where_backlog : (p : Content → Bool) (t : Messages) (place : ℕ) (s : SessionId) (c now : ℕ) (h : Held) → IsBacklog t place h → IsBacklog t place (sent_off_where p t s c now h)
-sent_where_backlog p t place s c now h b =
-    mapped_backlog t place (sent_if (next_where p t now h.rows) s c) (sent_like (next_where p t now h.rows) s c) (record h { rows = filter (stays now) h.rows }) (filtered_backlog t place (stays now) h b)
+pub delivered_shown : (p : Content → Bool) (t : Messages) (place : ℕ) (s : SessionId) (c now : ℕ) (x : Row) (h : Held) → next_where p t now h.rows ≡ Some x → Covers t h.rows → IsBacklog t place h → IsRising h.rows → shown t (delivered_at x.place s c now h) ≡ delivered p s c now (shown t h)
+delivered_shown p t place s c now x h next covers b rising =
+    ap (backlog_of h) (ap (λ o. all_placed t (map (sent_if o s c) (filter (stays now) h.rows))) (sym next) ∙ sent_where_same p t s c now h covers b.own.each rising)
 
 -- what a list keeps through a change
 abbrev pub Keeps : Messages → ℕ → (Held → Held) → Type 0
@@ -121,10 +121,10 @@ abbrev pub Shows : Messages → ℕ → (Held → Held) → (Backlog → Backlog
 Shows t place f g = (h : Held) → Covers t h.rows → IsBacklog t place h → IsRising h.rows → shown t (f h) ≡ g (shown t h)
 
 -- one of many
-pub changed_shown : (t : Messages) (place k : ℕ) (f : Held → Held) (g : Backlog → Backlog) → Shows t place f g → (d : Held) (lists : List Held) → k < length lists → Covers t (get_or lists k d).rows → IsRising (get_or lists k d).rows → All (IsBacklog t place) lists → all_shown t (changed_at k f lists) ≡ changed_at k g (all_shown t lists)
-changed_shown t place k f g same d [] l c r b = refl
-changed_shown t place zero f g same d (h ∷ lists) l c r b = ap (λ x. x ∷ all_shown t lists) (same h c (All-head (IsBacklog t place) h lists b) r)
-changed_shown t place (suc k) f g same d (h ∷ lists) l c r b = ap (λ xs. shown t h ∷ xs) (changed_shown t place k f g same d lists (omega arith) c r (All-tail (IsBacklog t place) h lists b))
+pub changed_shown : (t : Messages) (k : ℕ) (f : Held → Held) (g : Backlog → Backlog) (d : Held) (lists : List Held) → k < length lists → shown t (f (get_or lists k d)) ≡ g (shown t (get_or lists k d)) → all_shown t (changed_at k f lists) ≡ changed_at k g (all_shown t lists)
+changed_shown t k f g d [] l same = refl
+changed_shown t zero f g d (h ∷ lists) l same = ap (λ x. x ∷ all_shown t lists) same
+changed_shown t (suc k) f g d (h ∷ lists) l same = ap (λ xs. shown t h ∷ xs) (changed_shown t k f g d lists (omega arith) same)
 
 pub changed_backlogs : (t : Messages) (place k : ℕ) (f : Held → Held) → Keeps t place f → (lists : List Held) → All (IsBacklog t place) lists → All (IsBacklog t place) (changed_at k f lists)
 changed_backlogs t place k f step [] b = All-nil (IsBacklog t place)

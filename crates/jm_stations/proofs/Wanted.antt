@@ -8,8 +8,9 @@ use Rattle.jm_pending.specs.Rows.{Held, next}
 use Rattle.jm_pending.specs.Chosen.{next_where}
 use Rattle.jm_lane.specs.Holders.{Messages, holders_of, message_of}
 use Rattle.jm_pending.specs.Placed.{placed, all_placed, content_of}
-use Rattle.jm_stations.specs.Backlogs.{holders_at, kept_message, copy_wanted, copy_wanted_where}
-use Rattle.jm_stations.specs.Kept.{all_shown, copied, IsKept}
+use Rattle.jm_machine.specs.Wants.{next_chosen}
+use Rattle.jm_stations.specs.Backlogs.{Backlog, holders_at, kept_message, copy_wanted, copy_wanted_where, next_placed, picked_of}
+use Rattle.jm_stations.specs.Kept.{all_shown, copied, picked, IsKept}
 use Rattle.jm_stations.proofs.Holders.{covers_one}
 use Rattle.jm_stations.proofs.Choosing.{next_where_same, where_held}
 use Rattle.jm_stations.proofs.Delivery.{next_same}
@@ -35,3 +36,21 @@ copied_where_is p settles t place now k d lists l w =
     let rows = (get_or lists k d).rows in
     let covers = covers_one t lists k d l w.counted in
     kept_row settles t place lists (next_where p t now rows) w (where_held p t now rows covers) ∙ ap (kept_message settles (all_shown t lists)) (sym (next_where_same p t now rows covers (w.each k d l).own.each))
+
+-- what a delivery takes of a row is what callers see that it takes
+pub picked_shown : (settles : Bool) (t : Messages) (list : List Backlog) (o : Option Row) → copied settles t o ≡ kept_message settles list (option_map (placed t) o) → picked settles t o ≡ picked_of settles list (option_map (placed t) o)
+picked_shown settles t list None e = refl
+picked_shown settles t list (Some r) e = ap (λ (m : Option Content). Some (record { place = r.place; copy = m })) e
+
+-- of the next row
+pub picked_is : (settles : Bool) (t : Messages) (place now k : ℕ) (d : Held) (lists : List Held) → k < length lists → IsKept t lists place → picked settles t (next now (get_or lists k d).rows) ≡ picked_of settles (all_shown t lists) (next_placed now (all_placed t (get_or lists k d).rows))
+picked_is settles t place now k d lists l w =
+    let rows = (get_or lists k d).rows in
+    picked_shown settles t (all_shown t lists) (next now rows) (kept_row settles t place lists (next now rows) w (next_held t now rows (covers_one t lists k d l w.counted))) ∙ ap (picked_of settles (all_shown t lists)) (sym (next_same t now rows (w.each k d l).own.each))
+
+-- and of the next one of those whose messages pass
+pub picked_where_is : (p : Content → Bool) (settles : Bool) (t : Messages) (place now k : ℕ) (d : Held) (lists : List Held) → k < length lists → IsKept t lists place → picked settles t (next_where p t now (get_or lists k d).rows) ≡ picked_of settles (all_shown t lists) (next_chosen p now (all_placed t (get_or lists k d).rows))
+picked_where_is p settles t place now k d lists l w =
+    let rows = (get_or lists k d).rows in
+    let covers = covers_one t lists k d l w.counted in
+    picked_shown settles t (all_shown t lists) (next_where p t now rows) (kept_row settles t place lists (next_where p t now rows) w (where_held p t now rows covers)) ∙ ap (picked_of settles (all_shown t lists)) (sym (next_where_same p t now rows covers (w.each k d l).own.each))

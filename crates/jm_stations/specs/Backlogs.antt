@@ -1,5 +1,5 @@
 -- What is held under each key, as callers see it.
-use Rattle.std.specs.Prelude.{◌≡◌, ◌≤◌, ◌<◌, ◌-◌, ◌↔◌, nat_eq, ℕ, zero, suc, Bool, true, not, ◌&&◌, ◌==◌, List, [], ◌∷◌, ◌++◌, Contains, find, length, count_by, sum_by, slice_index_or, Option, Some, None, if◌then◌else◌}
+use Rattle.std.specs.Prelude.{◌≡◌, ◌≤◌, ◌<◌, ◌-◌, ◌↔◌, nat_eq, ℕ, zero, suc, Bool, true, not, option_map, ◌&&◌, ◌==◌, List, [], ◌∷◌, ◌++◌, Contains, find, length, count_by, sum_by, slice_index_or, Option, Some, None, if◌then◌else◌}
 use Rattle.std.specs.List.{list_any, IsDistinct}
 use Rattle.std.specs.Option.{option_or}
 use Rattle.jm_dest.specs.declared.key.Key.{Key}
@@ -10,9 +10,10 @@ use Rattle.jm_machine.specs.declared.state.PlacedRow.{PlacedRow}
 use Rattle.jm_machine.specs.declared.answer.Answer.{Answer}
 use Rattle.jm_machine.specs.declared.answer.Answer.TheVariants.{Delivered, Nothing}
 use Rattle.jm_machine.specs.Machine.{delivery, one_missed, settled_rows, returned_rows}
-use Rattle.jm_machine.specs.Rows.{protected, fresh, is_out, sent_out, live, is_next, next, bare, chosen, deliver_placed, deliver_chosen, live_placed}
+use Rattle.jm_machine.specs.Rows.{protected, fresh, is_out, sent_out, live, is_next, next, bare, chosen, deliver_chosen, live_placed}
 use Rattle.jm_machine.specs.Wants.{next_chosen}
 use Rattle.jm_pending.specs.declared.held.Taken.{Taken}
+use Rattle.jm_stations.specs.declared.picked.Picked.{Picked}
 use Rattle.jm_lane.specs.declared.row.Row.{Row as RowHere}
 use Rattle.jm_pending.specs.Rows.{is_at_limit}
 
@@ -74,26 +75,18 @@ IsPublished indexes place m old new = HasCome indexes place (fresh m) old new
 abbrev pub gone : Row → List Row
 gone r = []
 
--- waiting rows that are expired go, and the next one is delivered and settled
-abbrev pub received : ℕ → Backlog → Backlog
-received now b = record b { rows = deliver_placed now gone b.rows }
-
 -- waiting rows that are expired go, and of those whose messages pass the next one is delivered and settled
-abbrev pub received_where : (Content → Bool) → ℕ → Backlog → Backlog
-received_where p now b = record b { rows = deliver_chosen p now gone b.rows }
+abbrev pub received : (Content → Bool) → ℕ → Backlog → Backlog
+received p now b = record b { rows = deliver_chosen p now gone b.rows }
 
 -- what a delivery to the session through its consumer leaves of a row: it is out, and counted once more
 abbrev pub out_row : SessionId → ℕ → Row → List Row
 out_row s c r = sent_out s c r ∷ []
 
--- waiting rows that are expired go, and the next one is delivered, and goes out to the session through its consumer
-abbrev pub delivered : SessionId → ℕ → ℕ → Backlog → Backlog
-delivered s c now b = record b { rows = deliver_placed now (out_row s c) b.rows }
-
 -- waiting rows that are expired go, and of those whose messages pass the next one is delivered, and goes out to the
 -- session through its consumer
-abbrev pub delivered_where : (Content → Bool) → SessionId → ℕ → ℕ → Backlog → Backlog
-delivered_where p s c now b = record b { rows = deliver_chosen p now (out_row s c) b.rows }
+abbrev pub delivered : (Content → Bool) → SessionId → ℕ → ℕ → Backlog → Backlog
+delivered p s c now b = record b { rows = deliver_chosen p now (out_row s c) b.rows }
 
 -- the rows that are out through consumers that pass go
 abbrev pub settled : (SessionId → ℕ → Bool) → Backlog → Backlog
@@ -145,6 +138,18 @@ copy_wanted settles now list rows = kept_message settles list (next_placed now r
 -- the same of a delivery from those of the rows whose messages pass
 abbrev pub copy_wanted_where : (Content → Bool) → Bool → ℕ → List Backlog → List PlacedRow → Option Content
 copy_wanted_where p settles now list rows = kept_message settles list (next_chosen p now rows)
+
+-- what a delivery takes, which settles at once or not: the next row, where there is one, with the copy that it wants
+abbrev pub picked_of : Bool → List Backlog → Option PlacedRow → Option Picked
+picked_of settles list next = option_map (λ x. record { place = x.place; copy = kept_message settles list (Some x) }) next
+
+-- the same of a delivery from those of the rows at the index whose messages pass
+abbrev pub IsPicked : (Content → Bool) → Bool → ℕ → List Backlog → ℕ → Option Picked → Type 0
+IsPicked p settles now list index picked = (d : Backlog) → picked ≡ picked_of settles list (next_chosen p now (slice_index_or list index d).rows)
+
+-- each message passes
+abbrev pub any : Content → Bool
+any m = true
 
 -- under each key the same is held, and there is room for as many more rows or for further ones
 pub record HasMoreRoom (old new : List Backlog) : Type 0 where

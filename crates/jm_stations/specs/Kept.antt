@@ -1,5 +1,5 @@
 -- What is held inside: the rows of each key, over one table of messages.
-use Rattle.std.specs.Prelude.{◌≡◌, ◌≤◌, ◌<◌, ◌+◌, ◌-◌, ◌&&◌, ◌==◌, ℕ, Bool, true, not, List, [], ◌∷◌, ◌++◌, map, filter, length, slice_index_or, All, Option, Some, None, option_map, if◌then◌else◌}
+use Rattle.std.specs.Prelude.{◌≡◌, ◌≤◌, ◌<◌, ◌+◌, ◌-◌, ◌&&◌, ◌==◌, ℕ, Bool, not, List, [], ◌∷◌, ◌++◌, map, filter, find, length, slice_index_or, All, Option, Some, None, option_map, if◌then◌else◌}
 use Rattle.jm_dest.specs.Numbers.{long_end}
 use Rattle.jm_dest.specs.declared.key.Key.{Key}
 use Rattle.jm_dest.specs.declared.session.SessionId.{SessionId}
@@ -7,13 +7,14 @@ use Rattle.jm_header.specs.declared.content.Content.{Content}
 use Rattle.jm_machine.specs.Machine.{one_missed}
 use Rattle.jm_lane.specs.declared.row.Row.{Row}
 use Rattle.jm_pending.specs.declared.held.Taken.{Taken}
+use Rattle.jm_lane.specs.Lanes.{is_at}
 use Rattle.jm_lane.specs.Rows.{is_elsewhere, is_out, stays, back, counted, sent_at}
-use Rattle.jm_pending.specs.Rows.{Held, is_at_limit, next}
+use Rattle.jm_pending.specs.Rows.{Held, is_at_limit}
 use Rattle.jm_lane.specs.Holders.{Messages, KeepsMessages, holders_of, message_of, last_message}
-use Rattle.jm_pending.specs.Chosen.{next_where}
 use Rattle.jm_pending.specs.Counts.{IsCounted, all_at}
 use Rattle.jm_pending.specs.Placed.{all_placed, AreRowsOf}
 use Rattle.jm_stations.specs.Backlogs.{Backlog, is_named}
+use Rattle.jm_stations.specs.declared.picked.Picked.{Picked}
 
 -- the rows of each list
 abbrev pub all_rows : List Held → List (List Row)
@@ -63,31 +64,21 @@ pub record FollowsAll (old new : Messages) (before after : List (List Row)) : Ty
   pub holders : (p : ℕ) → holders_of new p + all_at p before ≡ holders_of old p + all_at p after
   pub messages : KeepsMessages old new
 
--- a row is not the one that is taken
-abbrev pub is_left : Option Row → Row → Bool
-is_left None r = true
-is_left (Some x) r = is_elsewhere x.place r
+-- rows without the waiting ones that are expired
+abbrev pub dropped : ℕ → Held → Held
+dropped now h = record h { rows = filter (stays now) h.rows }
 
--- rows without the waiting ones that are expired, and without the next one
-abbrev pub settled : ℕ → Held → Held
-settled now h = record h { rows = filter (is_left (next now h.rows)) (filter (stays now) h.rows) }
+-- and without the one at a place
+abbrev pub received_at : ℕ → ℕ → Held → Held
+received_at place now h = record h { rows = filter (is_elsewhere place) (filter (stays now) h.rows) }
 
--- the same without the next one of those whose messages pass
-abbrev pub settled_where : (Content → Bool) → Messages → ℕ → Held → Held
-settled_where p t now h = record h { rows = filter (is_left (next_where p t now h.rows)) (filter (stays now) h.rows) }
+-- the same, of which the one at a place goes out
+abbrev pub delivered_at : ℕ → SessionId → ℕ → ℕ → Held → Held
+delivered_at place s c now h = record h { rows = map (sent_at place s c) (filter (stays now) h.rows) }
 
--- a row, sent where it is the one that goes out
-abbrev pub sent_if : Option Row → SessionId → ℕ → Row → Row
-sent_if None s c r = r
-sent_if (Some x) s c r = sent_at x.place s c r
-
--- rows without the waiting ones that are expired, of which the next one goes out
-abbrev pub sent_off : SessionId → ℕ → ℕ → Held → Held
-sent_off s c now h = record h { rows = map (sent_if (next now h.rows) s c) (filter (stays now) h.rows) }
-
--- the same of which the next one of those goes out whose messages pass
-abbrev pub sent_off_where : (Content → Bool) → Messages → SessionId → ℕ → ℕ → Held → Held
-sent_off_where p t s c now h = record h { rows = map (sent_if (next_where p t now h.rows) s c) (filter (stays now) h.rows) }
+-- the row at a place that is left of those
+abbrev pub left_at : ℕ → ℕ → Held → Option Row
+left_at place now h = find (is_at place) (filter (stays now) h.rows)
 
 -- rows without those that are out through consumers that pass
 abbrev pub settled_out : (SessionId → ℕ → Bool) → Held → Held
@@ -97,9 +88,9 @@ settled_out p h = record h { rows = filter (λ r. not (is_out p r)) h.rows }
 abbrev pub given_back : (SessionId → ℕ → Bool) → Held → Held
 given_back p h = record h { rows = map (back (is_out p)) h.rows }
 
--- what is taken out: the next row, counted, with its message where no other row holds it
+-- what is taken out: a row, counted, with its message where no other row holds it
 abbrev pub taken : Messages → Option Row → Option Taken
-taken t next = option_map (λ r. record { row = counted r; message = last_message t r.place }) next
+taken t row = option_map (λ r. record { row = counted r; message = last_message t r.place }) row
 
 -- each list is the same, and has room for as many more rows or for further ones
 pub record HasMoreRoom (old new : List Held) : Type 0 where
@@ -111,6 +102,10 @@ pub record HasMoreRoom (old new : List Held) : Type 0 where
 abbrev pub copied : Bool → Messages → Option Row → Option Content
 copied settles t None = None
 copied settles t (Some r) = if settles && (holders_of t r.place == 1) then None else message_of t r.place
+
+-- what a delivery takes: a row, with the copy that it wants
+abbrev pub picked : Bool → Messages → Option Row → Option Picked
+picked settles t row = option_map (λ r. record { place = r.place; copy = copied settles t (Some r) }) row
 
 -- the rows of a list go, where it ends
 abbrev pub cleared : Bool → Held → Held

@@ -1,7 +1,8 @@
 //! The rows and the messages of all keys.
 
-ghost use Rattle.std.specs.Prelude.{◌≡◌, ◌≤◌, ◌<◌, ◌+◌, ◌-◌, ◌++◌, [], ◌∷◌, true, false, not, nat_eq, All, length, map, slice_index_or, is_some, IfOk, OnOk, OnErr};
+ghost use Rattle.std.specs.Prelude.{◌≡◌, Bool, ◌≤◌, ◌<◌, ◌+◌, ◌-◌, ◌++◌, [], ◌∷◌, true, false, not, nat_eq, All, length, map, slice_index_or, is_some, IfOk, OnOk, OnErr};
 ghost use Rattle.std.specs.List.{IsDistinct, remove};
+ghost use Rattle.jm_header.specs.declared.content.Content.{Content};
 ghost use Rattle.jm_machine.specs.Attached.{ended};
 ghost use Rattle.jm_machine.specs.Machine.{are_meant, places_end};
 ghost use Rattle.jm_selector.specs.Selectors.{matches};
@@ -15,6 +16,7 @@ ghost use Rattle.jm_stations.specs.Standing as standing;
 
 use crate::loading::{self, StoredRow};
 use crate::outstanding::Outstanding;
+use crate::picked::{self, Picked};
 use crate::standing::{self, Standing};
 use crate::{copies, lists};
 use jm_base::Boxed;
@@ -108,28 +110,6 @@ fn sent_out(row: Option<Row>, copy: Option<Boxed<Message>>) -> Answer
         return Answer::Nothing;
     };
     told(row.count, copy)
-}
-
-/// A copy of the row's message, where it is not settled at once, or some other row holds it too.
-fn copy_of(
-    alloc: Global,
-    table: &Table,
-    row: Option<Row>,
-    settles: bool,
-) -> Result<Option<Boxed<Message>>, AllocError>
-    ensures copy { IfOk result (λ copy. copy ≡ kept.copied settles table.now row) }
-    ensures err { OnErr result (is_some (kept.copied settles table.now row) ≡ true) }
-{
-    let Some(row) = row else {
-        return Ok(None);
-    };
-    if settles && table.holders(row.place) == 1 {
-        return Ok(None);
-    }
-    match table.get(row.place) {
-        None => Ok(None),
-        Some(message) => Ok(Some(Boxed::new(alloc, message.copy()?)?)),
-    }
 }
 
 impl Backlogs {
@@ -361,134 +341,83 @@ impl Backlogs {
         self.next_place = place + 1;
     }
 
-    /// The copy that a delivery from the list at that moment wants, which settles at once or not: of the next row's
-    /// message, where that is held after it. `AllocError` where a request for memory was refused, which comes only
-    /// where a copy is wanted.
-    pub fn copy_for(
+    /// What a delivery from the list takes at that moment, which settles at once or not: the next row, with the copy that it
+    /// wants. `AllocError` where a request for memory was refused, which comes only where a copy is wanted.
+    pub fn pick(
         &self,
         index: usize,
         now: Moment,
         settles: bool,
-    ) -> Result<Option<Boxed<Message>>, AllocError>
+    ) -> Result<Option<Picked>, AllocError>
         requires within { index < length self.now.list }
-        ensures copy { (d : Backlog) → IfOk result (λ copy. copy ≡ spec.copy_wanted settles now self.now.list (slice_index_or self.now.list index d).rows) }
+        ensures picked { (d : Backlog) → IfOk result (λ picked. picked ≡ spec.picked_of settles self.now.list (spec.next_placed now (slice_index_or self.now.list index d).rows)) }
         ensures err { (d : Backlog) → OnErr result (is_some (spec.copy_wanted settles now self.now.list (slice_index_or self.now.list index d).rows) ≡ true) }
     {
-        copy_of(
-            self.alloc,
-            &self.table,
-            self.lists.at(index).next(now),
-            settles,
-        )
+        let row = self.lists.at(index).next(now);
+        picked::pick(self.alloc, &self.table, row, settles)
     }
 
-    /// Drops the waiting rows of the list that are expired at that moment, and delivers the next one, which is settled. Its
-    /// message is moved out where no other row holds it, and else the copy stands for it. Takes no memory.
-    pub fn receive(&mut self, index: usize, now: Moment, copy: Option<Boxed<Message>>) -> Answer
+    /// The same of those of the list's rows whose messages the selector selects.
+    pub fn pick_where(
+        &self,
+        index: usize,
+        now: Moment,
+        settles: bool,
+        selector: &Selector,
+    ) -> Result<Option<Picked>, AllocError>
+        requires within { index < length self.now.list }
+        ensures picked { IfOk result (spec.IsPicked (matches selector.now) settles now self.now.list index) }
+        ensures err { (d : Backlog) → OnErr result (is_some (spec.copy_wanted_where (matches selector.now) settles now self.now.list (slice_index_or self.now.list index d).rows) ≡ true) }
+    {
+        let row = self.lists.at(index).next_where(&self.table, now, selector);
+        picked::pick(self.alloc, &self.table, row, settles)
+    }
+
+    /// Drops the waiting rows of the list that are expired at that moment, and delivers the row that was picked, which is
+    /// settled. Its message is moved out where no other row holds it, and else the copy stands for it. Takes no memory.
+    pub fn receive(&mut self, index: usize, now: Moment, picked: Option<Picked>) -> Answer
         requires within { index < length self.old.list }
-        requires copy { (d : Backlog) → copy ≡ spec.copy_wanted true now self.old.list (slice_index_or self.old.list index d).rows }
-        ensures answer { (d : Backlog) → result ≡ spec.answered now (slice_index_or self.old.list index d).rows }
-        ensures list { self.new.list ≡ spec.changed_at index (spec.received now) self.old.list }
+        requires picked { (p : Content → Bool) × spec.IsPicked p true now self.old.list index picked }
+        ensures answer { (p : Content → Bool) (d : Backlog) → spec.IsPicked p true now self.old.list index picked → result ≡ spec.answered_where p now (slice_index_or self.old.list index d).rows }
+        ensures list { (p : Content → Bool) → spec.IsPicked p true now self.old.list index picked → self.new.list ≡ spec.changed_at index (spec.received p now) self.old.list }
         ensures next_place { self.new.next_place ≡ self.old.next_place }
         ensures room { self.old.message_room ≤ self.new.message_room }
     {
-        let taken = lists::take(&mut self.lists, &mut self.table, index, now);
+        let Some(Picked { place, copy }) = picked else {
+            lists::drop_expired(&mut self.lists, &mut self.table, index, now);
+            return Answer::Nothing;
+        };
+        let taken = lists::receive(&mut self.lists, &mut self.table, index, now, place);
         handed_out(taken, copy)
     }
 
-    /// Drops the waiting rows of the list that are expired at that moment, and delivers the next one, which goes out to
-    /// the session through its consumer. The copy stands for its message. Takes no memory.
+    /// Drops the waiting rows of the list that are expired at that moment, and delivers the row that was picked, which goes
+    /// out to the session through its consumer. The copy stands for its message. Takes no memory.
     pub fn deliver(
         &mut self,
         index: usize,
         now: Moment,
-        copy: Option<Boxed<Message>>,
+        picked: Option<Picked>,
         session: SessionId,
         consumer: ConsumerId,
     ) -> Answer
         requires within { index < length self.old.list }
-        requires copy { (d : Backlog) → copy ≡ spec.copy_wanted false now self.old.list (slice_index_or self.old.list index d).rows }
-        ensures answer { (d : Backlog) → result ≡ spec.answered now (slice_index_or self.old.list index d).rows }
-        ensures list { self.new.list ≡ spec.changed_at index (spec.delivered session consumer now) self.old.list }
+        requires picked { (p : Content → Bool) × spec.IsPicked p false now self.old.list index picked }
+        ensures answer { (p : Content → Bool) (d : Backlog) → spec.IsPicked p false now self.old.list index picked → result ≡ spec.answered_where p now (slice_index_or self.old.list index d).rows }
+        ensures list { (p : Content → Bool) → spec.IsPicked p false now self.old.list index picked → self.new.list ≡ spec.changed_at index (spec.delivered p session consumer now) self.old.list }
         ensures next_place { self.new.next_place ≡ self.old.next_place }
         ensures room { self.old.message_room ≤ self.new.message_room }
     {
-        let row = lists::send(
+        let Some(Picked { place, copy }) = picked else {
+            lists::drop_expired(&mut self.lists, &mut self.table, index, now);
+            return Answer::Nothing;
+        };
+        let row = lists::deliver(
             &mut self.lists,
             &mut self.table,
             index,
             now,
-            session,
-            consumer,
-        );
-        self.outstanding.add_where(index, row.is_some());
-        sent_out(row, copy)
-    }
-
-    /// The copy that a delivery from those of the list's rows wants whose messages the selector selects, at that moment,
-    /// which settles at once or not: of the next row's message, where that is held after it. `AllocError` where a request
-    /// for memory was refused, which comes only where a copy is wanted.
-    pub fn copy_where(
-        &self,
-        index: usize,
-        now: Moment,
-        settles: bool,
-        selector: &Selector,
-    ) -> Result<Option<Boxed<Message>>, AllocError>
-        requires within { index < length self.now.list }
-        ensures copy { (d : Backlog) → IfOk result (λ copy. copy ≡ spec.copy_wanted_where (matches selector.now) settles now self.now.list (slice_index_or self.now.list index d).rows) }
-        ensures err { (d : Backlog) → OnErr result (is_some (spec.copy_wanted_where (matches selector.now) settles now self.now.list (slice_index_or self.now.list index d).rows) ≡ true) }
-    {
-        let row = self.lists.at(index).next_where(&self.table, now, selector);
-        copy_of(self.alloc, &self.table, row, settles)
-    }
-
-    /// Drops the waiting rows of the list that are expired at that moment, also those that are not selected, and delivers
-    /// the next one of those whose messages the selector selects, which is settled. Its message is moved out where no
-    /// other row holds it, and else the copy stands for it. Takes no memory.
-    pub fn receive_where(
-        &mut self,
-        index: usize,
-        now: Moment,
-        selector: &Selector,
-        copy: Option<Boxed<Message>>,
-    ) -> Answer
-        requires within { index < length self.old.list }
-        requires copy { (d : Backlog) → copy ≡ spec.copy_wanted_where (matches selector.now) true now self.old.list (slice_index_or self.old.list index d).rows }
-        ensures answer { (d : Backlog) → result ≡ spec.answered_where (matches selector.now) now (slice_index_or self.old.list index d).rows }
-        ensures list { self.new.list ≡ spec.changed_at index (spec.received_where (matches selector.now) now) self.old.list }
-        ensures next_place { self.new.next_place ≡ self.old.next_place }
-        ensures room { self.old.message_room ≤ self.new.message_room }
-    {
-        let taken = lists::take_where(&mut self.lists, &mut self.table, index, now, selector);
-        handed_out(taken, copy)
-    }
-
-    /// Drops the waiting rows of the list that are expired at that moment, also those that are not selected, and delivers
-    /// the next one of those whose messages the selector selects, which goes out to the session through its consumer. The
-    /// copy stands for its message. Takes no memory.
-    pub fn deliver_where(
-        &mut self,
-        index: usize,
-        now: Moment,
-        selector: &Selector,
-        copy: Option<Boxed<Message>>,
-        session: SessionId,
-        consumer: ConsumerId,
-    ) -> Answer
-        requires within { index < length self.old.list }
-        requires copy { (d : Backlog) → copy ≡ spec.copy_wanted_where (matches selector.now) false now self.old.list (slice_index_or self.old.list index d).rows }
-        ensures answer { (d : Backlog) → result ≡ spec.answered_where (matches selector.now) now (slice_index_or self.old.list index d).rows }
-        ensures list { self.new.list ≡ spec.changed_at index (spec.delivered_where (matches selector.now) session consumer now) self.old.list }
-        ensures next_place { self.new.next_place ≡ self.old.next_place }
-        ensures room { self.old.message_room ≤ self.new.message_room }
-    {
-        let row = lists::send_where(
-            &mut self.lists,
-            &mut self.table,
-            index,
-            now,
-            selector,
+            place,
             session,
             consumer,
         );

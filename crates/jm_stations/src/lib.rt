@@ -22,14 +22,13 @@
 //! the key of each index that is named comes a waiting row with a count of its own (`AreLoaded`); `skip_to` sets the
 //! place of the next publication, not below what it was; neither takes memory.
 //!
-//! `copy_for` answers the copy that a delivery from the rows under a key wants (`copy_wanted`): of the next row's
-//! message, where it is not settled at once or another row holds it; it changes nothing, and wants memory only where
-//! a copy is wanted.
+//! `pick` answers what a delivery from the rows under a key takes (`picked_of`): the place of the next row, with a copy of
+//! its message, where it is not settled at once or another row holds it; `pick_where` of the next one whose message a selector
+//! selects. They change nothing, and want memory only where a copy is wanted.
 //!
-//! `receive` and `deliver` answer the machine's `delivery` and change those rows by the machine's `deliver_placed`:
-//! the row is settled, or goes out to the session through its consumer, counted once more; they are handed that copy
-//! and take no memory. `copy_where`, `receive_where` and `deliver_where` are the same of the next row whose message a
-//! selector selects (`deliver_chosen`).
+//! `receive` and `deliver` are handed what was picked, answer the machine's `delivery` and change those rows by the machine's
+//! `deliver_chosen`: the row is settled, or goes out to the session through its consumer, counted once more. They take the row
+//! by its place, so that none is searched twice, and take no memory.
 //!
 //! `settle` and `give_back` are the machine's `settled_rows` and `returned_rows` of what is held under each key;
 //! `close` takes out the keys whose subscriptions end once consumers are closed (`ended`), with their rows, and
@@ -58,9 +57,11 @@ mod copies;
 mod lists;
 mod loading;
 mod outstanding;
+mod picked;
 mod standing;
 mod stations;
 
 pub use loading::StoredRow;
+pub use picked::Picked;
 pub use standing::Standing;
 pub use stations::Stations;

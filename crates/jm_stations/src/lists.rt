@@ -8,10 +8,8 @@ ghost use Rattle.jm_machine.specs.Attached.{ended};
 ghost use Rattle.jm_machine.specs.Machine.{are_meant};
 ghost use Rattle.jm_pending.specs.Counts.{IsCounted};
 ghost use Rattle.jm_lane.specs.Rows.{IsRising, sent};
-ghost use Rattle.jm_pending.specs.Rows.{Held, next};
+ghost use Rattle.jm_pending.specs.Rows.{Held};
 ghost use Rattle.jm_lane.specs.Holders.{Covers, Follows, KeepsMessages, holders_of};
-ghost use Rattle.jm_pending.specs.Chosen.{next_where};
-ghost use Rattle.jm_selector.specs.Selectors.{matches};
 ghost use Rattle.jm_stations.specs.Backlogs.{changed_at};
 ghost use Rattle.jm_stations.specs.Kept as kept;
 
@@ -20,7 +18,6 @@ use jm_gaps::GapList;
 use jm_indexed::KeySet;
 use jm_machine::{Attached, Consumers};
 use jm_pending::{Held, Row, Table, Taken};
-use jm_selector::Selector;
 use std::alloc::AllocError;
 
 /// Adds a row to each of the lists with those indexes.
@@ -41,85 +38,57 @@ pub(crate) fn offer_each(lists: &mut GapList<Held>, table: &mut Table, row: &Row
     }
 }
 
-/// Drops the expired rows of the list with that index, takes the next one, and settles it.
-pub(crate) fn take(
-    lists: &mut GapList<Held>,
-    table: &mut Table,
-    index: usize,
-    now: Moment,
-) -> Option<Taken>
+/// Drops the expired waiting rows of the list with that index.
+pub(crate) fn drop_expired(lists: &mut GapList<Held>, table: &mut Table, index: usize, now: Moment)
     requires within { index < length lists.old.items }
     requires covers { (d : Held) → Covers table.old (slice_index_or lists.old.items index d).rows }
-    ensures result { (d : Held) → result ≡ kept.taken table.old (next now (slice_index_or lists.old.items index d).rows) }
-    ensures lists { lists.new.items ≡ changed_at index (kept.settled now) lists.old.items }
-    ensures table { (d : Held) → Follows table.old table.new (slice_index_or lists.old.items index d).rows (kept.settled now (slice_index_or lists.old.items index d)).rows }
+    ensures lists { lists.new.items ≡ changed_at index (kept.dropped now) lists.old.items }
+    ensures table { (d : Held) → Follows table.old table.new (slice_index_or lists.old.items index d).rows (kept.dropped now (slice_index_or lists.old.items index d)).rows }
     ensures rising { (d : Held) → IsRising (slice_index_or lists.old.items index d).rows }
 {
     let held = lists.at_mut(index);
-    held.take_settled(table, now)
+    held.drop_expired(table, now);
 }
 
-/// Drops the expired waiting rows of the list with that index, and sends the next one to the session through its
-/// consumer.
-pub(crate) fn send(
+/// Drops the expired waiting rows of the list with that index, takes the one at that place, and settles it.
+pub(crate) fn receive(
     lists: &mut GapList<Held>,
     table: &mut Table,
     index: usize,
     now: Moment,
+    place: u64,
+) -> Option<Taken>
+    requires within { index < length lists.old.items }
+    requires covers { (d : Held) → Covers table.old (slice_index_or lists.old.items index d).rows }
+    ensures result { (d : Held) → result ≡ kept.taken table.old (kept.left_at place now (slice_index_or lists.old.items index d)) }
+    ensures lists { lists.new.items ≡ changed_at index (kept.received_at place now) lists.old.items }
+    ensures table { (d : Held) → Follows table.old table.new (slice_index_or lists.old.items index d).rows (kept.received_at place now (slice_index_or lists.old.items index d)).rows }
+    ensures rising { (d : Held) → IsRising (slice_index_or lists.old.items index d).rows }
+{
+    let held = lists.at_mut(index);
+    held.receive_at(table, now, place)
+}
+
+/// Drops the expired waiting rows of the list with that index, and sends the one at that place to the session through
+/// its consumer.
+pub(crate) fn deliver(
+    lists: &mut GapList<Held>,
+    table: &mut Table,
+    index: usize,
+    now: Moment,
+    place: u64,
     session: SessionId,
     consumer: ConsumerId,
 ) -> Option<Row>
     requires within { index < length lists.old.items }
     requires covers { (d : Held) → Covers table.old (slice_index_or lists.old.items index d).rows }
-    ensures result { (d : Held) → result ≡ option_map (sent session consumer) (next now (slice_index_or lists.old.items index d).rows) }
-    ensures lists { lists.new.items ≡ changed_at index (kept.sent_off session consumer now) lists.old.items }
-    ensures table { (d : Held) → Follows table.old table.new (slice_index_or lists.old.items index d).rows (kept.sent_off session consumer now (slice_index_or lists.old.items index d)).rows }
+    ensures result { (d : Held) → result ≡ option_map (sent session consumer) (kept.left_at place now (slice_index_or lists.old.items index d)) }
+    ensures lists { lists.new.items ≡ changed_at index (kept.delivered_at place session consumer now) lists.old.items }
+    ensures table { (d : Held) → Follows table.old table.new (slice_index_or lists.old.items index d).rows (kept.delivered_at place session consumer now (slice_index_or lists.old.items index d)).rows }
     ensures rising { (d : Held) → IsRising (slice_index_or lists.old.items index d).rows }
 {
     let held = lists.at_mut(index);
-    held.take(table, now, session, consumer)
-}
-
-/// Drops the expired waiting rows of the list with that index, takes the next one of those whose messages the selector
-/// selects, and settles it.
-pub(crate) fn take_where(
-    lists: &mut GapList<Held>,
-    table: &mut Table,
-    index: usize,
-    now: Moment,
-    selector: &Selector,
-) -> Option<Taken>
-    requires within { index < length lists.old.items }
-    requires covers { (d : Held) → Covers table.old (slice_index_or lists.old.items index d).rows }
-    ensures result { (d : Held) → result ≡ kept.taken table.old (next_where (matches selector.now) table.old now (slice_index_or lists.old.items index d).rows) }
-    ensures lists { lists.new.items ≡ changed_at index (kept.settled_where (matches selector.now) table.old now) lists.old.items }
-    ensures table { (d : Held) → Follows table.old table.new (slice_index_or lists.old.items index d).rows (kept.settled_where (matches selector.now) table.old now (slice_index_or lists.old.items index d)).rows }
-    ensures rising { (d : Held) → IsRising (slice_index_or lists.old.items index d).rows }
-{
-    let held = lists.at_mut(index);
-    held.take_settled_where(table, now, selector)
-}
-
-/// Drops the expired waiting rows of the list with that index, and sends the next one of those whose messages the
-/// selector selects to the session through its consumer.
-pub(crate) fn send_where(
-    lists: &mut GapList<Held>,
-    table: &mut Table,
-    index: usize,
-    now: Moment,
-    selector: &Selector,
-    session: SessionId,
-    consumer: ConsumerId,
-) -> Option<Row>
-    requires within { index < length lists.old.items }
-    requires covers { (d : Held) → Covers table.old (slice_index_or lists.old.items index d).rows }
-    ensures result { (d : Held) → result ≡ option_map (sent session consumer) (next_where (matches selector.now) table.old now (slice_index_or lists.old.items index d).rows) }
-    ensures lists { lists.new.items ≡ changed_at index (kept.sent_off_where (matches selector.now) table.old session consumer now) lists.old.items }
-    ensures table { (d : Held) → Follows table.old table.new (slice_index_or lists.old.items index d).rows (kept.sent_off_where (matches selector.now) table.old session consumer now (slice_index_or lists.old.items index d)).rows }
-    ensures rising { (d : Held) → IsRising (slice_index_or lists.old.items index d).rows }
-{
-    let held = lists.at_mut(index);
-    held.take_where(table, now, selector, session, consumer)
+    held.deliver_at(table, now, place, session, consumer)
 }
 
 /// The rows of the list with that index that are out through one of those consumers go.

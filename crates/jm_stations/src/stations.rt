@@ -1,9 +1,10 @@
 //! What is held under each key.
 
-ghost use Rattle.std.specs.Prelude.{◌≡◌, ◌≤◌, ◌<◌, ◌+◌, ◌^◌, ◌++◌, [], ◌∷◌, true, false, not, nat_eq, is_some, All, filter, length, map, slice_index_or, Some, None, IfSome, IfOk, OnOk, OnErr};
+ghost use Rattle.std.specs.Prelude.{◌≡◌, Bool, ◌≤◌, ◌<◌, ◌+◌, ◌^◌, ◌++◌, [], ◌∷◌, true, false, not, nat_eq, is_some, All, filter, length, map, slice_index_or, Some, None, IfSome, IfOk, OnOk, OnErr};
 ghost use Rattle.std.specs.List.{IsDistinct, remove};
 ghost use Rattle.jm_dest.specs.declared.key.Key.{Key};
 ghost use Rattle.jm_dest.specs.Keys.{key_eq};
+ghost use Rattle.jm_header.specs.declared.content.Content.{Content};
 ghost use Rattle.jm_machine.specs.Attached.{ended};
 ghost use Rattle.jm_machine.specs.Machine.{are_meant, places_end};
 ghost use Rattle.jm_machine.specs.Sections.{is_own_of};
@@ -19,8 +20,8 @@ ghost use Rattle.jm_stations.specs.Standing as standing;
 use crate::backlogs::Backlogs;
 use crate::copies;
 use crate::loading::StoredRow;
+use crate::picked::Picked;
 use crate::standing::Standing;
-use jm_base::Boxed;
 use jm_dest::{ConsumerId, Key, Moment, SessionId};
 use jm_header::Message;
 use jm_indexed::{Choice, KeySet};
@@ -394,124 +395,71 @@ impl Stations {
         self.backlogs.skip_to(place);
     }
 
-    /// The copy that a delivery from the rows under the key with that index wants at that moment, which settles at once
-    /// or not: of the next row's message, where that is held after it. `AllocError` where a request for memory was
-    /// refused, which comes only where a copy is wanted.
-    pub fn copy_for(
+    /// What a delivery from the rows under the key with that index takes at that moment, which settles at once or not: the next
+    /// row, with the copy that it wants, of its message where that is held after it. `AllocError` where a request for memory
+    /// was refused, which comes only where a copy is wanted.
+    pub fn pick(
         &self,
         index: usize,
         now: Moment,
         settles: bool,
-    ) -> Result<Option<Boxed<Message>>, AllocError>
+    ) -> Result<Option<Picked>, AllocError>
         requires within { index < length self.now.list }
-        ensures copy { (d : Backlog) → IfOk result (λ copy. copy ≡ spec.copy_wanted settles now self.now.list (slice_index_or self.now.list index d).rows) }
+        ensures picked { (d : Backlog) → IfOk result (λ picked. picked ≡ spec.picked_of settles self.now.list (spec.next_placed now (slice_index_or self.now.list index d).rows)) }
         ensures err { (d : Backlog) → OnErr result (is_some (spec.copy_wanted settles now self.now.list (slice_index_or self.now.list index d).rows) ≡ true) }
     {
-        self.backlogs.copy_for(index, now, settles)
+        self.backlogs.pick(index, now, settles)
     }
 
-    /// Drops the waiting rows under the key with that index that are expired at that moment, and delivers the next one,
-    /// which is settled. Its message is moved out where no other row holds it, and else the copy stands for it.
-    /// Takes no memory.
-    #[tactic(auto, using(crate::proofs::Indexes::as_many_changed))]
-    pub fn receive(&mut self, index: usize, now: Moment, copy: Option<Boxed<Message>>) -> Answer
+    /// The same of those of the rows whose messages the selector selects.
+    pub fn pick_where(
+        &self,
+        index: usize,
+        now: Moment,
+        settles: bool,
+        selector: &Selector,
+    ) -> Result<Option<Picked>, AllocError>
+        requires within { index < length self.now.list }
+        ensures picked { IfOk result (spec.IsPicked (matches selector.now) settles now self.now.list index) }
+        ensures err { (d : Backlog) → OnErr result (is_some (spec.copy_wanted_where (matches selector.now) settles now self.now.list (slice_index_or self.now.list index d).rows) ≡ true) }
+    {
+        self.backlogs.pick_where(index, now, settles, selector)
+    }
+
+    /// Drops the waiting rows under the key with that index that are expired at that moment, also those whose messages do not
+    /// pass, and delivers the row that was picked of those that do, which is settled. Its message is moved out where no other
+    /// row holds it, and else the copy stands for it. Takes no memory, and searches nothing but that place.
+    pub fn receive(&mut self, index: usize, now: Moment, picked: Option<Picked>) -> Answer
         requires within { index < length self.old.list }
-        requires copy { (d : Backlog) → copy ≡ spec.copy_wanted true now self.old.list (slice_index_or self.old.list index d).rows }
-        ensures answer { (d : Backlog) → result ≡ spec.answered now (slice_index_or self.old.list index d).rows }
+        requires picked { (p : Content → Bool) × spec.IsPicked p true now self.old.list index picked }
+        ensures answer { (p : Content → Bool) (d : Backlog) → spec.IsPicked p true now self.old.list index picked → result ≡ spec.answered_where p now (slice_index_or self.old.list index d).rows }
         ensures keys { self.new.keys ≡ self.old.keys }
-        ensures list { self.new.list ≡ spec.changed_at index (spec.received now) self.old.list }
+        ensures list { (p : Content → Bool) → spec.IsPicked p true now self.old.list index picked → self.new.list ≡ spec.changed_at index (spec.received p now) self.old.list }
         ensures next_place { self.new.next_place ≡ self.old.next_place }
         ensures room { self.old.message_room ≤ self.new.message_room }
     {
-        self.backlogs.receive(index, now, copy)
+        self.backlogs.receive(index, now, picked)
     }
 
-    /// Drops the waiting rows under the key with that index that are expired at that moment, and delivers the next one,
-    /// which goes out to the session through its consumer, and is counted once more. The copy stands for its message,
-    /// which stays held. Takes no memory.
-    #[tactic(auto, using(crate::proofs::Indexes::as_many_changed))]
+    /// The same, but that the row goes out to the session through its consumer, and is counted once more. The copy stands for
+    /// its message, which stays held.
     pub fn deliver(
         &mut self,
         index: usize,
         now: Moment,
-        copy: Option<Boxed<Message>>,
+        picked: Option<Picked>,
         session: SessionId,
         consumer: ConsumerId,
     ) -> Answer
         requires within { index < length self.old.list }
-        requires copy { (d : Backlog) → copy ≡ spec.copy_wanted false now self.old.list (slice_index_or self.old.list index d).rows }
-        ensures answer { (d : Backlog) → result ≡ spec.answered now (slice_index_or self.old.list index d).rows }
+        requires picked { (p : Content → Bool) × spec.IsPicked p false now self.old.list index picked }
+        ensures answer { (p : Content → Bool) (d : Backlog) → spec.IsPicked p false now self.old.list index picked → result ≡ spec.answered_where p now (slice_index_or self.old.list index d).rows }
         ensures keys { self.new.keys ≡ self.old.keys }
-        ensures list { self.new.list ≡ spec.changed_at index (spec.delivered session consumer now) self.old.list }
+        ensures list { (p : Content → Bool) → spec.IsPicked p false now self.old.list index picked → self.new.list ≡ spec.changed_at index (spec.delivered p session consumer now) self.old.list }
         ensures next_place { self.new.next_place ≡ self.old.next_place }
         ensures room { self.old.message_room ≤ self.new.message_room }
     {
-        self.backlogs.deliver(index, now, copy, session, consumer)
-    }
-
-    /// The copy that a delivery from the rows under the key with that index wants at that moment, which settles at once
-    /// or not: of the message of the next row of those whose messages the selector selects, where that is held after it.
-    /// `AllocError` where a request for memory was refused, which comes only where a copy is wanted.
-    pub fn copy_where(
-        &self,
-        index: usize,
-        now: Moment,
-        settles: bool,
-        selector: &Selector,
-    ) -> Result<Option<Boxed<Message>>, AllocError>
-        requires within { index < length self.now.list }
-        ensures copy { (d : Backlog) → IfOk result (λ copy. copy ≡ spec.copy_wanted_where (matches selector.now) settles now self.now.list (slice_index_or self.now.list index d).rows) }
-        ensures err { (d : Backlog) → OnErr result (is_some (spec.copy_wanted_where (matches selector.now) settles now self.now.list (slice_index_or self.now.list index d).rows) ≡ true) }
-    {
-        self.backlogs.copy_where(index, now, settles, selector)
-    }
-
-    /// Drops the waiting rows under the key with that index that are expired at that moment, also those that are not
-    /// selected, and delivers the next one of those whose messages the selector selects, which is settled. Its message
-    /// is moved out where no other row holds it, and else the copy stands for it. Takes no memory.
-    #[tactic(auto, using(crate::proofs::Indexes::as_many_changed))]
-    pub fn receive_where(
-        &mut self,
-        index: usize,
-        now: Moment,
-        selector: &Selector,
-        copy: Option<Boxed<Message>>,
-    ) -> Answer
-        requires within { index < length self.old.list }
-        requires copy { (d : Backlog) → copy ≡ spec.copy_wanted_where (matches selector.now) true now self.old.list (slice_index_or self.old.list index d).rows }
-        ensures answer { (d : Backlog) → result ≡ spec.answered_where (matches selector.now) now (slice_index_or self.old.list index d).rows }
-        ensures keys { self.new.keys ≡ self.old.keys }
-        ensures list { self.new.list ≡ spec.changed_at index (spec.received_where (matches selector.now) now) self.old.list }
-        ensures next_place { self.new.next_place ≡ self.old.next_place }
-        ensures room { self.old.message_room ≤ self.new.message_room }
-    {
-        self.backlogs.receive_where(index, now, selector, copy)
-    }
-
-    /// Drops the waiting rows under the key with that index that are expired at that moment, also those that are not
-    /// selected, and delivers the next one of those whose messages the selector selects, which goes out to the session
-    /// through its consumer, and is counted once more. The copy stands for its message, which stays held. Takes no
-    /// memory.
-    #[tactic(auto, using(crate::proofs::Indexes::as_many_changed))]
-    pub fn deliver_where(
-        &mut self,
-        index: usize,
-        now: Moment,
-        selector: &Selector,
-        copy: Option<Boxed<Message>>,
-        session: SessionId,
-        consumer: ConsumerId,
-    ) -> Answer
-        requires within { index < length self.old.list }
-        requires copy { (d : Backlog) → copy ≡ spec.copy_wanted_where (matches selector.now) false now self.old.list (slice_index_or self.old.list index d).rows }
-        ensures answer { (d : Backlog) → result ≡ spec.answered_where (matches selector.now) now (slice_index_or self.old.list index d).rows }
-        ensures keys { self.new.keys ≡ self.old.keys }
-        ensures list { self.new.list ≡ spec.changed_at index (spec.delivered_where (matches selector.now) session consumer now) self.old.list }
-        ensures next_place { self.new.next_place ≡ self.old.next_place }
-        ensures room { self.old.message_room ≤ self.new.message_room }
-    {
-        self.backlogs
-            .deliver_where(index, now, selector, copy, session, consumer)
+        self.backlogs.deliver(index, now, picked, session, consumer)
     }
 
     /// The rows that are out through one of those consumers go, and each message that no other row holds with them.

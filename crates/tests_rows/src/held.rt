@@ -55,8 +55,8 @@ pub(crate) fn receive(stations: &mut Stations, index: usize, at: i64) -> Result<
     if index >= stations.len() {
         return Err(Refusal::IllegalState);
     }
-    let copy = stations.copy_for(index, now, true)?;
-    Ok(stations.receive(index, now, copy))
+    let picked = stations.pick(index, now, true)?;
+    Ok(stations.receive(index, now, picked))
 }
 
 /// The same of those rows that the selector selects.
@@ -72,8 +72,8 @@ pub(crate) fn receive_where(
         return Err(Refusal::IllegalState);
     }
     let selector = selector(alloc, text)?;
-    let copy = stations.copy_where(index, now, true, &selector)?;
-    Ok(stations.receive_where(index, now, &selector, copy))
+    let picked = stations.pick_where(index, now, true, &selector)?;
+    Ok(stations.receive(index, now, picked))
 }
 
 fn is_delivered(answer: &Answer, text: &str, count: u32) -> bool {

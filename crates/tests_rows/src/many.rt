@@ -49,8 +49,8 @@ fn deliver(stations: &mut Stations, index: usize, number: u32) -> Result<Answer,
     if index >= stations.len() {
         return Err(Refusal::IllegalState);
     }
-    let copy = stations.copy_for(index, now, false)?;
-    Ok(stations.deliver(index, now, copy, to, consumer))
+    let picked = stations.pick(index, now, false)?;
+    Ok(stations.deliver(index, now, picked, to, consumer))
 }
 
 fn sends(alloc: Global, stations: &mut Stations, index: usize, number: u32) -> bool {

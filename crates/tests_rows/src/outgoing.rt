@@ -63,8 +63,8 @@ fn deliver(stations: &mut Stations, index: usize, at: i64) -> Result<Answer, Ref
     }
     let to = session(SESSIONS[index])?;
     let consumer = ConsumerId::new(1)?;
-    let copy = stations.copy_for(index, now, false)?;
-    Ok(stations.deliver(index, now, copy, to, consumer))
+    let picked = stations.pick(index, now, false)?;
+    Ok(stations.deliver(index, now, picked, to, consumer))
 }
 
 fn deliver_where(
@@ -81,8 +81,8 @@ fn deliver_where(
     let to = session(SESSIONS[index])?;
     let consumer = ConsumerId::new(1)?;
     let selector = selector(alloc, text)?;
-    let copy = stations.copy_where(index, now, false, &selector)?;
-    Ok(stations.deliver_where(index, now, &selector, copy, to, consumer))
+    let picked = stations.pick_where(index, now, false, &selector)?;
+    Ok(stations.deliver(index, now, picked, to, consumer))
 }
 
 fn settle(stations: &mut Stations, which: &Which) -> Result<(), Refusal> {

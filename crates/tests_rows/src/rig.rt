@@ -91,20 +91,50 @@ impl Rig {
         Ok(0)
     }
 
-    /// The place of the row that goes out through the consumer, or 0.
-    pub(crate) fn take(&mut self, now: Moment, to: SessionId, through: ConsumerId) -> u64 {
-        match self.held.take(&mut self.table, now, to, through) {
+    /// The place of the row, where it is one, once it is out through the consumer, or 0.
+    fn deliver(
+        &mut self,
+        row: Option<Row>,
+        now: Moment,
+        to: SessionId,
+        through: ConsumerId,
+    ) -> u64 {
+        let Some(row) = row else {
+            self.held.drop_expired(&mut self.table, now);
+            return 0;
+        };
+        let place = row.place;
+        match self
+            .held
+            .deliver_at(&mut self.table, now, place, to, through)
+        {
             Some(row) => row.place,
             None => 0,
         }
     }
 
-    /// The place of the row that is delivered and settled, or 0.
-    pub(crate) fn take_settled(&mut self, now: Moment) -> u64 {
-        match self.held.take_settled(&mut self.table, now) {
+    /// The place of the row, where it is one, once it is delivered and settled, or 0.
+    fn receive(&mut self, row: Option<Row>, now: Moment) -> u64 {
+        let Some(row) = row else {
+            self.held.drop_expired(&mut self.table, now);
+            return 0;
+        };
+        match self.held.receive_at(&mut self.table, now, row.place) {
             Some(taken) => taken.row.place,
             None => 0,
         }
+    }
+
+    /// The place of the next row, which goes out through the consumer, or 0.
+    pub(crate) fn take(&mut self, now: Moment, to: SessionId, through: ConsumerId) -> u64 {
+        let row = self.held.next(now);
+        self.deliver(row, now, to, through)
+    }
+
+    /// The place of the next row, which is delivered and settled, or 0.
+    pub(crate) fn take_settled(&mut self, now: Moment) -> u64 {
+        let row = self.held.next(now);
+        self.receive(row, now)
     }
 
     /// The place of the next row of those that the selector selects, or 0.
@@ -115,7 +145,7 @@ impl Rig {
         }
     }
 
-    /// The place of the row of those that the selector selects that goes out through the consumer, or 0.
+    /// The place of the next row of those that the selector selects, which goes out through the consumer, or 0.
     pub(crate) fn take_where(
         &mut self,
         now: Moment,
@@ -123,21 +153,14 @@ impl Rig {
         to: SessionId,
         through: ConsumerId,
     ) -> u64 {
-        match self
-            .held
-            .take_where(&mut self.table, now, selector, to, through)
-        {
-            Some(row) => row.place,
-            None => 0,
-        }
+        let row = self.held.next_where(&self.table, now, selector);
+        self.deliver(row, now, to, through)
     }
 
-    /// The place of the row of those that the selector selects that is delivered and settled, or 0.
+    /// The place of the next row of those that the selector selects, which is delivered and settled, or 0.
     pub(crate) fn take_settled_where(&mut self, now: Moment, selector: &Selector) -> u64 {
-        match self.held.take_settled_where(&mut self.table, now, selector) {
-            Some(taken) => taken.row.place,
-            None => 0,
-        }
+        let row = self.held.next_where(&self.table, now, selector);
+        self.receive(row, now)
     }
 
     pub(crate) fn settle(&mut self, of: SessionId) {

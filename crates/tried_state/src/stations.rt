@@ -129,22 +129,22 @@ fn reserved(stations: &mut Stations) -> Answer {
     }
 }
 
-fn copied_for(stations: &Stations, now: Moment) -> Answer {
+fn picked(stations: &Stations, now: Moment) -> Answer {
     if stations.len() == 0 {
         return Ok(0);
     }
-    match stations.copy_for(0, now, false) {
-        Ok(copy) => Ok(u64::from(copy.is_some())),
+    match stations.pick(0, now, false) {
+        Ok(picked) => Ok(u64::from(picked.is_some())),
         Err(_) => Err(Refusal::Memory),
     }
 }
 
-fn copied_where(stations: &Stations, now: Moment, selector: &Selector) -> Answer {
+fn picked_where(stations: &Stations, now: Moment, selector: &Selector) -> Answer {
     if stations.len() == 0 {
         return Ok(0);
     }
-    match stations.copy_where(0, now, false, selector) {
-        Ok(copy) => Ok(u64::from(copy.is_some())),
+    match stations.pick_where(0, now, false, selector) {
+        Ok(picked) => Ok(u64::from(picked.is_some())),
         Err(_) => Err(Refusal::Memory),
     }
 }
@@ -193,12 +193,12 @@ impl Trial for Queues {
                 answer: reserved(&mut self.stations),
             },
             5 => Called {
-                name: "jm_stations Stations::copy_for",
-                answer: copied_for(&self.stations, self.now),
+                name: "jm_stations Stations::pick",
+                answer: picked(&self.stations, self.now),
             },
             6 => Called {
-                name: "jm_stations Stations::copy_where",
-                answer: copied_where(&self.stations, self.now, &self.selector),
+                name: "jm_stations Stations::pick_where",
+                answer: picked_where(&self.stations, self.now, &self.selector),
             },
             _ => Called::NONE,
         }

@@ -1,4 +1,3 @@
-use Rattle.std.proofs.Common.{true, false}
 use Rattle.jm_parts.proofs.listen.done_at.Goals as goal
 
 pub returns-then-ok-clause-rows : goal.returns-then-ok-clause-rows

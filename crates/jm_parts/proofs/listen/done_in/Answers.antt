@@ -1,6 +1,5 @@
 use Rattle.std.proofs.Common.{◌≡◌, ◌∙◌, [], Bool, true, false, ap, refl, sym}
 use Rattle.jm_machine.specs.declared.consumers.Consumers.{Consumers}
-use Rattle.jm_dest.specs.declared.key.Key.{Key}
 use Rattle.jm_stations.specs.Stations.{index_in}
 use Rattle.jm_parts.specs.Listening.{ended_rows}
 use Rattle.jm_queues.specs.Queues.{rows_in}

@@ -1,4 +1,4 @@
-use Rattle.std.proofs.Common.{◌∙◌, ap, sym}
+use Rattle.std.proofs.Common.{◌∙◌, ap}
 use Rattle.jm_parts.specs.Named.{home_at}
 use Rattle.jm_parts.specs.Takings.{backlog_at}
 use Rattle.jm_parts.proofs.Naming.{home_there}

@@ -1,7 +1,6 @@
 use Rattle.std.proofs.Common.{◌∙◌, ◌++◌, ap}
 use Rattle.std.specs.Vec.Iter.{into_iter_items}
-use Rattle.jm_parts.proofs.Publishing.{list_assoc, nothing_left}
-use Rattle.jm_parts.proofs.Reopening.{absent_next, made_more, made_none, same_made}
+use Rattle.jm_parts.proofs.Reopening.{absent_next, same_made}
 use Rattle.jm_parts.proofs.reopen.add_subscriptions.Goals as goal
 
 pub add_subscription-requires-clause-same : goal.add_subscription-requires-clause-same

@@ -2,18 +2,18 @@ use Rattle.std.proofs.Common.{refl}
 use Rattle.jm_machine.specs.Machine.{key_at}
 use Rattle.jm_queues.specs.Queues.{rows_in}
 use Rattle.jm_parts.specs.Takings.{source_of}
-use Rattle.jm_plans.proofs.Fits.{copy_taken, receive_made, sound_taken}
+use Rattle.jm_plans.proofs.Fits.{picked_taken, receive_made, sound_taken}
 use Rattle.jm_plans.proofs.state.CoreState.install_delivery.Goals as goal
 
 pub make_delivery-requires-clause-within : goal.make_delivery-requires-clause-within
 make_delivery-requires-clause-within c = rw (← c.self.view_is) at c.requires.2.within
 
-pub make_delivery-requires-clause-copy : goal.make_delivery-requires-clause-copy
-make_delivery-requires-clause-copy c =
+pub make_delivery-requires-clause-picked : goal.make_delivery-requires-clause-picked
+make_delivery-requires-clause-picked c =
     let i = c.self.inside in
     let r = c.args.receiver.now in
     let taken = rw (← c.self.view_is) at c.requires.2.taken in
-    copy_taken i.stations.keys i.stations.list r (key_at (source_of i.sessions.life i.sessions.consumers r.session r.consumer)) c.args.taking taken
+    picked_taken i.stations.keys i.stations.list r (key_at (source_of i.sessions.life i.sessions.consumers r.session r.consumer)) c.args.taking taken
 
 pub invariant_of-self : goal.invariant_of-self
 invariant_of-self c =

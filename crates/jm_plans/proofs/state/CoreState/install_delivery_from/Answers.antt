@@ -1,40 +1,32 @@
-use Rattle.std.proofs.Common.{◌≡◌, ◌∙◌, ap, refl, subst, sym, false, List, Some}
+use Rattle.std.proofs.Common.{◌≡◌, subst, sym, false, List, Some}
 use Rattle.std.specs.List.{All}
 use Rattle.jm_dest.specs.declared.key.Key.{Key}
 use Rattle.jm_dest.specs.declared.key.Key.TheVariants.{Queue}
 use Rattle.jm_dest.specs.Keys.{key_eq}
-use Rattle.jm_machine.specs.declared.state.Consumer.{Consumer}
 use Rattle.jm_machine.specs.Machine.{selected_by}
 use Rattle.jm_queues.specs.Queues.{rows_in}
-use Rattle.jm_parts.specs.Takings.{IsTakenFrom}
 use Rattle.jm_plans.proofs.Fits.{receive_made_from}
-use Rattle.jm_plans.proofs.Sources.{no_queue, source_found}
+use Rattle.jm_plans.proofs.Sources.{no_queue}
 use Rattle.jm_plans.proofs.state.CoreState.install_delivery_from.Goals as goal
 
 pub make_delivery_from-requires : goal.make_delivery_from-requires
 make_delivery_from-requires c =
     let h = c.requires.2 in
-    let i = c.self.inside in
-    let r = c.args.receiver.now in
-    let source = rw (← c.self.view_is) at h.source in
     let taken = rw (← c.self.view_is) at h.taken in
-    let same = source_found i.sessions.life i.sessions.consumers r h.consumer c.in-Some.consumer.now source c.in-Some.ensures in
-    (h.queue, subst (λ (x : Consumer). IsTakenFrom h.queue (selected_by (Some x)) r i.queues c.args.taking) (sym same) taken)
+    (h.queue, selected_by (Some h.consumer), taken)
 
-pub returns-in-Some : goal.returns-in-Some
-returns-in-Some c =
+pub returns : goal.returns
+returns c =
     let m = c.make_delivery_from.ensures in
     let i = c.self.inside in
     let r = c.args.receiver.now in
-    let found = c.in-Some.consumer.now in
     λ who call h.
     let mode = rw (← c.self.view_is) at h.mode in
     let allowed = rw (← c.self.view_is) at h.allowed in
     let source = rw (← c.self.view_is) at h.source in
     let taken = rw (← c.self.view_is) at h.taken in
-    let same = source_found i.sessions.life i.sessions.consumers r h.consumer found source c.in-Some.ensures in
-    let there = subst (λ (x : Consumer). IsTakenFrom h.queue (selected_by (Some x)) r i.queues c.args.taking) (sym same) taken in
+    let pass = selected_by (Some h.consumer) in
     let none = subst (λ (ks : List Key). All (λ x. key_eq x (Queue h.queue) ≡ false) ks) (sym c.self.invariant.0.same) (no_queue i.sessions.consumers h.queue i.stations.keys c.self.invariant.0.made) in
     rw (h.sender, h.asked, ← c.self.view_is)
-    (receive_made_from i.opening i.limit i.sessions.life i.sessions.consumers i.subs.list i.stations.list (rows_in i.queues) i.stations.next_place r found h.queue c.make_delivery_from.result (rows_in c.make_delivery_from.new.queues)
-    mode allowed (source ∙ ap (λ x. Some x) (sym same)) (ap (λ (x : Consumer). x.key) same ∙ h.key) none (m.answer h.queue there) (m.rows h.queue there))
+    (receive_made_from i.opening i.limit i.sessions.life i.sessions.consumers i.subs.list i.stations.list (rows_in i.queues) i.stations.next_place r h.consumer h.queue c.make_delivery_from.result (rows_in c.make_delivery_from.new.queues)
+    mode allowed source h.key none (m.answer h.queue pass taken) (m.rows h.queue pass taken))

@@ -2,19 +2,19 @@ use Rattle.std.proofs.Common.{refl}
 use Rattle.jm_machine.specs.Machine.{busy_if, consumer_of, key_at}
 use Rattle.jm_parts.specs.Listening.{is_delivered}
 use Rattle.jm_queues.specs.Queues.{rows_in}
-use Rattle.jm_plans.proofs.Fits.{copy_taken, sound_taken}
+use Rattle.jm_plans.proofs.Fits.{picked_taken, sound_taken}
 use Rattle.jm_plans.proofs.Listening.{keeps_busy, sound_marked, take_made}
 use Rattle.jm_plans.proofs.state.CoreState.install_take.Goals as goal
 
 pub make_delivery-answer-requires-clause-within : goal.make_delivery-answer-requires-clause-within
 make_delivery-answer-requires-clause-within c = rw (← c.self.view_is) at c.requires.2.within
 
-pub make_delivery-answer-requires-clause-copy : goal.make_delivery-answer-requires-clause-copy
-make_delivery-answer-requires-clause-copy c =
+pub make_delivery-answer-requires-clause-picked : goal.make_delivery-answer-requires-clause-picked
+make_delivery-answer-requires-clause-picked c =
     let i = c.self.inside in
     let r = c.args.receiver.now in
     let taken = rw (← c.self.view_is) at c.requires.2.taken in
-    copy_taken i.stations.keys i.stations.list r (key_at (consumer_of i.sessions.consumers r.session r.consumer)) c.args.taking taken
+    picked_taken i.stations.keys i.stations.list r (key_at (consumer_of i.sessions.consumers r.session r.consumer)) c.args.taking taken
 
 pub make_busy-requires : goal.make_busy-requires
 make_busy-requires c = rw (← c.self.view_is) at c.requires.2.allowed

@@ -2,7 +2,6 @@ use Rattle.std.proofs.Common.{ap, ◌∙◌, List, None, sym, true}
 use Rattle.jm_machine.specs.Machine.{at_queue}
 use Rattle.jm_machine.specs.Rows.{deliver_chosen}
 use Rattle.jm_machine.specs.declared.state.PlacedRow.{PlacedRow}
-use Rattle.jm_selector.specs.Selectors.{matches}
 use Rattle.jm_stations.specs.Backlogs.{Backlog, answered_where, empty, gone}
 use Rattle.jm_stations.specs.Stations.{Stations}
 use Rattle.jm_queues.specs.Queues.{rows_at, rows_in}
@@ -14,27 +13,28 @@ use Rattle.jm_queues.proofs.queues.Queues.receive.Goals as goal
 pub invariant_of-self : goal.invariant_of-self
 invariant_of-self c =
     let i = c.self.inside in
-    let m = c.receive_where.ensures in
-    let pass = matches c.args.selector.now in (
-      rw (m.list, m.next_place) (queues_changed c.args.index (deliver_chosen pass c.args.now gone) (fewer_delivered true (record { connection = 0; number = 0 }) 0 pass c.args.now) i.stations.list i.stations.next_place c.self.invariant.0),
-      keys_same i.stations.keys c.receive_where.new.self.keys m.keys c.self.invariant.1,
+    let m = c.receive.ensures in
+    let pass = c.requires.picked.0 in
+    let picked = rw (← c.self.view_is) at c.requires.picked.1 in (
+      rw (m.list pass picked, m.next_place) (queues_changed c.args.index (deliver_chosen pass c.args.now gone) (fewer_delivered true (record { connection = 0; number = 0 }) 0 pass c.args.now) i.stations.list i.stations.next_place c.self.invariant.0),
+      keys_same i.stations.keys c.receive.new.self.keys m.keys c.self.invariant.1,
     )
 
 pub returns-clause-answer : goal.returns-clause-answer
-returns-clause-answer c name found =
+returns-clause-answer c name pass found picked =
     let i = c.self.inside in
-    let m = c.receive_where.ensures in
+    let m = c.receive.ensures in
     let d : Backlog = empty None in
-    let pass = matches c.args.selector.now in
     let at = rw (← c.self.view_is) at found in
     let within = rw (← c.self.view_is) at c.requires.within in
-    m.answer d ∙ ap (λ rows. answered_where pass c.args.now rows) (sym (rows_found i.stations.keys i.stations.list name c.args.index d at within)) ∙ ap (λ (x : Stations). answered_where pass c.args.now (rows_in x name)) c.self.view_is
+    m.answer pass d (rw (← c.self.view_is) at picked) ∙ ap (λ rows. answered_where pass c.args.now rows) (sym (rows_found i.stations.keys i.stations.list name c.args.index d at within)) ∙ ap (λ (x : Stations). answered_where pass c.args.now (rows_in x name)) c.self.view_is
 
 pub returns-clause-rows : goal.returns-clause-rows
-returns-clause-rows c name found =
+returns-clause-rows c name pass found picked =
     let i = c.self.inside in
-    let m = c.receive_where.ensures in
-    let change : List PlacedRow → List PlacedRow = deliver_chosen (matches c.args.selector.now) c.args.now gone in
+    let m = c.receive.ensures in
+    let change : List PlacedRow → List PlacedRow = deliver_chosen pass c.args.now gone in
     let at = rw (← c.self.view_is) at found in
     let within = rw (← c.self.view_is) at c.requires.within in
-    (λ j. rows_at (m.keys j) (m.list j)) ∙ rows_changed i.stations.keys i.stations.list name change c.args.index at within ∙ ap (λ (x : Stations). at_queue name change (rows_in x)) c.self.view_is
+    let list = m.list pass (rw (← c.self.view_is) at picked) in
+    (λ j. rows_at (m.keys j) (list j)) ∙ rows_changed i.stations.keys i.stations.list name change c.args.index at within ∙ ap (λ (x : Stations). at_queue name change (rows_in x)) c.self.view_is
