@@ -316,24 +316,14 @@ impl Lane {
         }
     }
 
-    /// How many rows are of lower places. The row behind the first `low` is looked at first.
-    fn rank(&self, low: usize, place: u64) -> usize
-        ensures { result ≡ length (filter (is_below place) self.now.rows) }
-    {
-        match self.get(low) {
-            Some(row) if row.place == place => low,
-            _ => self.below(place),
-        }
-    }
-
-    /// Where the row at that place stands, where there is one, in this lane, whose index is `lane`. The first row that waits is
-    /// looked at first; any other is looked for by halves.
-    pub fn spot_of(&self, lane: usize, place: u64) -> Option<Spot>
+    /// Where the row at that place stands, where there is one, in this lane, whose index is `lane`. It is looked for by halves.
+    /// None of the first `low` rows waits.
+    fn spot_by_halves(&self, lane: usize, low: usize, place: u64) -> Option<Spot>
+        requires { All (λ r. is_waiting r ≡ false) (take low self.now.rows) }
         ensures row { row_of result ≡ find (is_at place) self.now.rows }
         ensures spot { IfSome result (λ (s : Spot). (s.lane ≡ lane) × (s.row.place ≡ place) × StandsIn self.now.rows s) }
     {
-        let low = self.first_waiting();
-        let index = self.rank(low, place);
+        let index = self.below(place);
         let row = self.get(index)?;
         if row.place != place {
             return None;
@@ -344,6 +334,24 @@ impl Lane {
             index,
             row,
         })
+    }
+
+    /// Where the row at that place stands, where there is one, in this lane, whose index is `lane`. The first row that waits is
+    /// looked at first.
+    pub fn spot_of(&self, lane: usize, place: u64) -> Option<Spot>
+        ensures row { row_of result ≡ find (is_at place) self.now.rows }
+        ensures spot { IfSome result (λ (s : Spot). (s.lane ≡ lane) × (s.row.place ≡ place) × StandsIn self.now.rows s) }
+    {
+        let low = self.first_waiting();
+        match self.get(low) {
+            Some(row) if row.place == place => Some(Spot {
+                lane,
+                low,
+                index: low,
+                row,
+            }),
+            _ => self.spot_by_halves(lane, low, place),
+        }
     }
 
     /// Sends the row that stands there out to the session through its consumer, and returns it as it is then.

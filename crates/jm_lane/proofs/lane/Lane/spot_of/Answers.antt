@@ -1,37 +1,29 @@
-use Rattle.std.proofs.Common.{◌≡◌, ◌∙◌, ap, arith, sym, refl, cond, Some, None}
-use Rattle.std.specs.List.{find, slice_get}
-use Rattle.std.proofs.lemmas.Bool.{eq-eqb, ne_eqb}
+use Rattle.std.proofs.Common.{◌≡◌, ◌∙◌, ap, arith, length, sym, cond, get_or, refl, Some, None}
+use Rattle.std.specs.List.{filter, slice_get}
+use Rattle.std.proofs.lemmas.Bool.{eq-eqb}
+use Rattle.std.proofs.lemmas.Option.{get_or_from_slice_get, slice_get_within}
 use Rattle.jm_lane.specs.declared.row.Row.{Row}
-use Rattle.jm_lane.specs.Chosen.{row_of}
-use Rattle.jm_lane.specs.Lanes.{is_at}
-use Rattle.jm_lane.proofs.Ranks.{found_at, kept_at}
+use Rattle.jm_lane.specs.Lanes.{is_below}
+use Rattle.jm_lane.proofs.Ranks.{found_at, kept_at, rank_at}
 use Rattle.jm_lane.proofs.Spots.{stands_at}
 use Rattle.jm_lane.proofs.lane.Lane.spot_of.Goals as goal
 
-pub returns-in_err-row-clause-row : goal.returns-in_err-row-clause-row
-returns-in_err-row-clause-row c =
+pub returns-in-Some-clause-row : goal.returns-in-Some-clause-row
+returns-in-Some-clause-row c =
     let rows = c.args.self.now.rows in
-    let found : find (is_at c.args.place) rows ≡ kept_at c.args.place c.get.result = found_at c.args.place rows c.get.ensures.rising ∙ ap (λ n. kept_at c.args.place (slice_get rows n)) (sym c.rank-index.ensures) ∙ ap (kept_at c.args.place) (sym c.get.ensures.row) in
-    ap row_of c.from_residual.ensures ∙ sym (found ∙ ap (kept_at c.args.place) c.in_err-row.was)
+    let row : Row = c.in-Some.row in
+    let low = c.first_waiting-low.result in
+    let at : slice_get rows low ≡ Some row = sym c.get.ensures.row ∙ c.in-Some.is in
+    let place : row.place ≡ c.args.place = c.if-row-place.true in
+    let here : (get_or rows low row).place ≡ c.args.place = ap (λ (r : Row). r.place) (get_or_from_slice_get rows low row row at) ∙ place in
+    let rank : length (filter (is_below c.args.place) rows) ≡ low = ap (λ n. length (filter (is_below n) rows)) (sym here) ∙ rank_at rows low row c.get.ensures.rising (slice_get_within rows low row at) in
+    sym (found_at c.args.place rows c.get.ensures.rising ∙ ap (λ n. kept_at c.args.place (slice_get rows n)) rank ∙ ap (kept_at c.args.place) at ∙ ap (λ b. cond b (Some row) None) (eq-eqb row.place c.args.place place))
 
-pub returns-then-row-place-clause-row : goal.returns-then-row-place-clause-row
-returns-then-row-place-clause-row c =
-    let rows = c.args.self.now.rows in
-    let row : Row = c.in_ok-row.row in
-    let found : find (is_at c.args.place) rows ≡ kept_at c.args.place c.get.result = found_at c.args.place rows c.get.ensures.rising ∙ ap (λ n. kept_at c.args.place (slice_get rows n)) (sym c.rank-index.ensures) ∙ ap (kept_at c.args.place) (sym c.get.ensures.row) in
-    sym (found ∙ ap (kept_at c.args.place) c.in_ok-row.was ∙ ap (λ b. cond b (Some row) None) (ne_eqb row.place c.args.place c.if-row-place.true))
-
-pub returns-clause-row : goal.returns-clause-row
-returns-clause-row c =
-    let rows = c.args.self.now.rows in
-    let row : Row = c.in_ok-row.row in
-    let found : find (is_at c.args.place) rows ≡ kept_at c.args.place c.get.result = found_at c.args.place rows c.get.ensures.rising ∙ ap (λ n. kept_at c.args.place (slice_get rows n)) (sym c.rank-index.ensures) ∙ ap (kept_at c.args.place) (sym c.get.ensures.row) in
-    sym (found ∙ ap (kept_at c.args.place) c.in_ok-row.was ∙ ap (λ b. cond b (Some row) None) (eq-eqb row.place c.args.place c.if-row-place.false))
-
-pub returns-clause-spot : goal.returns-clause-spot
-returns-clause-spot c =
-    let row : Row = c.in_ok-row.row in (
+pub returns-in-Some-clause-spot : goal.returns-in-Some-clause-spot
+returns-in-Some-clause-spot c =
+    let row : Row = c.in-Some.row in
+    let low = c.first_waiting-low.result in (
       refl,
-      c.if-row-place.false,
-      stands_at c.args.self.now.rows c.args.lane c.first_waiting-low.result c.min.result c.rank-index.result row (sym c.get.ensures.row ∙ c.in_ok-row.was) (omega (arith, c.min.ensures)) (omega (arith, c.min.ensures)) c.first_waiting-low.ensures.before,
+      c.if-row-place.true,
+      stands_at c.args.self.now.rows c.args.lane low low low row (sym c.get.ensures.row ∙ c.in-Some.is) (omega arith) (omega arith) c.first_waiting-low.ensures.before,
     )
