@@ -338,10 +338,9 @@ impl Held {
         ensures table { Follows table.old table.new self.old.rows self.new.rows }
         ensures rising { spec.IsRising self.old.rows }
     {
-        if self.is_empty() {
-            return;
+        if !self.is_empty() {
+            self.count = self.lanes.drop_expired(table, now);
         }
-        self.count = self.lanes.drop_expired(table, now);
     }
 
     /// The rows that are out through one of those consumers go. Where it is known that none is, no row is looked at.

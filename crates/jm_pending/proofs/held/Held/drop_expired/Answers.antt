@@ -22,18 +22,18 @@ invariant_of-self c =
       c.drop_expired-self-inside.ensures.left ∙ sym (length_shown c.drop_expired-self-inside.new.self),
     )
 
-pub returns-clause-rows : goal.returns-clause-rows
-returns-clause-rows c =
+pub returns-then-not-is_empty-clause-rows : goal.returns-then-not-is_empty-clause-rows
+returns-then-not-is_empty-clause-rows c =
     rw (← c.self.view_is, (held_filter (stays c.args.now) c.self.inside.lanes c.drop_expired-self-inside.new.self c.self.inside.room c.self.invariant.0 c.drop_expired-self-inside.ensures.rows).1) refl
 
-pub returns-clause-table : goal.returns-clause-table
-returns-clause-table c =
+pub returns-then-not-is_empty-clause-table : goal.returns-then-not-is_empty-clause-table
+returns-then-not-is_empty-clause-table c =
     rw (← c.self.view_is) (follows_all c.args.table.now c.drop_expired-self-inside.new.table c.self.inside.lanes c.drop_expired-self-inside.new.self c.drop_expired-self-inside.ensures.table)
 
-pub returns-then-is_empty-clause-rows : goal.returns-then-is_empty-clause-rows
-returns-then-is_empty-clause-rows c =
-    let none = rw (← c.self.view_is) at (c.is_empty.ensures c.if-is_empty.true) in
+pub returns-else-not-is_empty-clause-rows : goal.returns-else-not-is_empty-clause-rows
+returns-else-not-is_empty-clause-rows c =
+    let none = rw (← c.self.view_is) at (c.is_empty.ensures c.if-not-is_empty.false) in
     rw (← c.self.view_is, none) refl
 
-pub returns-then-is_empty-clause-table : goal.returns-then-is_empty-clause-table
-returns-then-is_empty-clause-table c = follows_still _ _ _ refl
+pub returns-else-not-is_empty-clause-table : goal.returns-else-not-is_empty-clause-table
+returns-else-not-is_empty-clause-table c = follows_still _ _ _ refl
