@@ -8,7 +8,7 @@ use Rattle.jm_machine.specs.Rows.{InOrder}
 use Rattle.jm_keep.specs.Persisted.{is_persistent, row_at}
 use Rattle.jm_keep_law.proofs.Placed.{none_at}
 use Rattle.jm_changes.specs.declared.planned.Standing.{Standing}
-use Rattle.jm_changes.specs.Standing.{first_where, standing}
+use Rattle.jm_changes.specs.Standing.{first_where, standing, taken_row}
 use Rattle.jm_keep.specs.Steps.{passes}
 
 and_false : (a : Bool) → (a && false) ≡ false
@@ -139,3 +139,36 @@ stands_off q n place rows r o e h = go (r.place == place) refl
     go : (b : Bool) → (r.place == place) ≡ b → (r.place == place) ≡ passes q (row_at place rows)
     go true f = absurd (let same : r.place ≡ place = grind (arith, nat_tests) in h same)
     go false f = f ∙ sym (ap (λ b. b && r.is_persistent) f) ∙ stands_here q n place rows r o e
+
+-- ---- the row at the place that is taken
+
+-- the row that is read there stands at its place
+pub taken_stands : (taken : Option ℕ) (n : ℕ) (rows : List PlacedRow) (x : PlacedRow) → InOrder n rows → taken_row taken rows ≡ Some x → row_at x.place rows ≡ Some x.row
+taken_stands None n rows x o e = cc
+taken_stands (Some place) n rows x o e = let i = is_first (λ r. true) n place rows x o e in i.there
+
+abbrev placed : ℕ → Row → PlacedRow
+placed place row = record { place = place; row = row }
+
+same_row : (x y : PlacedRow) → x.place ≡ y.place → x.row ≡ y.row → x ≡ y
+same_row x y p r = ap (λ (place : ℕ). placed place x.row) p ∙ ap (λ (row : Row). placed y.place row) r
+
+-- a row that stands at its place is the first from there on
+pub first_at : (n : ℕ) (rows : List PlacedRow) (x : PlacedRow) → InOrder n rows → row_at x.place rows ≡ Some x.row → first_where (λ r. true) x.place rows ≡ Some x
+first_at n [] x o e = cc
+first_at n (y ∷ rows) x o e = go (y.place == x.place) refl e (first_at n rows x o.2)
+  where
+    own : Some y.row ≡ Some x.row → y.row ≡ x.row
+    own e = cc
+
+    go : (b : Bool) → (y.place == x.place) ≡ b → cond b (Some y.row) (row_at x.place rows) ≡ Some x.row → (row_at x.place rows ≡ Some x.row → first_where (λ r. true) x.place rows ≡ Some x)
+        → cond (nat_le x.place y.place && true) (Some y) (first_where (λ r. true) x.place rows) ≡ Some x
+    go true f e r =
+        let same : y.place ≡ x.place = grind (arith, nat_tests) in
+        let here : nat_le x.place y.place ≡ true = grind (arith, nat_tests) in
+        ap (λ b. cond (b && true) (Some y) (first_where (λ r. true) x.place rows)) here ∙ ap (λ (z : PlacedRow). Some z) (same_row y x same (own e))
+    go false f e r = below (nat_le x.place y.place) refl
+      where
+        below : (b : Bool) → nat_le x.place y.place ≡ b → cond (nat_le x.place y.place && true) (Some y) (first_where (λ r. true) x.place rows) ≡ Some x
+        below true g = absurd (let none : row_at x.place rows ≡ None = none_at x.place y.place (grind (arith, nat_tests)) rows o.1 in let some : Some x.row ≡ None = sym e ∙ none in cc)
+        below false g = ap (λ b. cond (b && true) (Some y) (first_where (λ r. true) x.place rows)) g ∙ r e

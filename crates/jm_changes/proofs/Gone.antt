@@ -17,9 +17,8 @@ use Rattle.jm_machine.proofs.Keys.{key_same, key_refl}
 use Rattle.jm_keep.specs.Stored.{is_at}
 use Rattle.jm_keep.specs.Leads.{AreDelays, AreLast, is_among, is_one_of}
 use Rattle.jm_keep.specs.Persisted.{StoredRow, if_stored, is_lasting, is_persistent, row_at, rows_under, shown, stored_row}
-use Rattle.jm_keep.specs.Steps.{AreGone, StandsInOrder, all_under, is_place_of, lapsed_under, next_under, out_through, out_under, passes, taken_under}
+use Rattle.jm_keep.specs.Steps.{AreGone, all_under, is_place_of, lapsed_under, next_under, out_through, out_under, passes, taken_under}
 use Rattle.jm_changes.specs.Standing.{AreMet, AreOf, Covers, key_in, stays}
-use Rattle.jm_changes.proofs.Placed.{next_at}
 
 -- ---- rows that are stored, and stay or go
 
@@ -206,17 +205,17 @@ taken_stored now place x under t p = go (x.place == place) refl
 pub takes_nothing : (now : ℕ) (k : Key) (next : Option PlacedRow) (state : State) (rows : List (Key × ℕ)) → next ≡ None → AreOf k (λ place. has_lapsed now) state rows → AreOf k (λ place r. has_lapsed now r || is_place_of next place) state rows
 takes_nothing now k next state rows e a key place = a key place ∙ ap (λ b. key_eq k key && b) (sym (ap (λ n. passes (λ r. has_lapsed now r || is_place_of n place) (row_at place (rows_under state k))) e ∙ taken_none now place (row_at place (rows_under state k))))
 
-pub takes_unstored : (p : Content → Bool) (now : ℕ) (k : Key) (state : State) (x : PlacedRow) (rows : List (Key × ℕ)) → StandsInOrder state → next_under p now k (rows_under state k) ≡ Some x → is_persistent x.row.message.mode ≡ false →
-    AreOf k (λ place. has_lapsed now) state rows → AreOf k (λ place r. has_lapsed now r || is_place_of (next_under p now k (rows_under state k)) place) state rows
-takes_unstored p now k state x rows o e f a key place = a key place ∙ ap (λ b. key_eq k key && b) (sym (ap (λ n. passes (λ r. has_lapsed now r || is_place_of n place) (row_at place (rows_under state k))) e ∙ taken_unstored now place x (rows_under state k) (next_at p now k state x o e) f))
+pub takes_unstored : (now : ℕ) (k : Key) (next : Option PlacedRow) (state : State) (x : PlacedRow) (rows : List (Key × ℕ)) → row_at x.place (rows_under state k) ≡ Some x.row → next ≡ Some x → is_persistent x.row.message.mode ≡ false →
+    AreOf k (λ place. has_lapsed now) state rows → AreOf k (λ place r. has_lapsed now r || is_place_of next place) state rows
+takes_unstored now k next state x rows t e f a key place = a key place ∙ ap (λ b. key_eq k key && b) (sym (ap (λ n. passes (λ r. has_lapsed now r || is_place_of n place) (row_at place (rows_under state k))) e ∙ taken_unstored now place x (rows_under state k) t f))
 
-pub takes_stored : (p : Content → Bool) (now : ℕ) (k : Key) (state : State) (x : PlacedRow) (rows : List (Key × ℕ)) → StandsInOrder state → next_under p now k (rows_under state k) ≡ Some x → is_persistent x.row.message.mode ≡ true →
-    AreOf k (λ place. has_lapsed now) state rows → AreOf k (λ place r. has_lapsed now r || is_place_of (next_under p now k (rows_under state k)) place) state (rows ++ (k, x.place) ∷ [])
-takes_stored p now k state x rows o e f a key place =
+pub takes_stored : (now : ℕ) (k : Key) (next : Option PlacedRow) (state : State) (x : PlacedRow) (rows : List (Key × ℕ)) → row_at x.place (rows_under state k) ≡ Some x.row → next ≡ Some x → is_persistent x.row.message.mode ≡ true →
+    AreOf k (λ place. has_lapsed now) state rows → AreOf k (λ place r. has_lapsed now r || is_place_of next place) state (rows ++ (k, x.place) ∷ [])
+takes_stored now k next state x rows t e f a key place =
     list_any-append (λ y. is_at y.0 y.1 key place) rows ((k, x.place) ∷ [])
     ∙ ap (λ b. b || ((key_eq k key && (x.place == place)) || false)) (a key place)
     ∙ joins (key_eq k key) (passes (has_lapsed now) (row_at place (rows_under state k))) (x.place == place)
-    ∙ ap (λ b. key_eq k key && b) (sym (ap (λ n. passes (λ r. has_lapsed now r || is_place_of n place) (row_at place (rows_under state k))) e ∙ taken_stored now place x (rows_under state k) (next_at p now k state x o e) f))
+    ∙ ap (λ b. key_eq k key && b) (sym (ap (λ n. passes (λ r. has_lapsed now r || is_place_of n place) (row_at place (rows_under state k))) e ∙ taken_stored now place x (rows_under state k) t f))
   where
     joins : (a l e : Bool) → ((a && l) || ((a && e) || false)) ≡ (a && (l || e))
     joins true true e = refl

@@ -18,12 +18,14 @@ use Rattle.jm_keep.specs.Calls.{AreDelivered, AreDone, AreSubscribed, DropsThen}
 use Rattle.jm_keep.specs.Leads.{drops, is_one_of}
 use Rattle.jm_keep.specs.Persisted.{is_lasting, row_at, rows_under}
 use Rattle.jm_keep.specs.Steps.{AreGone, StandsInOrder, all_under, counted, is_place_of, lapsed_under, next_under, out_under, passes, taken_under}
+use Rattle.jm_keep_law.proofs.Published.{under_in_order}
 use Rattle.jm_changes.specs.declared.planned.Standing.{Standing}
 use Rattle.jm_changes.specs.Planned.{IsDecided}
-use Rattle.jm_changes.specs.Standing.{AreMet, AreOf, IsRead, standing}
+use Rattle.jm_changes.specs.Standing.{AreMet, AreOf, IsRead, standing, taken_row}
 use Rattle.jm_changes.specs.Subscriptions.{ArePut}
+use Rattle.jm_changes.proofs.First.{taken_stands}
 use Rattle.jm_changes.proofs.Gone.{all_gone, held_gone, lapsed_gone, met_none, next_none, none_of, taken_gone, takes_nothing, takes_stored, takes_unstored}
-use Rattle.jm_changes.proofs.Placed.{next_at}
+use Rattle.jm_changes.proofs.Placed.{taken_next}
 
 pub drops_then : (goes : Key → ℕ → Row → Bool) (state : State) (rows : List (Key × ℕ)) (delays gone : List ℕ) (others changes : List RowChange) → AreGone goes state rows delays gone → changes ≡ drops rows delays gone ++ others → DropsThen goes state others changes
 drops_then goes state rows delays gone others changes a e = record { rows = rows; delays = delays; places = gone; are_gone = a; changes_are = e }
@@ -52,11 +54,15 @@ none_found : (o : Option PlacedRow) → option_map standing o ≡ None → o ≡
 none_found None e = refl
 none_found (Some x) e = cc
 
+-- it stands at its place
+taken_at : (taken : Option ℕ) (k : Key) (state : State) (x : PlacedRow) → StandsInOrder state → taken_row taken (rows_under state k) ≡ Some x → row_at x.place (rows_under state k) ≡ Some x.row
+taken_at taken k state x o e = taken_stands taken state.next_place (rows_under state k) x (under_in_order state o k) e
+
 -- what was read of it tells whether its message has a delay
-pub next_read : (p : Content → Bool) (now : ℕ) (k : Key) (state : State) (r : Standing) → StandsInOrder state → option_map standing (next_under p now k (rows_under state k)) ≡ Some r → IsRead state k r
-next_read p now k state r o e =
-    let x = found (next_under p now k (rows_under state k)) r e in
-    subst (λ s. IsRead state k s) x.2 (subst (λ row. IfSome row (λ y. is_delayed x.0.row.message ≡ is_delayed y.message)) (sym (next_at p now k state x.0 o x.1)) refl)
+pub taken_read : (taken : Option ℕ) (k : Key) (state : State) (r : Standing) → StandsInOrder state → option_map standing (taken_row taken (rows_under state k)) ≡ Some r → IsRead state k r
+taken_read taken k state r o e =
+    let x = found (taken_row taken (rows_under state k)) r e in
+    subst (λ s. IsRead state k s) x.2 (subst (λ row. IfSome row (λ y. is_delayed x.0.row.message ≡ is_delayed y.message)) (sym (taken_at taken k state x.0 o x.1)) refl)
 
 pub counted_none : (k : Key) (o : Option PlacedRow) → option_map standing o ≡ None → counted k o ≡ []
 counted_none k o e = ap (counted k) (none_found o e)
@@ -74,23 +80,23 @@ counted_unstored k o r e p =
     ap (counted k) f.1
     ∙ ap (λ b. cond b (SetCount k f.0.place (raised f.0.row.count) ∷ []) []) (ap (λ s. s.is_persistent) f.2 ∙ p)
 
--- what such a delivery loses: nothing is next
-pub takes_none : (p : Content → Bool) (now : ℕ) (k : Key) (state : State) (rows : List (Key × ℕ)) (delays gone : List ℕ) → is_lasting k ≡ true → option_map standing (next_under p now k (rows_under state k)) ≡ None → AreOf k (λ place. has_lapsed now) state rows → AreMet (λ key r. key_eq k key) state rows delays gone → AreGone (taken_under k now (next_under p now k (rows_under state k))) state rows delays gone
-takes_none p now k state rows delays gone l e a m = taken_gone k now (next_under p now k (rows_under state k)) state rows delays gone l (takes_nothing now k (next_under p now k (rows_under state k)) state rows (none_found _ e) a) m
+-- what such a delivery loses: nothing is taken
+pub takes_none : (taken : Option ℕ) (now : ℕ) (k : Key) (state : State) (rows : List (Key × ℕ)) (delays gone : List ℕ) → is_lasting k ≡ true → option_map standing (taken_row taken (rows_under state k)) ≡ None → AreOf k (λ place. has_lapsed now) state rows → AreMet (λ key r. key_eq k key) state rows delays gone → AreGone (taken_under k now (taken_row taken (rows_under state k))) state rows delays gone
+takes_none taken now k state rows delays gone l e a m = taken_gone k now (taken_row taken (rows_under state k)) state rows delays gone l (takes_nothing now k (taken_row taken (rows_under state k)) state rows (none_found _ e) a) m
 
 -- or one that is not stored
-pub takes_other : (p : Content → Bool) (now : ℕ) (k : Key) (state : State) (r : Standing) (rows : List (Key × ℕ)) (delays gone : List ℕ) → StandsInOrder state → is_lasting k ≡ true → option_map standing (next_under p now k (rows_under state k)) ≡ Some r → r.is_persistent ≡ false → AreOf k (λ place. has_lapsed now) state rows → AreMet (λ key r. key_eq k key) state rows delays gone → AreGone (taken_under k now (next_under p now k (rows_under state k))) state rows delays gone
-takes_other p now k state r rows delays gone o l e f a m =
-    let x = found (next_under p now k (rows_under state k)) r e in
-    taken_gone k now (next_under p now k (rows_under state k)) state rows delays gone l (takes_unstored p now k state x.0 rows o x.1 (ap (λ s. s.is_persistent) x.2 ∙ f) a) m
+pub takes_other : (taken : Option ℕ) (now : ℕ) (k : Key) (state : State) (r : Standing) (rows : List (Key × ℕ)) (delays gone : List ℕ) → StandsInOrder state → is_lasting k ≡ true → option_map standing (taken_row taken (rows_under state k)) ≡ Some r → r.is_persistent ≡ false → AreOf k (λ place. has_lapsed now) state rows → AreMet (λ key r. key_eq k key) state rows delays gone → AreGone (taken_under k now (taken_row taken (rows_under state k))) state rows delays gone
+takes_other taken now k state r rows delays gone o l e f a m =
+    let x = found (taken_row taken (rows_under state k)) r e in
+    taken_gone k now (taken_row taken (rows_under state k)) state rows delays gone l (takes_unstored now k (taken_row taken (rows_under state k)) state x.0 rows (taken_at taken k state x.0 o x.1) x.1 (ap (λ s. s.is_persistent) x.2 ∙ f) a) m
 
 -- or one that is, and goes too
-pub takes_one : (p : Content → Bool) (now : ℕ) (k : Key) (state : State) (r : Standing) (rows new : List (Key × ℕ)) (delays gone : List ℕ) → StandsInOrder state → is_lasting k ≡ true → option_map standing (next_under p now k (rows_under state k)) ≡ Some r → r.is_persistent ≡ true → AreOf k (λ place. has_lapsed now) state rows → new ≡ rows ++ (k, r.place) ∷ [] → AreMet (λ key r. key_eq k key) state new delays gone → AreGone (taken_under k now (next_under p now k (rows_under state k))) state new delays gone
-takes_one p now k state r rows new delays gone o l e f a n m =
-    let x = found (next_under p now k (rows_under state k)) r e in
+pub takes_one : (taken : Option ℕ) (now : ℕ) (k : Key) (state : State) (r : Standing) (rows new : List (Key × ℕ)) (delays gone : List ℕ) → StandsInOrder state → is_lasting k ≡ true → option_map standing (taken_row taken (rows_under state k)) ≡ Some r → r.is_persistent ≡ true → AreOf k (λ place. has_lapsed now) state rows → new ≡ rows ++ (k, r.place) ∷ [] → AreMet (λ key r. key_eq k key) state new delays gone → AreGone (taken_under k now (taken_row taken (rows_under state k))) state new delays gone
+takes_one taken now k state r rows new delays gone o l e f a n m =
+    let x = found (taken_row taken (rows_under state k)) r e in
     let is : new ≡ rows ++ (k, x.0.place) ∷ [] = n ∙ ap (λ s. rows ++ (k, s.place) ∷ []) (sym x.2) in
-    taken_gone k now (next_under p now k (rows_under state k)) state new delays gone l
-    (subst (λ rows. AreOf k (λ place r. has_lapsed now r || is_place_of (next_under p now k (rows_under state k)) place) state rows) (sym is) (takes_stored p now k state x.0 rows o x.1 (ap (λ s. s.is_persistent) x.2 ∙ f) a)) m
+    taken_gone k now (taken_row taken (rows_under state k)) state new delays gone l
+    (subst (λ rows. AreOf k (λ place r. has_lapsed now r || is_place_of (taken_row taken (rows_under state k)) place) state rows) (sym is) (takes_stored now k (taken_row taken (rows_under state k)) state x.0 rows (taken_at taken k state x.0 o x.1) x.1 (ap (λ s. s.is_persistent) x.2 ∙ f) a)) m
 
 -- ---- a delivery
 
@@ -124,6 +130,19 @@ delivers_nothing mode p now k state changes l e z = go (settles_at_once mode) re
     go false s = delivers_later mode p now k state changes l s
         (drops_then (lapsed_under k now) state [] [] [] (counted k (next_under p now k (rows_under state k))) changes
         (lapsed_gone k now state [] [] [] l (none_of k (λ place. has_lapsed now) state e) (met_none (λ key r. key_eq k key) state)) (z ∙ sym (ap (counted k) none)))
+
+-- under a key that was found the row at the planned place is the one that is taken
+pub received_there : (mode : Option Mode) (p : Content → Bool) (now : ℕ) (taken : Option ℕ) (k key : Key) (state : State) (changes : List RowChange) → StandsInOrder state → taken ≡ option_map (λ (r : PlacedRow). r.place) (next_under p now key (rows_under state key)) → k ≡ key → is_lasting key ≡ true → settles_at_once mode ≡ true →
+    DropsThen (taken_under k now (taken_row taken (rows_under state k))) state [] changes → AreDelivered mode p now key state changes
+received_there mode p now taken k key state changes o t e l s d =
+    delivers_at_once mode p now key state changes l s
+    (subst (λ next. DropsThen (taken_under key now next) state [] changes) (taken_next p now key state taken o t) (subst (λ k. DropsThen (taken_under k now (taken_row taken (rows_under state k))) state [] changes) e d))
+
+pub sent_there : (mode : Option Mode) (p : Content → Bool) (now : ℕ) (taken : Option ℕ) (k key : Key) (state : State) (changes : List RowChange) → StandsInOrder state → taken ≡ option_map (λ (r : PlacedRow). r.place) (next_under p now key (rows_under state key)) → k ≡ key → is_lasting key ≡ true → settles_at_once mode ≡ false →
+    DropsThen (lapsed_under k now) state (counted k (taken_row taken (rows_under state k))) changes → AreDelivered mode p now key state changes
+sent_there mode p now taken k key state changes o t e l s d =
+    delivers_later mode p now key state changes l s
+    (subst (λ next. DropsThen (lapsed_under key now) state (counted key next) changes) (taken_next p now key state taken o t) (subst (λ k. DropsThen (lapsed_under k now) state (counted k (taken_row taken (rows_under state k))) changes) e d))
 
 -- ---- a listener that is done
 

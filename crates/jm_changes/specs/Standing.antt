@@ -27,6 +27,11 @@ meant (Out which) r = is_out (are_meant which) r
 abbrev pub first_where : (Row → Bool) → ℕ → List PlacedRow → Option PlacedRow
 first_where q place rows = find (λ x. nat_le place x.place && q x.row) rows
 
+-- the row at the place that a delivery takes: the first from there on
+abbrev pub taken_row : Option ℕ → List PlacedRow → Option PlacedRow
+taken_row None rows = None
+taken_row (Some place) rows = first_where (λ r. true) place rows
+
 -- what is read of a row
 abbrev pub standing : PlacedRow → Standing
 standing x = record { place = x.place; count = x.row.count; is_persistent = is_persistent x.row.message.mode; is_delayed = is_delayed x.row.message }

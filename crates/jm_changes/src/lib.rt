@@ -7,8 +7,9 @@
 //!
 //! It reads the step and what is held before it through the trait `Planned`: the keys of subscriptions and queues by
 //! index, the first row by place from a place on that is meant (any, one that has lapsed, one that is out through
-//! given consumers), the row that a delivery takes, a session's mode and consumer, the keys that take each message,
-//! and which subscription was planned to be put or deleted.
+//! given consumers), a session's mode and consumer, the keys that take each message, which subscription was planned to
+//! be put or deleted, and the place of the row that was planned to be taken. A delivery's row is read at that place:
+//! no message selector is asked.
 //!
 //! Rows go before their messages, a delivery time directly before its message, and messages and stations come before
 //! their rows, a delivery time directly after its message; whether a message is delayed is read with its row

@@ -11,7 +11,7 @@ ghost use Rattle.jm_machine.specs.Machine.{consumer_of, definition_of, key_at, p
 ghost use Rattle.jm_keep.specs.Calls.{AreChanges, AreCommitted, AreReceived, AreRequested, AreSubscribed};
 ghost use Rattle.jm_keep.specs.Persisted.{LeadsTo, is_lasting as lasts};
 ghost use Rattle.jm_keep.specs.Steps.{StandsInOrder};
-ghost use Rattle.jm_changes.specs.Planned.{IsDecided, IsPlannedCall, IsPlannedRequest};
+ghost use Rattle.jm_changes.specs.Planned.{IsDecided, IsPlannedCall, IsPlannedRequest, IsTaken};
 
 use crate::planned::Planned;
 use crate::sending::published;
@@ -33,7 +33,8 @@ fn delivered_to<P: Planned>(
     mode: Option<Mode>,
     now: Moment,
 ) -> Result<Vec<RowChange>, AllocError>
-    requires { StandsInOrder (P.state planned.now) }
+    requires order { StandsInOrder (P.state planned.now) }
+    requires taken { IsTaken (P.state planned.now) session.now id now (P.takes planned.now) }
     ensures { IfOk result (λ changes. MatchBool (started (P.state planned.now).life session.now.connection)
         (AreReceived mode (selected_by (consumer_of (P.state planned.now).consumers session.now id)) now (key_at (consumer_of (P.state planned.now).consumers session.now id)) (P.state planned.now) changes.items)
         (changes.items ≡ [])) }
@@ -55,7 +56,8 @@ fn received<P: Planned>(
     id: ConsumerId,
     now: Moment,
 ) -> Result<Vec<RowChange>, AllocError>
-    requires { StandsInOrder (P.state planned.now) }
+    requires order { StandsInOrder (P.state planned.now) }
+    requires taken { IsTaken (P.state planned.now) session.now id now (P.takes planned.now) }
     ensures { IfOk result (λ changes. AreRequested (P.state planned.now) session.now (Receive id now) changes.items) }
 {
     delivered_to(alloc, planned, session, id, planned.mode_of(session), now)
@@ -69,7 +71,8 @@ fn taken<P: Planned>(
     id: ConsumerId,
     now: Moment,
 ) -> Result<Vec<RowChange>, AllocError>
-    requires { StandsInOrder (P.state planned.now) }
+    requires order { StandsInOrder (P.state planned.now) }
+    requires taken { IsTaken (P.state planned.now) session.now id now (P.takes planned.now) }
     ensures { IfOk result (λ changes. AreRequested (P.state planned.now) session.now (Take id now) changes.items) }
 {
     delivered_to(alloc, planned, session, id, Some(Mode::Client), now)
@@ -116,7 +119,7 @@ fn acknowledged<P: Planned>(
 /// What it changes that the durable subscription is deleted that was planned to be.
 fn unsubscribed<P: Planned>(alloc: Global, planned: &P) -> Result<Vec<RowChange>, AllocError>
     requires { StandsInOrder (P.state planned.now) }
-    ensures { (s : SessionShown) (name : List ℕ) → IsPlannedRequest (P.state planned.now) s (Unsubscribe name) (P.deletes planned.now) (P.puts planned.now) →
+    ensures { (s : SessionShown) (name : List ℕ) → IsPlannedRequest (P.state planned.now) s (Unsubscribe name) (P.deletes planned.now) (P.puts planned.now) (P.takes planned.now) →
         IfOk result (λ changes. AreRequested (P.state planned.now) s (Unsubscribe name) changes.items) }
 {
     match planned.deleted() {
@@ -145,7 +148,7 @@ fn requested<P: Planned>(
     request: &Request,
 ) -> Result<Vec<RowChange>, AllocError>
     requires order { StandsInOrder (P.state planned.now) }
-    requires planned { IsPlannedRequest (P.state planned.now) session.now request.now (P.deletes planned.now) (P.puts planned.now) }
+    requires planned { IsPlannedRequest (P.state planned.now) session.now request.now (P.deletes planned.now) (P.puts planned.now) (P.takes planned.now) }
     ensures { IfOk result (λ changes. AreRequested (P.state planned.now) session.now request.now changes.items) }
 {
     match request {
@@ -181,7 +184,7 @@ fn committed<P: Planned>(
 /// What the planned step asks for, call by call.
 fn listed<P: Planned>(alloc: Global, planned: &P, step: &Step) -> Result<Vec<RowChange>, AllocError>
     requires order { StandsInOrder (P.state planned.now) }
-    requires planned { IsPlannedCall (P.state planned.now) step.now.who step.now.call (P.deletes planned.now) (P.puts planned.now) (P.messages planned.now) }
+    requires planned { IsPlannedCall (P.state planned.now) step.now.who step.now.call (P.deletes planned.now) (P.puts planned.now) (P.takes planned.now) (P.messages planned.now) }
     ensures { IfOk result (λ changes. AreChanges (P.state planned.now) step.now.who step.now.call changes.items) }
 {
     match step.who {
@@ -207,7 +210,7 @@ pub fn changes<P: Planned>(
     step: &Step,
 ) -> Result<Vec<RowChange>, AllocError>
     requires order { StandsInOrder (P.state planned.now) }
-    requires planned { IsPlannedCall (P.state planned.now) step.now.who step.now.call (P.deletes planned.now) (P.puts planned.now) (P.messages planned.now) }
+    requires planned { IsPlannedCall (P.state planned.now) step.now.who step.now.call (P.deletes planned.now) (P.puts planned.now) (P.takes planned.now) (P.messages planned.now) }
     ensures listed { IfOk result (λ changes. AreChanges (P.state planned.now) step.now.who step.now.call changes.items) }
     ensures leads { IsOk (reply (P.state planned.now) step.now.who step.now.call) → IfOk result (λ changes.
         LeadsTo (P.state planned.now) (machine.step (P.state planned.now) step.now.who step.now.call) changes.items) }

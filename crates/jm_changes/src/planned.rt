@@ -11,7 +11,6 @@ ghost use Rattle.jm_machine.specs.Machine as machine;
 ghost use Rattle.jm_machine.specs.Machine.{State};
 ghost use Rattle.jm_keep.specs.Calls.{AreTakers};
 ghost use Rattle.jm_keep.specs.Persisted.{rows_under};
-ghost use Rattle.jm_keep.specs.Steps.{next_under};
 ghost use Rattle.jm_changes.specs.Standing.{Covers, IsIndexOf, first_where, key_in, meant, standing};
 
 use jm_base::Mode;
@@ -51,6 +50,8 @@ pub trait Planned {
     ghost deletes: { Self → Option KeyShown };
     /// The key of the durable subscription that is put, and what it asks for.
     ghost puts: { Self → Option (KeyShown × DefinitionShown) };
+    /// The place of the row that the delivery takes, where the step delivers one.
+    ghost takes: { Self → Option ℕ };
 
     /// How many keys there are. Each under which rows stand is one of them.
     fn len(&self) -> usize
@@ -71,13 +72,6 @@ pub trait Planned {
         requires within { index < length (keys self.now) }
         requires place { place ≤ long_end }
         ensures row { result ≡ option_map standing (first_where (meant which.now) place (rows_under (state self.now) (key_in (keys self.now) index))) }
-        ensures place { IfSome result (λ r. r.place < long_end) };
-
-    /// The row that a delivery to the consumer at that moment takes of those under the key with that index.
-    fn next(&self, index: usize, now: Moment, consumer: &Consumer) -> Option<Standing>
-        requires within { index < length (keys self.now) }
-        ensures row { result ≡ option_map standing (next_under (machine.selected_by (Some consumer.now)) now
-            (key_in (keys self.now) index) (rows_under (state self.now) (key_in (keys self.now) index))) }
         ensures place { IfSome result (λ r. r.place < long_end) };
 
     /// What the subscription of the key asks for, where there is one.
@@ -112,4 +106,9 @@ pub trait Planned {
     /// The key of the durable subscription that is put, and what it asks for.
     fn decided(&self) -> Option<(&Key, &Definition)>
         ensures { option_map (λ x. (x.0.now, x.1.now)) result ≡ puts self.now };
+
+    /// The place of the row that the delivery takes, where the step delivers one.
+    fn taken(&self) -> Option<u64>
+        ensures taken { result ≡ takes self.now }
+        ensures place { IfSome result (λ place. place < long_end) };
 }

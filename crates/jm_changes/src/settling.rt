@@ -1,17 +1,19 @@
 //! What a settling and a delivery change of what is stored.
 
-ghost use Rattle.std.specs.Prelude.{◌≡◌, ◌<◌, ◌++◌, [], Some, true, length, IfOk, OnOk};
+ghost use Rattle.std.specs.Prelude.{◌≡◌, ◌<◌, ◌++◌, [], Some, true, length, option_map, IfOk, IfSome, OnOk};
+ghost use Rattle.jm_dest.specs.Numbers.{long_end};
+ghost use Rattle.jm_machine.specs.declared.state.PlacedRow.{PlacedRow};
 ghost use Rattle.jm_machine.specs.Machine.{are_meant, selected_by};
 ghost use Rattle.jm_machine.specs.Rows.{raised};
 ghost use Rattle.jm_keep.specs.Calls.{AreDelivered, AreDone, DropsThen};
 ghost use Rattle.jm_keep.specs.Persisted.{is_lasting as lasts, rows_under};
 ghost use Rattle.jm_keep.specs.Steps.{AreGone, StandsInOrder, counted, lapsed_under, next_under, out_through, out_under, taken_under};
 ghost use Rattle.jm_changes.specs.declared.going.Going.TheVariants as one;
-ghost use Rattle.jm_changes.specs.Standing.{AreMet, AreOf, goes, key_in, meant};
+ghost use Rattle.jm_changes.specs.Standing.{AreMet, AreOf, goes, key_in, meant, standing, taken_row};
 
 use crate::going::{Going, is_lasting};
 use crate::lost::Lost;
-use crate::planned::{Planned, Which};
+use crate::planned::{Planned, Standing, Which};
 use jm_base::Mode;
 use jm_dest::{Key, Moment};
 use jm_keep::RowChange;
@@ -68,26 +70,35 @@ fn lost_where<P: Planned>(
     Ok(lost)
 }
 
+/// The row under the key with that index that the delivery takes: that at the planned place.
+fn taken_at<P: Planned>(planned: &P, index: usize) -> Option<Standing>
+    requires { index < length (P.keys planned.now) }
+    ensures row { result ≡ option_map standing (taken_row (P.takes planned.now) (rows_under (P.state planned.now) (key_in (P.keys planned.now) index))) }
+    ensures place { IfSome result (λ r. r.place < long_end) }
+{
+    let place = planned.taken()?;
+    planned.row_where(index, place, &Which::All)
+}
+
 /// The stored rows under the key with that index that a delivery loses which settles at once.
 fn lost_taken<P: Planned>(
     alloc: Global,
     planned: &P,
     index: usize,
-    consumer: &Consumer,
     now: Moment,
 ) -> Result<Lost, AllocError>
     requires within { index < length (P.keys planned.now) }
     requires order { StandsInOrder (P.state planned.now) }
     requires lasting { lasts (key_in (P.keys planned.now) index) ≡ true }
     ensures { IfOk result (λ lost. AreGone
-        (taken_under (key_in (P.keys planned.now) index) now (next_under (selected_by (Some consumer.now)) now (key_in (P.keys planned.now) index)
-        (rows_under (P.state planned.now) (key_in (P.keys planned.now) index))))
+        (taken_under (key_in (P.keys planned.now) index) now
+        (taken_row (P.takes planned.now) (rows_under (P.state planned.now) (key_in (P.keys planned.now) index))))
         (P.state planned.now) lost.rows.items lost.delays.items lost.gone.items) }
 {
     let mut lost = lost_where(alloc, planned, index, &Which::Lapsed(now))?;
-    if let Some(next) = planned.next(index, now, consumer) {
-        if next.is_persistent {
-            lost.add(planned, index, next, &Going::Under(index))?;
+    if let Some(row) = taken_at(planned, index) {
+        if row.is_persistent {
+            lost.add(planned, index, row, &Going::Under(index))?;
         }
     }
     Ok(lost)
@@ -98,18 +109,17 @@ fn received<P: Planned>(
     alloc: Global,
     planned: &P,
     index: usize,
-    consumer: &Consumer,
     now: Moment,
 ) -> Result<Vec<RowChange>, AllocError>
     requires within { index < length (P.keys planned.now) }
     requires order { StandsInOrder (P.state planned.now) }
     requires lasting { lasts (key_in (P.keys planned.now) index) ≡ true }
     ensures { IfOk result (λ changes. DropsThen
-        (taken_under (key_in (P.keys planned.now) index) now (next_under (selected_by (Some consumer.now)) now (key_in (P.keys planned.now) index)
-        (rows_under (P.state planned.now) (key_in (P.keys planned.now) index))))
+        (taken_under (key_in (P.keys planned.now) index) now
+        (taken_row (P.takes planned.now) (rows_under (P.state planned.now) (key_in (P.keys planned.now) index))))
         (P.state planned.now) [] changes.items) }
 {
-    lost_taken(alloc, planned, index, consumer, now)?.into_changes()
+    lost_taken(alloc, planned, index, now)?.into_changes()
 }
 
 /// Adds the count of the row that is taken, where it is stored.
@@ -117,20 +127,18 @@ fn push_count<P: Planned>(
     changes: &mut Vec<RowChange>,
     planned: &P,
     index: usize,
-    consumer: &Consumer,
-    now: Moment,
 ) -> Result<(), AllocError>
     requires within { index < length (P.keys planned.now) }
     ensures { OnOk result (changes.new.items ≡ changes.old.items ++ counted (key_in (P.keys planned.now) index)
-        (next_under (selected_by (Some consumer.now)) now (key_in (P.keys planned.now) index) (rows_under (P.state planned.now) (key_in (P.keys planned.now) index)))) }
+        (taken_row (P.takes planned.now) (rows_under (P.state planned.now) (key_in (P.keys planned.now) index)))) }
 {
-    if let Some(next) = planned.next(index, now, consumer) {
-        if next.is_persistent {
+    if let Some(row) = taken_at(planned, index) {
+        if row.is_persistent {
             let key = planned.key_at(index).copy()?;
-            let count = raised_count(next.count);
+            let count = raised_count(row.count);
             changes.push(RowChange::SetCount {
                 key,
-                place: next.place,
+                place: row.place,
                 count,
             })?;
         }
@@ -143,7 +151,6 @@ fn sent<P: Planned>(
     alloc: Global,
     planned: &P,
     index: usize,
-    consumer: &Consumer,
     now: Moment,
 ) -> Result<Vec<RowChange>, AllocError>
     requires within { index < length (P.keys planned.now) }
@@ -151,16 +158,17 @@ fn sent<P: Planned>(
     requires lasting { lasts (key_in (P.keys planned.now) index) ≡ true }
     ensures { IfOk result (λ changes. DropsThen (lapsed_under (key_in (P.keys planned.now) index) now) (P.state planned.now)
         (counted (key_in (P.keys planned.now) index)
-        (next_under (selected_by (Some consumer.now)) now (key_in (P.keys planned.now) index) (rows_under (P.state planned.now) (key_in (P.keys planned.now) index))))
+        (taken_row (P.takes planned.now) (rows_under (P.state planned.now) (key_in (P.keys planned.now) index))))
         changes.items) }
 {
     let lost = lost_where(alloc, planned, index, &Which::Lapsed(now))?;
     let mut changes = lost.into_changes()?;
-    push_count(&mut changes, planned, index, consumer, now)?;
+    push_count(&mut changes, planned, index)?;
     Ok(changes)
 }
 
-/// What a delivery to the consumer changes, whose session is in that mode, where it is open.
+/// What a delivery to the consumer changes, whose session is in that mode, where it is open: it takes the row at the planned
+/// place.
 pub(crate) fn delivered<P: Planned>(
     alloc: Global,
     planned: &P,
@@ -168,7 +176,9 @@ pub(crate) fn delivered<P: Planned>(
     mode: Option<Mode>,
     now: Moment,
 ) -> Result<Vec<RowChange>, AllocError>
-    requires { StandsInOrder (P.state planned.now) }
+    requires order { StandsInOrder (P.state planned.now) }
+    requires taken { P.takes planned.now ≡ option_map (λ (r : PlacedRow). r.place)
+        (next_under (selected_by (Some consumer.now)) now consumer.now.key (rows_under (P.state planned.now) consumer.now.key)) }
     ensures { IfOk result (λ changes. AreDelivered mode (selected_by (Some consumer.now)) now consumer.now.key (P.state planned.now) changes.items) }
 {
     if !is_lasting(&consumer.key) {
@@ -178,8 +188,8 @@ pub(crate) fn delivered<P: Planned>(
         return Ok(Vec::new(alloc));
     };
     match mode {
-        Some(Mode::Auto | Mode::Dups) => received(alloc, planned, index, consumer, now),
-        Some(Mode::Client | Mode::Transacted) | None => sent(alloc, planned, index, consumer, now),
+        Some(Mode::Auto | Mode::Dups) => received(alloc, planned, index, now),
+        Some(Mode::Client | Mode::Transacted) | None => sent(alloc, planned, index, now),
     }
 }
 
