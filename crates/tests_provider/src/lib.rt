@@ -21,6 +21,8 @@ mod queues;
 #[cfg(test)]
 mod runs;
 #[cfg(test)]
+mod taken;
+#[cfg(test)]
 mod told;
 #[cfg(test)]
 mod transactions;

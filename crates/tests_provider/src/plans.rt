@@ -13,7 +13,7 @@ use std::alloc::Global;
 use tests_calls::{At, Kind, Op, call, publication};
 
 /// The step of a call that is no send; that of a commit carries no message.
-fn asked(alloc: Global, call: ClientCall) -> Result<Step, Refusal> {
+pub(crate) fn asked(alloc: Global, call: ClientCall) -> Result<Step, Refusal> {
     match call {
         ClientCall::Ask { who, request } => {
             let call = Call::Ask(request);
