@@ -2,4 +2,5 @@ mod Sends
 mod Reached
 mod Within
 mod Outstanding
+mod Taken
 pub mod ReadKeys

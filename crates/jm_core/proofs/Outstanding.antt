@@ -29,7 +29,7 @@ use Rattle.jm_machine.specs.declared.state.ConnectionState.{ConnectionState}
 use Rattle.jm_machine.specs.declared.state.SessionState.{SessionState}
 use Rattle.jm_machine.specs.declared.state.Station.{Station}
 use Rattle.jm_machine.specs.Life.{Life, client_of, open_mode, mode_of, is_started, is_new_session, close_sessions, life_after}
-use Rattle.jm_machine.specs.Rows.{bare, fresh, goes_out, has_lapsed, is_next, is_out, live, settles_at_once, sent_out, left_of, taken, live_placed, change_placed, deliver_placed, deliver_chosen, is_next_chosen}
+use Rattle.jm_machine.specs.Rows.{bare, fresh, goes_out, has_lapsed, is_next, is_out, live, settles_at_once, sent_out, left_of, live_placed, change_placed, deliver_placed, deliver_chosen, is_next_chosen}
 use Rattle.jm_machine.specs.Machine.{State, Publisher, publisher_of, accepts, is_full, one_missed, brought, offered, with_message, with_rows, at_key, without, published, receive, consumer_of, key_at, asked, definition_of, deleted, durable_of, is_same, joined, made, put, shared_of, standing_as, station_of, subscribed, selected_by, at_queue, at_queue_of, at_queues, queued, defined, of_number, unless, of_session, of_connection, settled_rows, returned_rows, settled, returned, closed, with_life, is_client, is_active, is_busy, is_listening, done, done_rows, set_busy, take, with_done, held, refusal, publish_refusal, commit_refusal, after, after_commit, moved, step}
 use Rattle.jm_machine.specs.Reopened.{AreDurable, AreWaiting}
 use Rattle.jm_machine.specs.Isolation.{Reached}

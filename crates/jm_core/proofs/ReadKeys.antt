@@ -1,6 +1,6 @@
 -- What is read of the core by the index of a key.
-use Rattle.std.proofs.Common.{◌≡◌, ◌<◌, ◌≤◌, ◌+◌, ◌-◌, ◌++◌, ◌==◌, ℕ, Bool, false, true, cond, List, [], ◌∷◌, map, length, get_or, refl, ap, sym, subst, ◌∙◌, arith, Option, Some, None, zero, suc, take, inl, inr}
-use Rattle.std.specs.Prelude.{◌⊎◌, ◌||◌, filter, slice_get, option_map, is_some}
+use Rattle.std.proofs.Common.{◌≡◌, ◌<◌, ◌≤◌, ◌+◌, ◌-◌, ◌++◌, ◌==◌, ℕ, Bool, false, true, cond, List, [], ◌∷◌, length, get_or, refl, ap, sym, ◌∙◌, arith, Option, Some, None, inl, inr}
+use Rattle.std.specs.Prelude.{◌⊎◌, ◌||◌, option_map}
 use Rattle.std.specs.List.{All, IsDistinct, list_any, position_or_len}
 use Rattle.std.proofs.lemmas.Bool.Decides.{nat_tests}
 use Rattle.std.proofs.lemmas.Option.{slice_get-get_or}
@@ -13,11 +13,8 @@ use Rattle.jm_dest.specs.declared.key.Key.TheVariants.{Queue, Own, SharedOwn, Du
 use Rattle.jm_dest.specs.Keys.{key_eq}
 use Rattle.jm_dest.specs.Names.{text_eq}
 use Rattle.jm_header.specs.declared.content.Content.{Content}
-use Rattle.jm_machine.specs.declared.state.Consumer.{Consumer}
-use Rattle.jm_machine.specs.declared.state.PlacedRow.{PlacedRow}
 use Rattle.jm_machine.specs.declared.state.Station.{Station}
-use Rattle.jm_machine.specs.Life.{Life}
-use Rattle.jm_machine.specs.Machine.{State, accepts, publisher_of, station_of}
+use Rattle.jm_machine.specs.Machine.{accepts, publisher_of, station_of}
 use Rattle.jm_machine.specs.Wants.{placed_rows}
 use Rattle.jm_machine.proofs.Keys.{key_refl, key_same}
 use Rattle.jm_stations.specs.Backlogs.{Backlog, empty, is_named}
@@ -29,9 +26,9 @@ use Rattle.jm_queues.specs.Queues.{IsQueued}
 use Rattle.jm_core.specs.Reading.{AreLasting, CoversRows, IsIndexOf, durable_at, is_accepted, is_durable, is_for, keys_in, lasts_at}
 use Rattle.jm_queues.specs.Rows.{IsAt, rows_under}
 use Rattle.jm_machine.specs.Attached.{IsOfSubscription}
-use Rattle.jm_parts.specs.State.{IsSound, keys_of, stations_of}
+use Rattle.jm_parts.specs.State.{IsSound, keys_of}
 use Rattle.jm_parts.specs.Takings.{is_queue}
-use Rattle.jm_queues.proofs.Indexed.{at_behind, at_first, index_here, key_there, place_here}
+use Rattle.jm_queues.proofs.Indexed.{at_behind, at_first, key_there, place_here}
 use Rattle.jm_queues.proofs.QueueRows.{rows_missing}
 use Rattle.jm_plans.proofs.Seen.{station_found, station_missing}
 use Rattle.jm_queues.proofs.Found.{fails_all, found_none}

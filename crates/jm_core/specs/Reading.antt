@@ -1,6 +1,6 @@
--- What is read of the core and of a plan without a change: the rows under each key, and what the plan deletes, puts and
--- publishes.
-use Rattle.std.specs.Prelude.{◌≡◌, ◌⊎◌, ◌++◌, ℕ, Bool, true, false, List, [], map, slice_index_or, Option, Some, None, filter}
+-- What is read of the core and of a plan without a change: the rows under each key, and what the plan deletes, puts,
+-- publishes and takes.
+use Rattle.std.specs.Prelude.{◌≡◌, ◌⊎◌, ◌++◌, ℕ, Bool, true, false, List, [], map, slice_index_or, Option, Some, None, filter, option_map}
 use Rattle.std.specs.List.{list_any}
 use Rattle.jm_dest.specs.declared.destination.Destination.{Destination}
 use Rattle.jm_dest.specs.declared.destination.Destination.TheVariants as destination
@@ -9,15 +9,21 @@ use Rattle.jm_dest.specs.declared.key.Key.TheVariants.{Queue, Own, SharedOwn, Du
 use Rattle.jm_dest.specs.Keys.{key_eq}
 use Rattle.jm_dest.specs.Names.{text_eq}
 use Rattle.jm_header.specs.declared.content.Content.{Content}
+use Rattle.jm_machine.specs.declared.state.Consumer.{Consumer}
 use Rattle.jm_machine.specs.declared.state.Definition.{Definition}
+use Rattle.jm_machine.specs.declared.state.PlacedRow.{PlacedRow}
 use Rattle.jm_machine.specs.declared.state.Station.{Station}
-use Rattle.jm_machine.specs.Machine.{Publisher, State, accepts, publisher_of, station_of}
+use Rattle.jm_machine.specs.Machine.{Publisher, State, accepts, consumer_of, publisher_of, selected_by, station_of}
+use Rattle.jm_machine.specs.Wants.{next_chosen, next_placed}
 use Rattle.jm_sub.specs.Subscriptions.{Subscription}
 use Rattle.jm_plans.specs.declared.plan.Change.{Change}
 use Rattle.jm_plans.specs.declared.plan.Change.TheVariants as change
 use Rattle.jm_parts.specs.declared.publish.Publication.{Publication}
+use Rattle.jm_parts.specs.declared.receive.Taking.{Taking}
+use Rattle.jm_parts.specs.Takings.{source_of}
 use Rattle.jm_plans.specs.Provider.{Provider, state_of}
 use Rattle.jm_queues.specs.Rows.{rows_under, IsAt}
+use Rattle.jm_stations.specs.declared.picked.Picked.{Picked}
 
 -- Rows
 
@@ -60,6 +66,41 @@ publications_of _ = []
 -- the messages that the change publishes
 abbrev pub publishes : Change → List Content
 publishes change = map (λ (x : Publication). x.message) (publications_of change)
+
+-- Deliveries
+
+-- the row that a delivery takes of those under the key: of a queue's one whose message passes
+abbrev pub next_under : (Content → Bool) → ℕ → Key → List PlacedRow → Option PlacedRow
+next_under p now (Queue name) rows = next_chosen p now rows
+next_under p now (Own s c) rows = next_placed now rows
+next_under p now (SharedOwn client name) rows = next_placed now rows
+next_under p now (Durable client name) rows = next_placed now rows
+
+-- a delivery to the consumer that there may be, at that moment
+abbrev pub delivery_to : ℕ → Option Consumer → Option (ℕ × Consumer)
+delivery_to now source = option_map (λ x. (now, x)) source
+
+-- the delivery that the change makes: to a consumer that receives, while its connection is started, or to a listener
+abbrev pub delivery_of : State → Change → Option (ℕ × Consumer)
+delivery_of state (change.Receive r taking) = delivery_to r.moment (source_of state.life state.consumers r.session r.consumer)
+delivery_of state (change.ReceiveFrom r taking) = delivery_to r.moment (source_of state.life state.consumers r.session r.consumer)
+delivery_of state (change.Take r taking) = delivery_to r.moment (consumer_of state.consumers r.session r.consumer)
+delivery_of state (change.TakeFrom r taking) = delivery_to r.moment (consumer_of state.consumers r.session r.consumer)
+delivery_of state _ = None
+
+-- the place of the row that a delivery takes, where there is one
+abbrev pub place_taken : State → Option (ℕ × Consumer) → Option ℕ
+place_taken state None = None
+place_taken state (Some d) = option_map (λ (r : PlacedRow). r.place) (next_under (selected_by (Some d.1)) d.0 d.1.key (rows_under state d.1.key))
+
+-- the place of the row that the change takes
+abbrev pub takes : State → Change → Option ℕ
+takes state change = place_taken state (delivery_of state change)
+
+-- the place of the row that was picked, where one was
+abbrev pub picked_place : Option Taking → Option ℕ
+picked_place None = None
+picked_place (Some x) = option_map (λ (y : Picked). y.place) x.picked
 
 -- Publications
 

@@ -64,8 +64,9 @@
 //! (`Rows`).
 //!
 //! A `Plan` shows which subscription it deletes and puts; `lasting_takers` gives the queue or durable subscriptions
-//! that take a message of it (`AreLasting`); `copy_answer` is the answer that `install` will give, and may want
-//! memory where a message is delivered. `law_places`: the next place is 2^63 at most.
+//! that take a message of it (`AreLasting`); `taken` the place of the row that a planned delivery takes, without a search
+//! (`takes`); `copy_answer` is the answer that `install` will give, and may want memory where a message is delivered.
+//! `law_places`: the next place is 2^63 at most.
 #![tactic(auto)]
 
 mod answering;

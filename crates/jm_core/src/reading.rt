@@ -19,6 +19,7 @@ use jm_base::Mode;
 use jm_dest::{ConnectionId, ConsumerId, Key, SessionId};
 use jm_machine::{Consumer, Definition};
 use jm_parts::publish::{Goal, Publication};
+use jm_parts::receive::Taking;
 use jm_plans::plan::Change;
 use jm_plans::state::CoreState;
 use jm_queues::rows::Rows;
@@ -130,6 +131,34 @@ fn lasting_keys_in(core: &CoreState, publication: &Publication) -> Result<Vec<Ke
     }
 }
 
+/// The place of the row that was picked, where one was.
+fn picked_place(taking: &Option<Taking>) -> Option<u64>
+    ensures { result ≡ spec.picked_place taking.now }
+{
+    match taking {
+        None => None,
+        Some(taking) => match &taking.picked {
+            None => None,
+            Some(picked) => Some(picked.place),
+        },
+    }
+}
+
+/// The place of the row that the planned change takes.
+fn taken_in(core: &CoreState, change: &Change) -> Option<u64>
+    requires { IsPlanned core.now change.now }
+    ensures { result ≡ spec.takes (state_of core.now) change.now }
+{
+    let _ = &core.stations;
+    match change {
+        Change::Receive(_, taking)
+        | Change::ReceiveFrom(_, taking)
+        | Change::Take(_, taking)
+        | Change::TakeFrom(_, taking) => picked_place(taking),
+        _ => None,
+    }
+}
+
 /// The law of places, proved; the function itself does nothing.
 ///
 /// The next place is 2^63 at most, so each place at which a row stands is below that.
@@ -204,6 +233,15 @@ impl Core {
             IfOk result (λ keys. spec.AreLasting (state_of self.now) m keys.items) }
     {
         lasting_keys_in(&self.state, &plan.publications()[index])
+    }
+
+    /// The place of the row that the planned delivery takes, where the plan is one of a delivery, and a row is there. The plan
+    /// has picked it: nothing is searched. Takes no memory.
+    pub fn taken(&self, plan: &Plan) -> Option<u64>
+        requires { IsPlanned self.now plan.now }
+        ensures { result ≡ spec.takes (state_of self.now) plan.now }
+    {
+        taken_in(&self.state, &plan.change)
     }
 }
 

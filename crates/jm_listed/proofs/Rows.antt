@@ -1,18 +1,15 @@
 -- Rows that are found, as listing reads them.
-use Rattle.std.proofs.Common.{◌≡◌, ◌<◌, ◌≤◌, ℕ, Bool, true, false, cond, List, [], ◌∷◌, refl, ap, sym, ◌∙◌, arith, Option, Some, None}
-use Rattle.std.specs.Prelude.{◌&&◌, IfSome, IfOk, Result, Ok, Err, filter, find, nat_le, option_map}
-use Rattle.std.specs.List.{list_any}
+use Rattle.std.proofs.Common.{◌≡◌, ◌<◌, ◌≤◌, ℕ, Bool, true, false, cond, List, [], ◌∷◌, refl, ap, sym, subst, ◌∙◌, arith, Option, Some, None}
+use Rattle.std.specs.Prelude.{◌&&◌, IfSome, filter, find, nat_le, option_map}
 use Rattle.jm_dest.specs.declared.key.Key.{Key}
 use Rattle.jm_dest.specs.declared.key.Key.TheVariants.{Queue, Own, SharedOwn, Durable}
-use Rattle.jm_dest.specs.Keys.{key_eq}
 use Rattle.jm_dest.specs.Numbers.{long_end}
 use Rattle.jm_header.specs.declared.content.Content.{Content}
+use Rattle.jm_machine.specs.declared.state.Consumer.{Consumer}
 use Rattle.jm_machine.specs.declared.state.PlacedRow.{PlacedRow}
 use Rattle.jm_machine.specs.declared.state.Row.{Row}
-use Rattle.jm_machine.specs.Rows.{AllAbove, InOrder, bare, has_lapsed, is_next, is_next_chosen, live, live_placed}
-use Rattle.jm_machine.specs.Machine.{State}
-use Rattle.jm_machine.specs.Wants.{next_chosen, next_placed}
-use Rattle.jm_keep.specs.Calls.{AreTakers}
+use Rattle.jm_machine.specs.Rows.{AllAbove, InOrder, bare, is_next, is_next_chosen, live, live_placed}
+use Rattle.jm_machine.specs.Machine.{State, selected_by}
 use Rattle.jm_keep.specs.Persisted.{rows_under}
 use Rattle.jm_keep.specs.Steps.{StandsInOrder, next_under, takes}
 use Rattle.jm_changes.specs.declared.planned.Standing.{Standing}
@@ -20,7 +17,6 @@ use Rattle.jm_changes.specs.Standing.{first_where, standing}
 use Rattle.jm_keep_law.proofs.Published.{under_in_order}
 use Rattle.jm_core.specs.Reading as reading
 use Rattle.jm_queues.specs.Rows as queues
-use Rattle.jm_parts.specs.Takings.{is_queue}
 
 -- ---- the same words
 
@@ -56,18 +52,24 @@ order_filter n p (x ∷ rows) h = go (p x) (order_filter n p rows h.2)
 
 -- ---- a row that is found stands below the end of places
 
-below : (n : ℕ) (q : PlacedRow → Bool) (rows : List PlacedRow) → n ≤ long_end → InOrder n rows → IfSome (option_map standing (find q rows)) (λ r. r.place < long_end)
+if_map : {X Y : Type 0} (f : X → Y) (P : Y → Type 0) (o : Option X) → IfSome o (λ x. P (f x)) → IfSome (option_map f o) P
+if_map f P None h = tt
+if_map f P (Some x) h = h
+
+below : (n : ℕ) (q : PlacedRow → Bool) (rows : List PlacedRow) → n ≤ long_end → InOrder n rows → IfSome (find q rows) (λ x. x.place < long_end)
 below n q [] e h = tt
 below n q (x ∷ rows) e h = go (q x) (below n q rows e h.2)
   where
-    go : (b : Bool) → IfSome (option_map standing (find q rows)) (λ r. r.place < long_end) → IfSome (option_map standing (cond b (Some x) (find q rows))) (λ r. r.place < long_end)
+    go : (b : Bool) → IfSome (find q rows) (λ y. y.place < long_end) → IfSome (cond b (Some x) (find q rows)) (λ y. y.place < long_end)
     go true r = let low = h.0 in omega (arith, low, e)
     go false r = r
 
 pub first_below : (state : State) (q : Row → Bool) (place : ℕ) (key : Key) → StandsInOrder state → state.next_place ≤ long_end → IfSome (option_map standing (first_where q place (rows_under state key))) (λ r. r.place < long_end)
-first_below state q place key o e = below state.next_place (λ x. nat_le place x.place && q x.row) (rows_under state key) e (under_in_order state o key)
+first_below state q place key o e =
+    if_map standing (λ (r : Standing). r.place < long_end) (first_where q place (rows_under state key))
+    (below state.next_place (λ x. nat_le place x.place && q x.row) (rows_under state key) e (under_in_order state o key))
 
-pub next_below : (state : State) (p : Content → Bool) (now : ℕ) (key : Key) → StandsInOrder state → state.next_place ≤ long_end → IfSome (option_map standing (next_under p now key (rows_under state key))) (λ r. r.place < long_end)
+next_below : (state : State) (p : Content → Bool) (now : ℕ) (key : Key) → StandsInOrder state → state.next_place ≤ long_end → IfSome (next_under p now key (rows_under state key)) (λ x. x.place < long_end)
 next_below state p now (Queue name) o e =
     below state.next_place (λ x. is_next_chosen p now (live now (bare (rows_under state (Queue name)))) x.row) (live_placed now (rows_under state (Queue name))) e
     (order_filter state.next_place (λ x. _) (rows_under state (Queue name)) (under_in_order state o (Queue name)))
@@ -81,19 +83,24 @@ next_below state p now (Durable client name) o e =
     below state.next_place (λ x. is_next now (live now (bare (rows_under state (Durable client name)))) x.row) (live_placed now (rows_under state (Durable client name))) e
     (order_filter state.next_place (λ x. _) (rows_under state (Durable client name)) (under_in_order state o (Durable client name)))
 
--- ---- the next row, of a queue and of a subscription
+-- ---- the row that a delivery takes
 
-pub next_of_queue : (p : Content → Bool) (now : ℕ) (key : Key) (rows : List PlacedRow) → is_queue (Some key) ≡ true → next_chosen p now rows ≡ next_under p now key rows
-next_of_queue p now (Queue name) rows h = refl
-next_of_queue p now (Own s c) rows h = absurd cc
-next_of_queue p now (SharedOwn client name) rows h = absurd cc
-next_of_queue p now (Durable client name) rows h = absurd cc
+same_next : (p : Content → Bool) (now : ℕ) (key : Key) (rows : List PlacedRow) → reading.next_under p now key rows ≡ next_under p now key rows
+same_next p now (Queue name) rows = refl
+same_next p now (Own s c) rows = refl
+same_next p now (SharedOwn client name) rows = refl
+same_next p now (Durable client name) rows = refl
 
-pub next_of_subscription : (p : Content → Bool) (now : ℕ) (key : Key) (rows : List PlacedRow) → is_queue (Some key) ≡ false → next_placed now rows ≡ next_under p now key rows
-next_of_subscription p now (Queue name) rows h = absurd cc
-next_of_subscription p now (Own s c) rows h = refl
-next_of_subscription p now (SharedOwn client name) rows h = refl
-next_of_subscription p now (Durable client name) rows h = refl
+pub same_taken : (state : State) (now : ℕ) (x : Consumer) → reading.place_taken state (Some (now, x)) ≡ option_map (λ (r : PlacedRow). r.place) (next_under (selected_by (Some x)) now x.key (rows_under state x.key))
+same_taken state now x =
+    ap (λ o. option_map (λ (r : PlacedRow). r.place) o)
+    (same_next (selected_by (Some x)) now x.key (queues.rows_under state x.key) ∙ ap (λ rows. next_under (selected_by (Some x)) now x.key rows) (same_rows state x.key))
+
+pub taken_below : (state : State) (d : Option (ℕ × Consumer)) → StandsInOrder state → state.next_place ≤ long_end → IfSome (reading.place_taken state d) (λ n. n < long_end)
+taken_below state None o e = tt
+taken_below state (Some d) o e =
+    subst (λ n. IfSome n (λ (k : ℕ). k < long_end)) (sym (same_taken state d.0 d.1))
+    (if_map (λ (r : PlacedRow). r.place) (λ (k : ℕ). k < long_end) (next_under (selected_by (Some d.1)) d.0 d.1.key (rows_under state d.1.key)) (next_below state (selected_by (Some d.1)) d.0 d.1.key o e))
 
 -- ---- each row is meant
 

@@ -1,10 +1,10 @@
 //! A step that is planned on the core, as listing reads it.
 
 ghost use Rattle.std.specs.Prelude.{◌≡◌, ◌≤◌, Some, option_map};
-ghost use Rattle.jm_machine.specs.Machine.{places_end, selected_by};
+ghost use Rattle.jm_machine.specs.Machine.{places_end};
 ghost use Rattle.jm_keep.specs.Persisted.{is_persistent as persists};
 ghost use Rattle.jm_stations.specs.Standing as reads;
-ghost use Rattle.jm_keep.specs.Steps.{StandsInOrder, next_under};
+ghost use Rattle.jm_keep.specs.Steps.{StandsInOrder};
 ghost use Rattle.jm_changes.specs.Standing as standing;
 ghost use Rattle.jm_plans.specs.Plans.{IsPlanned};
 ghost use Rattle.jm_plans.specs.Provider.{state_of};
@@ -12,7 +12,7 @@ ghost use Rattle.jm_plans.specs.Provider.{state_of};
 use jm_base::Mode;
 use jm_changes::{Planned, Standing, Which};
 use jm_core::{Core, Plan, Rows, law_places, law_rows_in_order};
-use jm_dest::{ConnectionId, ConsumerId, Key, Moment, SessionId};
+use jm_dest::{ConnectionId, ConsumerId, Key, SessionId};
 use jm_header::{DeliveryMode, Message};
 use jm_machine::{Consumer, Definition};
 use std::alloc::AllocError;
@@ -85,31 +85,6 @@ fn first_meant(rows: &Rows<'_>, place: u64, which: &Which) -> Option<Standing>
     }
 }
 
-/// The row that a delivery to the consumer takes of those under the key.
-fn next_of<'a>(
-    rows: &Rows<'a>,
-    key: &Key,
-    now: Moment,
-    consumer: &Consumer,
-) -> Option<jm_core::Standing<'a>>
-    ensures { option_map reads.row_of result ≡ next_under (selected_by (Some consumer.now)) now key.now rows.now }
-{
-    match key {
-        Key::Queue(_) => rows.next_where(now, &consumer.selector),
-        Key::Own(_, _) | Key::SharedOwn(_, _) | Key::Durable(_, _) => rows.next(now),
-    }
-}
-
-/// What listing reads of it.
-fn next_shown(rows: &Rows<'_>, key: &Key, now: Moment, consumer: &Consumer) -> Option<Standing>
-    ensures { result ≡ option_map standing.standing (next_under (selected_by (Some consumer.now)) now key.now rows.now) }
-{
-    match next_of(rows, key, now, consumer) {
-        None => None,
-        Some(row) => Some(shown(&row)),
-    }
-}
-
 impl<'a> PlannedStep<'a> {
     pub(crate) fn new(core: &'a Core, plan: &'a Plan) -> PlannedStep<'a>
         requires { IsPlanned core.now plan.now }
@@ -137,6 +112,8 @@ impl<'a> Planned for PlannedStep<'a> {
 
     ghost puts = { λ p. reading.puts p.plan };
 
+    ghost takes = { λ p. reading.takes (state_of p.core) p.plan };
+
     fn len(&self) -> usize {
         self.core.keys_len()
     }
@@ -151,11 +128,6 @@ impl<'a> Planned for PlannedStep<'a> {
 
     fn row_where(&self, index: usize, place: u64, which: &Which) -> Option<Standing> {
         first_meant(&self.core.rows_at(index), place, which)
-    }
-
-    fn next(&self, index: usize, now: Moment, consumer: &Consumer) -> Option<Standing> {
-        let key = self.core.key_at(index);
-        next_shown(&self.core.rows_at(index), key, now, consumer)
     }
 
     fn definition_of(&self, key: &Key) -> Option<&Definition> {
@@ -188,5 +160,9 @@ impl<'a> Planned for PlannedStep<'a> {
 
     fn decided(&self) -> Option<(&Key, &Definition)> {
         self.plan.decided()
+    }
+
+    fn taken(&self) -> Option<u64> {
+        self.core.taken(self.plan)
     }
 }
