@@ -16,16 +16,16 @@ returns-in-Receive c =
           let g = rw e.1 at h.2 in
           rw e.1 (taken_held i.limit i.stations.next_place p c.core.invariant.0 e.0 (source_of p.known.life p.known.consumers e.0.session e.0.consumer) o g.apart g.taken)
       | inr f ↦ elim f [
+        | inl e ↦
+            let g = rw e.1 at h.2 in
+            rw e.1 (taken_queue i.limit i.stations.next_place p c.core.invariant.0 e.0 (source_of p.known.life p.known.consumers e.0.session e.0.consumer) g.consumer g.queue o g.source g.key g.taken)
+        | inr f ↦ elim f [
           | inl e ↦
               let g = rw e.1 at h.2 in
-              rw e.1 (taken_queue i.limit i.stations.next_place p c.core.invariant.0 e.0 (source_of p.known.life p.known.consumers e.0.session e.0.consumer) g.consumer g.queue o g.source g.key g.taken)
-          | inr f ↦ elim f [
-              | inl e ↦
-                  let g = rw e.1 at h.2 in
-                  rw e.1 (taken_held i.limit i.stations.next_place p c.core.invariant.0 e.0 (consumer_of p.known.consumers e.0.session e.0.consumer) o g.apart g.taken)
-              | inr e ↦
-                  let g = rw e.1 at h.2 in
-                  rw e.1 (taken_queue i.limit i.stations.next_place p c.core.invariant.0 e.0 (consumer_of p.known.consumers e.0.session e.0.consumer) g.consumer g.queue o g.source g.key g.taken)
-            ]
+              rw e.1 (taken_held i.limit i.stations.next_place p c.core.invariant.0 e.0 (consumer_of p.known.consumers e.0.session e.0.consumer) o g.apart g.taken)
+          | inr e ↦
+              let g = rw e.1 at h.2 in
+              rw e.1 (taken_queue i.limit i.stations.next_place p c.core.invariant.0 e.0 (consumer_of p.known.consumers e.0.session e.0.consumer) g.consumer g.queue o g.source g.key g.taken)
         ]
+      ]
     ])
