@@ -1,8 +1,15 @@
--- A key as the columns of its rows.
+-- A key as the columns of its rows, and what is told where it has none.
 use Rattle.std.specs.Prelude.{ℕ, ℤ, pos, Bool, not, ◌&&◌, List, [], ◌∷◌, Option, Some, None}
 use Rattle.jm_dest.specs.declared.key.Key.{Key}
 use Rattle.jm_dest.specs.Names.{is_name}
 use Rattle.jm_dest.specs.declared.key.Key.TheVariants.{Queue, Own, SharedOwn, Durable}
+use Rattle.sqlite.specs.declared.error.Error.{Error}
+use Rattle.sqlite.specs.declared.error.Error.TheVariants.{SqliteFailure}
+use Rattle.sqlite.specs.declared.error.ErrorCode.TheVariants.{TypeMismatch}
+
+-- the error of a change that the tables cannot hold
+abbrev pub not_stored : Error
+not_stored = SqliteFailure TypeMismatch
 
 -- the family of a durable subscription; an empty client, which no client identifier is, would be read as none
 abbrev pub durable_family : Option (List ℕ) → Option ℤ

@@ -1,9 +1,10 @@
 //! What stands in the columns of rows.
 
-ghost use Rattle.std.specs.Prelude.{◌≡◌, pos, Some, IfOk, FitsSigned};
+ghost use Rattle.std.specs.Prelude.{◌≡◌, ◌≤◌, pos, Some, None, IfOk, IfErr, OnErr, FitsSigned};
 ghost use Rattle.std.specs.Int.{w64};
 ghost use Rattle.std.specs.List.{list_all};
 ghost use Rattle.jm_dest.specs.Names as names;
+ghost use Rattle.jm_dest.specs.Numbers.{long_end};
 ghost use Rattle.jm_tables.specs.Rows.{selector_in};
 ghost use Rattle.jm_writes.specs.Columns as spec;
 
@@ -39,7 +40,9 @@ fn family_of(key: &Key) -> Option<i64>
 
 /// The family of the key. `NOT_STORED` where it has none.
 pub fn stored_family(key: &Key) -> Result<i64, Error>
-    ensures { IfOk result (λ family. spec.family_of key.now ≡ Some family) }
+    ensures ok { IfOk result (λ family. spec.family_of key.now ≡ Some family) }
+    ensures refused { OnErr result (spec.family_of key.now ≡ None) }
+    ensures err { IfErr result (λ error. error ≡ spec.not_stored) }
 {
     match family_of(key) {
         Some(family) => Ok(family),
@@ -81,6 +84,8 @@ pub fn name_of(key: &Key) -> &str
 pub fn integer(number: u64) -> Result<i64, Error>
     ensures value { IfOk result (λ integer. integer ≡ pos number) }
     ensures fits { IfOk result (FitsSigned w64) }
+    ensures refused { OnErr result (long_end ≤ number) }
+    ensures err { IfErr result (λ error. error ≡ spec.not_stored) }
 {
     match i64::try_from(number) {
         Ok(integer) => Ok(integer),

@@ -7,5 +7,5 @@ use Rattle.jm_writes.proofs.rows.drop_held.Goals as goal
 
 pub returns-clause-done : goal.returns-clause-done
 returns-clause-done g c clean serves =
-    drop_held_on (state g.S.Store c.args.tx.now.conn.now) (state g.S.Store c.run.new.tx.conn.now) c.args.key.now c.in_ok-family.family c.args.place c.run.result c.in_ok-family.ensures serves
-    (rw (c.params-to_sql.ensures, c.params-to_sql-2.ensures, c.params-to_sql-3.ensures, c.params-to_sql-4.ensures, c.client_of.ensures, c.name_of.ensures, to_z-of_z w64 c.in_ok-family.family (family_fits c.args.key.now c.in_ok-family.family c.in_ok-family.ensures), to_z-of_z w64 c.in_ok-place.place c.in_ok-place.ensures.fits, c.in_ok-place.ensures.value) at (c.run.ensures.runs clean))
+    drop_held_on (state g.S.Store c.args.tx.now.conn.now) (state g.S.Store c.run.new.tx.conn.now) c.args.key.now c.in_ok-family.family c.args.place c.run.result c.in_ok-family.ensures.ok serves
+    (rw (c.params-to_sql.ensures, c.params-to_sql-2.ensures, c.params-to_sql-3.ensures, c.params-to_sql-4.ensures, c.client_of.ensures, c.name_of.ensures, to_z-of_z w64 c.in_ok-family.family (family_fits c.args.key.now c.in_ok-family.family c.in_ok-family.ensures.ok), to_z-of_z w64 c.in_ok-place.place c.in_ok-place.ensures.fits, c.in_ok-place.ensures.value) at (c.run.ensures.runs clean))
