@@ -5,7 +5,6 @@ ghost use Rattle.jm_audit.specs.Audit.{segment, Agree, EachOnce, IsFault, Rise};
 ghost use Rattle.jm_audit.specs.Passes.{Calls};
 ghost use Rattle.jm_broker.specs.Calls.{Noted, Received, is_nothing as is_nothing_reply};
 ghost use Rattle.jm_broker.specs.Traces.{Seen, IsHeld};
-ghost use Rattle.jm_broker.specs.Wakes.{may_wake as may_wake_waiting, wakes as wakes_waiting};
 ghost use Rattle.jm_keep.specs.Persisted.{IsPersisted};
 ghost use Rattle.jm_machine.specs.Isolation.{after_events};
 
@@ -16,7 +15,7 @@ use jm_audit::Pass;
 use jm_base::Refusal;
 use jm_dest::{ConsumerId, Moment, SessionId};
 use jm_keep::Keep;
-use jm_machine::{Answer, Call, Reply, Request, Step};
+use jm_machine::{Answer, Reply, Step};
 use std::alloc::Global;
 use std::sync::ledger::{Blank, Ledger};
 use std::sync::{Condvar, Mutex, Wait};
@@ -83,7 +82,7 @@ impl<C: PlannedCore, K: Keep + Drop, L: Ledger> Broker<C, K, L> {
         ensures { Noted pass.old pass.new step.now result }
     {
         let reply = self.traced.lock(rt).apply(pass, step);
-        if wakes(&step.call, &reply) {
+        if reply.is_ok() && step.call.wakes() {
             self.wake();
         }
         reply
@@ -159,45 +158,4 @@ fn is_nothing(reply: &Reply) -> bool
     ensures { result ≡ is_nothing_reply reply.now }
 {
     matches!(reply, Ok(Answer::Nothing))
-}
-
-/// Whether others may find a message after the request, or their wait ends.
-fn may_wake(request: &Request) -> bool
-    ensures { result ≡ may_wake_waiting request.now }
-{
-    match request {
-        Request::Start
-        | Request::Recover
-        | Request::Rollback
-        | Request::Done { .. }
-        | Request::CloseConnection
-        | Request::CloseSession
-        | Request::CloseConsumer { .. } => true,
-        Request::Open { .. }
-        | Request::Stop
-        | Request::CreateSession { .. }
-        | Request::CreateConsumer { .. }
-        | Request::CreateDurable { .. }
-        | Request::CreateShared { .. }
-        | Request::CreateSharedDurable { .. }
-        | Request::Unsubscribe { .. }
-        | Request::Receive { .. }
-        | Request::Acknowledge
-        | Request::Missed { .. }
-        | Request::SetListener { .. }
-        | Request::Take { .. } => false,
-    }
-}
-
-/// Whether the call was accepted, and others may find a message after it, or their wait ends.
-fn wakes(call: &Call, reply: &Reply) -> bool
-    ensures { result ≡ wakes_waiting call.now reply.now }
-{
-    match reply {
-        Err(_) => false,
-        Ok(_) => match call {
-            Call::Publish(_) | Call::Commit(_) => true,
-            Call::Ask(request) => may_wake(request),
-        },
-    }
 }

@@ -26,7 +26,7 @@
 //! or ends above 2^62. `finish` is `Traced`'s.
 //!
 //! The provider's `Core` is such a core: its plan, its copied answer, its listed changes and its install are the
-//! lock's. `wakes` says which accepted calls wake all that wait: a start, a publication, a commit, a rollback, a
+//! lock's. `Call::wakes` says which accepted calls wake all that wait: a start, a publication, a commit, a rollback, a
 //! recover, the end of a listener's delivery, or a close. Nothing is promised of waiting, of waking, or of the order
 //! between threads.
 #![tactic(auto)]

@@ -2,4 +2,3 @@ pub mod Locked
 pub mod Told
 pub mod Sends
 pub mod Listening
-pub mod Wakes

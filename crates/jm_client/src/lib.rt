@@ -46,7 +46,6 @@ mod shared;
 mod texts;
 mod time;
 mod waiting;
-mod wakes;
 
 pub use backend::Backend;
 pub use connection::Connection;

@@ -20,7 +20,6 @@ use crate::plain::Plain;
 use crate::shared::Shared;
 use crate::texts::client_named;
 use crate::time::moment;
-use crate::wakes::wakes;
 use jm_base::{List, Refusal};
 use jm_core::{Answer, Call, Core, Request, Step, Who};
 use jm_dest::{ConsumerId, Moment, Number, SessionId};
@@ -157,7 +156,7 @@ impl<'r, R: Wait + Clock, B: Backend> Provider<'r, R, B> {
         ensures { Told step.now.who step.now.call result }
     {
         let reply = self.shared.lock(self.rt).tell(step);
-        if reply.is_ok() && wakes(&step.call) {
+        if reply.is_ok() && step.call.wakes() {
             self.changed.notify_all();
         }
         reply

@@ -8,6 +8,8 @@ pub mod Attached
 pub mod Sections
 pub mod SectionsRise
 pub mod Wants
+pub mod Under
+pub mod Wakes
 pub mod Entries
 pub mod Client
 pub mod Lone

@@ -1,4 +1,5 @@
 ghost use Rattle.std.specs.Prelude.{◌≡◌, ◌↔◌, IfOk, IsTrue};
+ghost use Rattle.jm_machine.specs.Wakes as waiting;
 
 use jm_base::{List, Mode, Str};
 use jm_dest::{
@@ -172,6 +173,46 @@ impl Request {
         ensures { IfOk result (λ copy. copy ≡ self.now) }
     {
         self.clone()
+    }
+
+    /// Whether others may find a message after the request, or their wait ends.
+    fn may_wake(&self) -> bool
+        ensures { result ≡ waiting.may_wake self.now }
+    {
+        match self {
+            Request::Start
+            | Request::Recover
+            | Request::Rollback
+            | Request::Done { .. }
+            | Request::CloseConnection
+            | Request::CloseSession
+            | Request::CloseConsumer { .. } => true,
+            Request::Open { .. }
+            | Request::Stop
+            | Request::CreateSession { .. }
+            | Request::CreateConsumer { .. }
+            | Request::CreateDurable { .. }
+            | Request::CreateShared { .. }
+            | Request::CreateSharedDurable { .. }
+            | Request::Unsubscribe { .. }
+            | Request::Receive { .. }
+            | Request::Acknowledge
+            | Request::Missed { .. }
+            | Request::SetListener { .. }
+            | Request::Take { .. } => false,
+        }
+    }
+}
+
+impl Call {
+    /// Whether others that wait may find a message after the call, where it is accepted, or their wait ends (ours).
+    pub fn wakes(&self) -> bool
+        ensures { result ≡ waiting.wakes self.now }
+    {
+        match self {
+            Call::Publish(_) | Call::Commit(_) => true,
+            Call::Ask(request) => request.may_wake(),
+        }
     }
 }
 

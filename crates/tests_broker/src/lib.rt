@@ -16,4 +16,6 @@ mod segments;
 #[cfg(test)]
 mod steps;
 #[cfg(test)]
+mod waking;
+#[cfg(test)]
 mod worked;

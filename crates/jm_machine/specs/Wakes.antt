@@ -1,4 +1,4 @@
--- Which calls wake the consumers that wait for a message.
+-- Which calls wake the callers that wait for a message.
 use Rattle.std.specs.Prelude.{Bool, true, false}
 use Rattle.jm_machine.specs.declared.call.Call.{Call}
 use Rattle.jm_machine.specs.declared.call.Call.TheVariants.{Ask, Publish, Commit}
