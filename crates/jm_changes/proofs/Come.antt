@@ -6,8 +6,8 @@ use Rattle.std.proofs.lemmas.List.{length-take-le}
 use Rattle.jm_dest.specs.declared.key.Key.{Key}
 use Rattle.jm_header.specs.declared.content.Content.{Content}
 use Rattle.jm_machine.specs.Machine.{State}
+use Rattle.jm_machine.specs.Under.{is_persistent}
 use Rattle.jm_keep.specs.declared.change.RowChange.{RowChange}
-use Rattle.jm_keep.specs.Persisted.{is_persistent}
 use Rattle.jm_keep.specs.Calls.{AreTakers, ArePublished, brought}
 
 assoc : {A : Type 0} (a b c : List A) → (a ++ b) ++ c ≡ a ++ (b ++ c)

@@ -5,7 +5,8 @@ use Rattle.std.proofs.lemmas.Bool.Decides.{nat_tests}
 use Rattle.jm_machine.specs.declared.state.PlacedRow.{PlacedRow}
 use Rattle.jm_machine.specs.declared.state.Row.{Row}
 use Rattle.jm_machine.specs.Rows.{InOrder}
-use Rattle.jm_keep.specs.Persisted.{is_persistent, row_at}
+use Rattle.jm_machine.specs.Under.{is_persistent}
+use Rattle.jm_keep.specs.Persisted.{row_at}
 use Rattle.jm_keep_law.proofs.Placed.{none_at}
 use Rattle.jm_changes.specs.declared.planned.Standing.{Standing}
 use Rattle.jm_changes.specs.Standing.{first_where, standing, taken_row}

@@ -13,11 +13,12 @@ use Rattle.jm_machine.specs.declared.state.PlacedRow.{PlacedRow}
 use Rattle.jm_machine.specs.declared.state.Row.{Row}
 use Rattle.jm_machine.specs.Rows.{has_lapsed, is_out}
 use Rattle.jm_machine.specs.Machine.{State}
+use Rattle.jm_machine.specs.Under.{is_persistent, next_under, placed_under}
 use Rattle.jm_machine.proofs.Keys.{key_same, key_refl}
 use Rattle.jm_keep.specs.Stored.{is_at}
 use Rattle.jm_keep.specs.Leads.{AreDelays, AreLast, is_among, is_one_of}
-use Rattle.jm_keep.specs.Persisted.{StoredRow, if_stored, is_lasting, is_persistent, row_at, rows_under, shown, stored_row}
-use Rattle.jm_keep.specs.Steps.{AreGone, all_under, is_place_of, lapsed_under, next_under, out_through, out_under, passes, taken_under}
+use Rattle.jm_keep.specs.Persisted.{StoredRow, if_stored, is_lasting, row_at, shown, stored_row}
+use Rattle.jm_keep.specs.Steps.{AreGone, all_under, is_place_of, lapsed_under, out_through, out_under, passes, taken_under}
 use Rattle.jm_changes.specs.Standing.{AreMet, AreOf, Covers, key_in, stays}
 
 -- ---- rows that are stored, and stay or go
@@ -41,8 +42,8 @@ must_go f a o r e g p h = go (f r) (sym (ap (λ b. b && passes (λ r. not (f r))
     go false h = cc
 
 -- a row that stays is stored, and does not go
-stays_stored : (g : Key → Row → Bool) (state : State) (key : Key) (place : ℕ) → stays g state key place ≡ true → (r : Row) × (row_at place (rows_under state key) ≡ Some r) × (g key r ≡ false) × IsSome (stored_row state key place)
-stays_stored g state key place e = go (is_lasting key) (row_at place (rows_under state key)) e
+stays_stored : (g : Key → Row → Bool) (state : State) (key : Key) (place : ℕ) → stays g state key place ≡ true → (r : Row) × (row_at place (placed_under state key) ≡ Some r) × (g key r ≡ false) × IsSome (stored_row state key place)
+stays_stored g state key place e = go (is_lasting key) (row_at place (placed_under state key)) e
   where
     some : (r : Row) (p b : Bool) → is_persistent r.message.mode ≡ p → g key r ≡ b → (p && not b) ≡ true → (x : Row) × (Some r ≡ Some x) × (g key x ≡ false) × IsSome (if_stored (Some r))
     some r true false i j e = (r, refl, j, subst (λ b. IsSome (cond b (Some (shown r)) None)) (sym i) refl)
@@ -67,10 +68,10 @@ if_not true h = sym (h refl)
 if_not false h = refl
 
 -- of the messages that go those have a delay of which a stored row shows it
-delays_met : (f : Key → Row → Bool) (goes : Key → ℕ → Row → Bool) (state : State) (rows : List (Key × ℕ)) (delays gone : List ℕ) → ((key : Key) (place : ℕ) → is_one_of rows key place ≡ (is_lasting key && passes (goes key place) (row_at place (rows_under state key)))) → AreMet f state rows delays gone → AreDelays state delays gone
+delays_met : (f : Key → Row → Bool) (goes : Key → ℕ → Row → Bool) (state : State) (rows : List (Key × ℕ)) (delays gone : List ℕ) → ((key : Key) (place : ℕ) → is_one_of rows key place ≡ (is_lasting key && passes (goes key place) (row_at place (placed_under state key)))) → AreMet f state rows delays gone → AreDelays state delays gone
 delays_met f goes state rows delays gone a m = record {
   among = m.among;
-  delayed = λ place e. let w = m.met place e in let x = shows (is_lasting w.0) (goes w.0 place) (row_at place (rows_under state w.0)) (is_among delays place) (sym (a w.0 place) ∙ w.1) w.2 in (w.0, x.0, x.1, x.2);
+  delayed = λ place e. let w = m.met place e in let x = shows (is_lasting w.0) (goes w.0 place) (row_at place (placed_under state w.0)) (is_among delays place) (sym (a w.0 place) ∙ w.1) w.2 in (w.0, x.0, x.1, x.2);
 }
   where
     shows : (b : Bool) (q : Row → Bool) (o : Option Row) (d : Bool) → (b && passes q o) ≡ true → IfSome o (λ r. d ≡ is_delayed r.message) → (x : StoredRow) × (cond b (if_stored o) None ≡ Some x) × (d ≡ is_delayed x.message)
@@ -87,8 +88,8 @@ delays_met f goes state rows delays gone a m = record {
 one_last : (k : Key) (q : ℕ → Row → Bool) (state : State) (rows : List (Key × ℕ)) (delays gone : List ℕ) → AreOf k q state rows → AreMet (λ key r. key_eq k key) state rows delays gone → AreLast state rows gone
 one_last k q state rows delays gone a m = record {
   last = λ key place e h.
-      let s = stored_is (is_lasting key) (row_at place (rows_under state key)) h in
-      let own : key_eq k key ≡ true = must_go (λ r. key_eq k key) (is_lasting key) (row_at place (rows_under state key)) s.0 s.1 s.2 s.3 (m.last place e key) in
+      let s = stored_is (is_lasting key) (row_at place (placed_under state key)) h in
+      let own : key_eq k key ≡ true = must_go (λ r. key_eq k key) (is_lasting key) (row_at place (placed_under state key)) s.0 s.1 s.2 s.3 (m.last place e key) in
       let met = m.met place e in
       subst (λ t. is_one_of rows t place ≡ true) (sym (key_same k met.0 (only met.0 place met.1)) ∙ key_same k key own) met.1;
   left = λ key place e h.
@@ -98,7 +99,7 @@ one_last k q state rows delays gone a m = record {
 }
   where
     only : (key : Key) (place : ℕ) → is_one_of rows key place ≡ true → key_eq k key ≡ true
-    only key place e = and_is (key_eq k key) (passes (q place) (row_at place (rows_under state k))) (sym (a key place) ∙ e)
+    only key place e = and_is (key_eq k key) (passes (q place) (row_at place (placed_under state k))) (sym (a key place) ∙ e)
 
 one_gone : (k : Key) (q : ℕ → Row → Bool) (goes : Key → ℕ → Row → Bool) (state : State) (rows : List (Key × ℕ)) (delays gone : List ℕ) → is_lasting k ≡ true → ((key : Key) (place : ℕ) (r : Row) → goes key place r ≡ (key_eq k key && q place r)) →
     AreOf k q state rows → AreMet (λ key r. key_eq k key) state rows delays gone → AreGone goes state rows delays gone
@@ -125,17 +126,17 @@ one_gone k q goes state rows delays gone l g a m = record {
     and_none true c e = e
     and_none false c e = refl
 
-    go : (key : Key) (place : ℕ) (b : Bool) → key_eq k key ≡ b → (b && passes (q place) (row_at place (rows_under state k))) ≡ (is_lasting key && passes (λ r. key_eq k key && q place r) (row_at place (rows_under state key)))
+    go : (key : Key) (place : ℕ) (b : Bool) → key_eq k key ≡ b → (b && passes (q place) (row_at place (placed_under state k))) ≡ (is_lasting key && passes (λ r. key_eq k key && q place r) (row_at place (placed_under state key)))
     go key place true e =
-        subst (λ t. passes (q place) (row_at place (rows_under state k)) ≡ (is_lasting t && passes (λ r. key_eq k t && q place r) (row_at place (rows_under state t)))) (key_same k key e)
-        (own place (key_eq k k) (key_refl k) (row_at place (rows_under state k)) ∙ sym (ap (λ b. b && passes (λ r. key_eq k k && q place r) (row_at place (rows_under state k))) l))
-    go key place false e = and_none (is_lasting key) (passes (λ r. key_eq k key && q place r) (row_at place (rows_under state key))) (none (key_eq k key) e place (row_at place (rows_under state key)))
+        subst (λ t. passes (q place) (row_at place (placed_under state k)) ≡ (is_lasting t && passes (λ r. key_eq k t && q place r) (row_at place (placed_under state t)))) (key_same k key e)
+        (own place (key_eq k k) (key_refl k) (row_at place (placed_under state k)) ∙ sym (ap (λ b. b && passes (λ r. key_eq k k && q place r) (row_at place (placed_under state k))) l))
+    go key place false e = and_none (is_lasting key) (passes (λ r. key_eq k key && q place r) (row_at place (placed_under state key))) (none (key_eq k key) e place (row_at place (placed_under state key)))
 
-    rows_are : (key : Key) (place : ℕ) → is_one_of rows key place ≡ (is_lasting key && passes (goes key place) (row_at place (rows_under state key)))
-    rows_are key place = a key place ∙ go key place (key_eq k key) refl ∙ sym (ap (λ b. is_lasting key && b) (passes_same (goes key place) (λ r. key_eq k key && q place r) (g key place) (row_at place (rows_under state key))))
+    rows_are : (key : Key) (place : ℕ) → is_one_of rows key place ≡ (is_lasting key && passes (goes key place) (row_at place (placed_under state key)))
+    rows_are key place = a key place ∙ go key place (key_eq k key) refl ∙ sym (ap (λ b. is_lasting key && b) (passes_same (goes key place) (λ r. key_eq k key && q place r) (g key place) (row_at place (placed_under state key))))
 
 -- nothing goes where no row stands under the key
-pub none_of : (k : Key) (q : ℕ → Row → Bool) (state : State) → rows_under state k ≡ [] → AreOf k q state []
+pub none_of : (k : Key) (q : ℕ → Row → Bool) (state : State) → placed_under state k ≡ [] → AreOf k q state []
 none_of k q state e key place = sym (ap (λ rows. key_eq k key && passes (q place) (row_at place rows)) e ∙ go (key_eq k key))
   where
     go : (b : Bool) → (b && false) ≡ false
@@ -203,19 +204,19 @@ taken_stored now place x under t p = go (x.place == place) refl
     go false e = elsewhere now place x (row_at place under) e ∙ sym (ap (λ b. passes (has_lapsed now) (row_at place under) || b) e ∙ or_false (passes (has_lapsed now) (row_at place under)))
 
 pub takes_nothing : (now : ℕ) (k : Key) (next : Option PlacedRow) (state : State) (rows : List (Key × ℕ)) → next ≡ None → AreOf k (λ place. has_lapsed now) state rows → AreOf k (λ place r. has_lapsed now r || is_place_of next place) state rows
-takes_nothing now k next state rows e a key place = a key place ∙ ap (λ b. key_eq k key && b) (sym (ap (λ n. passes (λ r. has_lapsed now r || is_place_of n place) (row_at place (rows_under state k))) e ∙ taken_none now place (row_at place (rows_under state k))))
+takes_nothing now k next state rows e a key place = a key place ∙ ap (λ b. key_eq k key && b) (sym (ap (λ n. passes (λ r. has_lapsed now r || is_place_of n place) (row_at place (placed_under state k))) e ∙ taken_none now place (row_at place (placed_under state k))))
 
-pub takes_unstored : (now : ℕ) (k : Key) (next : Option PlacedRow) (state : State) (x : PlacedRow) (rows : List (Key × ℕ)) → row_at x.place (rows_under state k) ≡ Some x.row → next ≡ Some x → is_persistent x.row.message.mode ≡ false →
+pub takes_unstored : (now : ℕ) (k : Key) (next : Option PlacedRow) (state : State) (x : PlacedRow) (rows : List (Key × ℕ)) → row_at x.place (placed_under state k) ≡ Some x.row → next ≡ Some x → is_persistent x.row.message.mode ≡ false →
     AreOf k (λ place. has_lapsed now) state rows → AreOf k (λ place r. has_lapsed now r || is_place_of next place) state rows
-takes_unstored now k next state x rows t e f a key place = a key place ∙ ap (λ b. key_eq k key && b) (sym (ap (λ n. passes (λ r. has_lapsed now r || is_place_of n place) (row_at place (rows_under state k))) e ∙ taken_unstored now place x (rows_under state k) t f))
+takes_unstored now k next state x rows t e f a key place = a key place ∙ ap (λ b. key_eq k key && b) (sym (ap (λ n. passes (λ r. has_lapsed now r || is_place_of n place) (row_at place (placed_under state k))) e ∙ taken_unstored now place x (placed_under state k) t f))
 
-pub takes_stored : (now : ℕ) (k : Key) (next : Option PlacedRow) (state : State) (x : PlacedRow) (rows : List (Key × ℕ)) → row_at x.place (rows_under state k) ≡ Some x.row → next ≡ Some x → is_persistent x.row.message.mode ≡ true →
+pub takes_stored : (now : ℕ) (k : Key) (next : Option PlacedRow) (state : State) (x : PlacedRow) (rows : List (Key × ℕ)) → row_at x.place (placed_under state k) ≡ Some x.row → next ≡ Some x → is_persistent x.row.message.mode ≡ true →
     AreOf k (λ place. has_lapsed now) state rows → AreOf k (λ place r. has_lapsed now r || is_place_of next place) state (rows ++ (k, x.place) ∷ [])
 takes_stored now k next state x rows t e f a key place =
     list_any-append (λ y. is_at y.0 y.1 key place) rows ((k, x.place) ∷ [])
     ∙ ap (λ b. b || ((key_eq k key && (x.place == place)) || false)) (a key place)
-    ∙ joins (key_eq k key) (passes (has_lapsed now) (row_at place (rows_under state k))) (x.place == place)
-    ∙ ap (λ b. key_eq k key && b) (sym (ap (λ n. passes (λ r. has_lapsed now r || is_place_of n place) (row_at place (rows_under state k))) e ∙ taken_stored now place x (rows_under state k) t f))
+    ∙ joins (key_eq k key) (passes (has_lapsed now) (row_at place (placed_under state k))) (x.place == place)
+    ∙ ap (λ b. key_eq k key && b) (sym (ap (λ n. passes (λ r. has_lapsed now r || is_place_of n place) (row_at place (placed_under state k))) e ∙ taken_stored now place x (placed_under state k) t f))
   where
     joins : (a l e : Bool) → ((a && l) || ((a && e) || false)) ≡ (a && (l || e))
     joins true true e = refl
@@ -233,51 +234,51 @@ next_none p now (Durable client name) rows e = ap (next_under p now (Durable cli
 
 -- of the first keys, the rows that are out were met
 pub record AreOut (p : SessionId → ℕ → Bool) (state : State) (keys : List Key) (rows : List (Key × ℕ)) (n : ℕ) : Type 0 where
-  pub out : (key : Key) (place : ℕ) → is_one_of rows key place ≡ true → (is_lasting key && passes (is_out p) (row_at place (rows_under state key))) ≡ true
-  pub all : (i place : ℕ) → i < n → (is_lasting (key_in keys i) && passes (is_out p) (row_at place (rows_under state (key_in keys i)))) ≡ true → is_one_of rows (key_in keys i) place ≡ true
+  pub out : (key : Key) (place : ℕ) → is_one_of rows key place ≡ true → (is_lasting key && passes (is_out p) (row_at place (placed_under state key))) ≡ true
+  pub all : (i place : ℕ) → i < n → (is_lasting (key_in keys i) && passes (is_out p) (row_at place (placed_under state (key_in keys i)))) ≡ true → is_one_of rows (key_in keys i) place ≡ true
 
 pub out_none : (p : SessionId → ℕ → Bool) (state : State) (keys : List Key) → AreOut p state keys [] 0
 out_none p state keys = record { out = λ key place e. cc; all = λ i place l e. absurd (omega (arith, l)) }
 
 -- those of the next key were met
 pub out_more : (p : SessionId → ℕ → Bool) (state : State) (keys : List Key) (old new : List (Key × ℕ)) (n : ℕ) → is_lasting (key_in keys n) ≡ true → AreOut p state keys old n →
-    ((key : Key) (place : ℕ) → is_one_of new key place ≡ (is_one_of old key place || (key_eq (key_in keys n) key && passes (is_out p) (row_at place (rows_under state (key_in keys n)))))) → AreOut p state keys new (n + 1)
+    ((key : Key) (place : ℕ) → is_one_of new key place ≡ (is_one_of old key place || (key_eq (key_in keys n) key && passes (is_out p) (row_at place (placed_under state (key_in keys n)))))) → AreOut p state keys new (n + 1)
 out_more p state keys old new n l a e = record {
   out = λ key place h. out key place (is_one_of old key place) (key_eq (key_in keys n) key) refl refl (sym (e key place) ∙ h);
   all = λ i place m h. all i place (nat_lt i n) refl m h;
 }
   where
-    out : (key : Key) (place : ℕ) (b c : Bool) → is_one_of old key place ≡ b → key_eq (key_in keys n) key ≡ c → (b || (c && passes (is_out p) (row_at place (rows_under state (key_in keys n))))) ≡ true → (is_lasting key && passes (is_out p) (row_at place (rows_under state key))) ≡ true
+    out : (key : Key) (place : ℕ) (b c : Bool) → is_one_of old key place ≡ b → key_eq (key_in keys n) key ≡ c → (b || (c && passes (is_out p) (row_at place (placed_under state (key_in keys n))))) ≡ true → (is_lasting key && passes (is_out p) (row_at place (placed_under state key))) ≡ true
     out key place true c f g h = a.out key place f
     out key place false true f g h =
-        subst (λ t. (is_lasting t && passes (is_out p) (row_at place (rows_under state t))) ≡ true) (key_same (key_in keys n) key g)
-        (ap (λ b. b && passes (is_out p) (row_at place (rows_under state (key_in keys n)))) l ∙ h)
+        subst (λ t. (is_lasting t && passes (is_out p) (row_at place (placed_under state t))) ≡ true) (key_same (key_in keys n) key g)
+        (ap (λ b. b && passes (is_out p) (row_at place (placed_under state (key_in keys n)))) l ∙ h)
     out key place false false f g h = cc
 
     and_too : (b c : Bool) → (b && c) ≡ true → c ≡ true
     and_too true c h = h
     and_too false c h = cc
 
-    all : (i place : ℕ) (b : Bool) → nat_lt i n ≡ b → i < n + 1 → (is_lasting (key_in keys i) && passes (is_out p) (row_at place (rows_under state (key_in keys i)))) ≡ true → is_one_of new (key_in keys i) place ≡ true
-    all i place true f m h = e (key_in keys i) place ∙ ap (λ b. b || (key_eq (key_in keys n) (key_in keys i) && passes (is_out p) (row_at place (rows_under state (key_in keys n))))) (a.all i place (grind (arith, nat_tests)) h)
+    all : (i place : ℕ) (b : Bool) → nat_lt i n ≡ b → i < n + 1 → (is_lasting (key_in keys i) && passes (is_out p) (row_at place (placed_under state (key_in keys i)))) ≡ true → is_one_of new (key_in keys i) place ≡ true
+    all i place true f m h = e (key_in keys i) place ∙ ap (λ b. b || (key_eq (key_in keys n) (key_in keys i) && passes (is_out p) (row_at place (placed_under state (key_in keys n))))) (a.all i place (grind (arith, nat_tests)) h)
     all i place false f m h =
         let same : n ≡ i = grind (arith, nat_tests) in
-        subst (λ i. (is_lasting (key_in keys i) && passes (is_out p) (row_at place (rows_under state (key_in keys i)))) ≡ true → is_one_of new (key_in keys i) place ≡ true) same
+        subst (λ i. (is_lasting (key_in keys i) && passes (is_out p) (row_at place (placed_under state (key_in keys i)))) ≡ true → is_one_of new (key_in keys i) place ≡ true) same
         (λ h. e (key_in keys n) place
-        ∙ ap (λ b. is_one_of old (key_in keys n) place || (b && passes (is_out p) (row_at place (rows_under state (key_in keys n))))) (key_refl (key_in keys n))
-        ∙ ap (λ b. is_one_of old (key_in keys n) place || b) (and_too (is_lasting (key_in keys n)) (passes (is_out p) (row_at place (rows_under state (key_in keys n)))) h)
+        ∙ ap (λ b. is_one_of old (key_in keys n) place || (b && passes (is_out p) (row_at place (placed_under state (key_in keys n))))) (key_refl (key_in keys n))
+        ∙ ap (λ b. is_one_of old (key_in keys n) place || b) (and_too (is_lasting (key_in keys n)) (passes (is_out p) (row_at place (placed_under state (key_in keys n)))) h)
         ∙ or_true (is_one_of old (key_in keys n) place)) h
 
 -- a key under which nothing lasts has none
 pub out_same : (p : SessionId → ℕ → Bool) (state : State) (keys : List Key) (rows : List (Key × ℕ)) (n : ℕ) → is_lasting (key_in keys n) ≡ false → AreOut p state keys rows n → AreOut p state keys rows (n + 1)
 out_same p state keys rows n l a = record { out = a.out; all = λ i place m h. all i place (nat_lt i n) refl m h }
   where
-    all : (i place : ℕ) (b : Bool) → nat_lt i n ≡ b → i < n + 1 → (is_lasting (key_in keys i) && passes (is_out p) (row_at place (rows_under state (key_in keys i)))) ≡ true → is_one_of rows (key_in keys i) place ≡ true
+    all : (i place : ℕ) (b : Bool) → nat_lt i n ≡ b → i < n + 1 → (is_lasting (key_in keys i) && passes (is_out p) (row_at place (placed_under state (key_in keys i)))) ≡ true → is_one_of rows (key_in keys i) place ≡ true
     all i place true f m h = a.all i place (grind (arith, nat_tests)) h
     all i place false f m h =
         let same : n ≡ i = grind (arith, nat_tests) in
-        subst (λ i. (is_lasting (key_in keys i) && passes (is_out p) (row_at place (rows_under state (key_in keys i)))) ≡ true → is_one_of rows (key_in keys i) place ≡ true) same
-        (λ h. absurd (let both : false ≡ true = sym (ap (λ b. b && passes (is_out p) (row_at place (rows_under state (key_in keys n)))) l) ∙ h in cc)) h
+        subst (λ i. (is_lasting (key_in keys i) && passes (is_out p) (row_at place (placed_under state (key_in keys i)))) ≡ true → is_one_of rows (key_in keys i) place ≡ true) same
+        (λ h. absurd (let both : false ≡ true = sym (ap (λ b. b && passes (is_out p) (row_at place (placed_under state (key_in keys n)))) l) ∙ h in cc)) h
 
 -- so all that are out were met
 pub out_gone : (p : SessionId → ℕ → Bool) (state : State) (keys : List Key) (rows : List (Key × ℕ)) (delays gone : List ℕ) → Covers keys state → AreOut p state keys rows (length keys) → AreMet (λ key r. is_out p r) state rows delays gone → AreGone (out_through p) state rows delays gone
@@ -285,9 +286,9 @@ out_gone p state keys rows delays gone c a m = record {
   rows_are = rows_are;
   places_are = record {
     last = λ key place e h.
-        let s = stored_is (is_lasting key) (row_at place (rows_under state key)) h in
-        let own : is_out p s.0 ≡ true = must_go (is_out p) (is_lasting key) (row_at place (rows_under state key)) s.0 s.1 s.2 s.3 (m.last place e key) in
-        rows_are key place ∙ ap (λ b. b && passes (is_out p) (row_at place (rows_under state key))) s.1 ∙ ap (passes (is_out p)) s.2 ∙ ap (λ b. b && is_out p s.0) s.3 ∙ own;
+        let s = stored_is (is_lasting key) (row_at place (placed_under state key)) h in
+        let own : is_out p s.0 ≡ true = must_go (is_out p) (is_lasting key) (row_at place (placed_under state key)) s.0 s.1 s.2 s.3 (m.last place e key) in
+        rows_are key place ∙ ap (λ b. b && passes (is_out p) (row_at place (placed_under state key))) s.1 ∙ ap (passes (is_out p)) s.2 ∙ ap (λ b. b && is_out p s.0) s.3 ∙ own;
     left = λ key place e h.
         let l = m.left key place e h in
         let s = stays_stored (λ key r. is_out p r) state l.0 place l.1 in
@@ -310,9 +311,9 @@ out_gone p state keys rows delays gone c a m = record {
     never true e = e
     never false e = e
 
-    all : (key : Key) (place : ℕ) → (rows_under state key ≡ []) ⊎ ((i : ℕ) × (i < length keys) × (key_in keys i ≡ key)) → (is_lasting key && passes (is_out p) (row_at place (rows_under state key))) ≡ true → is_one_of rows key place ≡ true
+    all : (key : Key) (place : ℕ) → (placed_under state key ≡ []) ⊎ ((i : ℕ) × (i < length keys) × (key_in keys i ≡ key)) → (is_lasting key && passes (is_out p) (row_at place (placed_under state key))) ≡ true → is_one_of rows key place ≡ true
     all key place (inl e) h = absurd (let no : false ≡ true = never (is_lasting key) (sym (ap (λ rows. is_lasting key && passes (is_out p) (row_at place rows)) e) ∙ h) in cc)
-    all key place (inr w) h = subst (λ t. (is_lasting t && passes (is_out p) (row_at place (rows_under state t))) ≡ true → is_one_of rows t place ≡ true) w.2 (a.all w.0 place w.1) h
+    all key place (inr w) h = subst (λ t. (is_lasting t && passes (is_out p) (row_at place (placed_under state t))) ≡ true → is_one_of rows t place ≡ true) w.2 (a.all w.0 place w.1) h
 
-    rows_are : (key : Key) (place : ℕ) → is_one_of rows key place ≡ (is_lasting key && passes (is_out p) (row_at place (rows_under state key)))
-    rows_are key place = both (is_one_of rows key place) (is_lasting key && passes (is_out p) (row_at place (rows_under state key))) (a.out key place) (all key place (c key))
+    rows_are : (key : Key) (place : ℕ) → is_one_of rows key place ≡ (is_lasting key && passes (is_out p) (row_at place (placed_under state key)))
+    rows_are key place = both (is_one_of rows key place) (is_lasting key && passes (is_out p) (row_at place (placed_under state key))) (a.out key place) (all key place (c key))

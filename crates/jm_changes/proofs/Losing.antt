@@ -9,10 +9,11 @@ use Rattle.jm_header.specs.Headers.{is_delayed}
 use Rattle.jm_machine.specs.declared.state.PlacedRow.{PlacedRow}
 use Rattle.jm_machine.specs.declared.state.Row.{Row}
 use Rattle.jm_machine.specs.Machine.{State}
+use Rattle.jm_machine.specs.Under.{is_persistent, placed_under}
 use Rattle.jm_machine.proofs.Keys.{key_refl}
 use Rattle.jm_keep.specs.Stored.{is_at}
 use Rattle.jm_keep.specs.Leads.{is_among, is_one_of}
-use Rattle.jm_keep.specs.Persisted.{is_persistent, row_at, rows_under}
+use Rattle.jm_keep.specs.Persisted.{row_at}
 use Rattle.jm_changes.specs.declared.planned.Standing.{Standing}
 use Rattle.jm_changes.specs.Standing.{IsLeft, IsRead, AreMet, Tells, delay_at, first_where, stays}
 use Rattle.jm_keep.specs.Steps.{passes}
@@ -67,7 +68,7 @@ more_delays delays d place p = list_any-append (λ q. q == p) delays (delay_at d
     go false = refl
 
 -- a message goes of which no stored row stays, with a delay or without
-fits_delayed : (g : Key → Row → Bool) (state : State) (rows : List (Key × ℕ)) (delays gone : List ℕ) (k : Key) (place : ℕ) (d : Bool) → AreMet g state rows delays gone → IfSome (row_at place (rows_under state k)) (λ r. d ≡ is_delayed r.message) → ((key : Key) → stays g state key place ≡ false) →
+fits_delayed : (g : Key → Row → Bool) (state : State) (rows : List (Key × ℕ)) (delays gone : List ℕ) (k : Key) (place : ℕ) (d : Bool) → AreMet g state rows delays gone → IfSome (row_at place (placed_under state k)) (λ r. d ≡ is_delayed r.message) → ((key : Key) → stays g state key place ≡ false) →
     AreMet g state (rows ++ (k, place) ∷ []) (delays ++ delay_at d place) (gone ++ place ∷ [])
 fits_delayed g state rows delays gone k place d f s n = record {
   met = λ p e. met p (is_among gone p) (place == p) refl refl (sym (list_any-append (λ q. q == p) gone (place ∷ [])) ∙ e);
@@ -93,10 +94,10 @@ fits_delayed g state rows delays gone k place d f s n = record {
     and_false false = refl
 
     kept : (p : ℕ) → is_among gone p ≡ true → is_among (delays ++ delay_at d place) p ≡ is_among delays p → Tells state (rows ++ (k, place) ∷ []) (delays ++ delay_at d place) p
-    kept p h e = let w = f.met p h in (w.0, more_one rows (k, place) w.0 p w.1, subst (λ b. IfSome (row_at p (rows_under state w.0)) (λ r. b ≡ is_delayed r.message)) (sym e) w.2)
+    kept p h e = let w = f.met p h in (w.0, more_one rows (k, place) w.0 p w.1, subst (λ b. IfSome (row_at p (placed_under state w.0)) (λ r. b ≡ is_delayed r.message)) (sym e) w.2)
 
     told : (p : ℕ) → place ≡ p → is_among (delays ++ delay_at d place) p ≡ d → Tells state (rows ++ (k, place) ∷ []) (delays ++ delay_at d place) p
-    told p same e = subst (λ p. is_among (delays ++ delay_at d place) p ≡ d → Tells state (rows ++ (k, place) ∷ []) (delays ++ delay_at d place) p) same (λ e. (k, last_one rows k place, subst (λ b. IfSome (row_at place (rows_under state k)) (λ r. b ≡ is_delayed r.message)) (sym e) s)) e
+    told p same e = subst (λ p. is_among (delays ++ delay_at d place) p ≡ d → Tells state (rows ++ (k, place) ∷ []) (delays ++ delay_at d place) p) same (λ e. (k, last_one rows k place, subst (λ b. IfSome (row_at place (placed_under state k)) (λ r. b ≡ is_delayed r.message)) (sym e) s)) e
 
     not_among : (p : ℕ) → is_among gone p ≡ false → is_among delays p ≡ false
     not_among p h = go (is_among delays p) refl
@@ -238,7 +239,7 @@ pub turn_same : (q : Row → Bool) (k : Key) (under : List PlacedRow) (before ro
 turn_same q k under before rows place r m e h = subst (λ s. Has q k under before rows (s.place + 1)) m.same (has_same q k under before rows place m.row m.first (ap (λ s. s.is_persistent) m.same ∙ e) h)
 
 -- what was read of the row tells whether its message has a delay
-pub turn_read : (q : Row → Bool) (place : ℕ) (state : State) (k : Key) (r : Standing) → IsMet q place (rows_under state k) r → IsRead state k r
+pub turn_read : (q : Row → Bool) (place : ℕ) (state : State) (k : Key) (r : Standing) → IsMet q place (placed_under state k) r → IsRead state k r
 turn_read q place state k r m = subst (λ s. IsRead state k s) m.same (subst (λ o. IfSome o (λ x. is_delayed m.row.row.message ≡ is_delayed x.message)) (sym m.first.there) refl)
 
 -- ---- whether a stored row is left

@@ -5,7 +5,8 @@ use Rattle.std.proofs.lemmas.Bool.Decides.{nat_tests}
 use Rattle.jm_dest.specs.declared.key.Key.{Key}
 use Rattle.jm_machine.specs.declared.state.Row.{Row}
 use Rattle.jm_machine.specs.Machine.{State}
-use Rattle.jm_keep.specs.Persisted.{is_lasting, row_at, rows_under}
+use Rattle.jm_machine.specs.Under.{placed_under}
+use Rattle.jm_keep.specs.Persisted.{is_lasting, row_at}
 use Rattle.jm_changes.specs.Standing.{Covers, key_in, stays}
 use Rattle.jm_keep.specs.Steps.{passes}
 
@@ -31,6 +32,6 @@ none_of_all g state keys place c h key = go (c key)
     and_false true = refl
     and_false false = refl
 
-    go : (rows_under state key ≡ []) ⊎ ((i : ℕ) × (i < length keys) × (key_in keys i ≡ key)) → stays g state key place ≡ false
+    go : (placed_under state key ≡ []) ⊎ ((i : ℕ) × (i < length keys) × (key_in keys i ≡ key)) → stays g state key place ≡ false
     go (inl e) = ap (λ rows. is_lasting key && passes (λ r. not (g key r)) (row_at place rows)) e ∙ and_false (is_lasting key)
     go (inr w) = subst (λ k. stays g state k place ≡ false) w.2 (h w.0 w.1)

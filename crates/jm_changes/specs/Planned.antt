@@ -14,8 +14,7 @@ use Rattle.jm_machine.specs.declared.state.Definition.{Definition}
 use Rattle.jm_machine.specs.declared.state.PlacedRow.{PlacedRow}
 use Rattle.jm_machine.specs.Life.{client_of, is_started}
 use Rattle.jm_machine.specs.Machine.{State, asked, consumer_of, definition_of, durable_of, places_end, same_definition, selected_by, station_of}
-use Rattle.jm_keep.specs.Persisted.{rows_under}
-use Rattle.jm_keep.specs.Steps.{next_under}
+use Rattle.jm_machine.specs.Under.{next_under, placed_under}
 
 -- a subscription of the key that asks for that is decided where none stands, or one that asks for another thing
 abbrev pub IsDecided : Key → Definition → Option Definition → Option (Key × Definition) → Type 0
@@ -26,7 +25,7 @@ IsDecided k d (Some old) decided = MatchBool (same_definition old d) (decided �
 abbrev pub IsTaken : State → SessionId → ℕ → ℕ → Option ℕ → Type 0
 IsTaken state s c now taken =
     (x : Consumer) → is_started state.life s.connection ≡ true → consumer_of state.consumers s c ≡ Some x →
-    taken ≡ option_map (λ (r : PlacedRow). r.place) (next_under (selected_by (Some x)) now x.key (rows_under state x.key))
+    taken ≡ option_map (λ (r : PlacedRow). r.place) (next_under (selected_by (Some x)) now x.key (placed_under state x.key))
 
 -- what a request of the session was planned to delete, and to put, and the place of the row that it was planned to take
 abbrev pub IsPlannedRequest : State → SessionId → Request → Option Key → Option (Key × Definition) → Option ℕ → Type 0

@@ -3,9 +3,9 @@ use Rattle.std.specs.Prelude.{◌≡◌, ℕ, true, List, ◌++◌}
 use Rattle.jm_dest.specs.declared.key.Key.{Key}
 use Rattle.jm_header.specs.declared.content.Content.{Content}
 use Rattle.jm_machine.specs.Machine.{State}
+use Rattle.jm_machine.specs.Under.{is_persistent}
 use Rattle.jm_keep.specs.declared.change.RowChange.{RowChange}
 use Rattle.jm_keep.specs.Calls.{AreTakers, brought}
-use Rattle.jm_keep.specs.Persisted.{is_persistent}
 
 -- after those changes stand the ones by which the message comes at the place to the keys that take it
 abbrev pub IsBrought : State → Content → ℕ → List RowChange → List RowChange → Type 0

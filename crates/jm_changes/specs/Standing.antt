@@ -8,7 +8,8 @@ use Rattle.jm_machine.specs.declared.state.PlacedRow.{PlacedRow}
 use Rattle.jm_machine.specs.declared.state.Row.{Row}
 use Rattle.jm_machine.specs.Rows.{has_lapsed, is_out}
 use Rattle.jm_machine.specs.Machine.{State, are_meant}
-use Rattle.jm_keep.specs.Persisted.{is_lasting, is_persistent, row_at, rows_under}
+use Rattle.jm_machine.specs.Under.{is_persistent, placed_under}
+use Rattle.jm_keep.specs.Persisted.{is_lasting, row_at}
 use Rattle.jm_keep.specs.Leads.{is_among, is_one_of}
 use Rattle.jm_keep.specs.Steps.{passes}
 use Rattle.jm_changes.specs.declared.planned.Standing.{Standing}
@@ -42,7 +43,7 @@ key_in keys i = slice_index_or keys i (Queue [])
 
 -- each key under which rows stand is one of those
 abbrev pub Covers : List Key → State → Type 0
-Covers keys state = (key : Key) → (rows_under state key ≡ []) ⊎ ((i : ℕ) × (i < length keys) × (key_in keys i ≡ key))
+Covers keys state = (key : Key) → (placed_under state key ≡ []) ⊎ ((i : ℕ) × (i < length keys) × (key_in keys i ≡ key))
 
 -- a row at a place that was met goes: each of the one key does, or each that is out through those consumers
 abbrev pub goes : List Key → Going → Key → Row → Bool
@@ -51,11 +52,11 @@ goes keys (going.Out which) key r = is_out (are_meant which) r
 
 -- a stored row of the key stands at the place, and does not go
 abbrev pub stays : (Key → Row → Bool) → State → Key → ℕ → Bool
-stays g state key place = is_lasting key && passes (λ r. not (g key r)) (row_at place (rows_under state key))
+stays g state key place = is_lasting key && passes (λ r. not (g key r)) (row_at place (placed_under state key))
 
 -- the row under the key at its place has a delay exactly where that was read
 abbrev pub IsRead : State → Key → Standing → Type 0
-IsRead state key s = IfSome (row_at s.place (rows_under state key)) (λ r. s.is_delayed ≡ is_delayed r.message)
+IsRead state key s = IfSome (row_at s.place (placed_under state key)) (λ r. s.is_delayed ≡ is_delayed r.message)
 
 -- the place of a message that goes, where it has a delay
 abbrev pub delay_at : Bool → ℕ → List ℕ
@@ -64,7 +65,7 @@ delay_at false place = []
 
 -- one of the rows stands at the place, and its message has a delay exactly where the place is among the delays
 abbrev pub Tells : State → List (Key × ℕ) → List ℕ → ℕ → Type 0
-Tells state rows delays place = (key : Key) × (is_one_of rows key place ≡ true) × IfSome (row_at place (rows_under state key)) (λ r. is_among delays place ≡ is_delayed r.message)
+Tells state rows delays place = (key : Key) × (is_one_of rows key place ≡ true) × IfSome (row_at place (placed_under state key)) (λ r. is_among delays place ≡ is_delayed r.message)
 
 -- of the rows that go, the places of those messages go of which no stored row stays; the delays are those of these places
 -- where the message has a delay
@@ -86,9 +87,9 @@ IsLeft g state place false = (key : Key) → stays g state key place ≡ false
 
 -- the key stands there among those; or nowhere, and no row stands under it
 abbrev pub IsIndexOf : List Key → State → Key → Option ℕ → Type 0
-IsIndexOf keys state key None = rows_under state key ≡ []
+IsIndexOf keys state key None = placed_under state key ≡ []
 IsIndexOf keys state key (Some i) = (i < length keys) × (key_in keys i ≡ key)
 
 -- the rows are those of the key at whose places they go
 abbrev pub AreOf : Key → (ℕ → Row → Bool) → State → List (Key × ℕ) → Type 0
-AreOf k q state rows = (key : Key) (place : ℕ) → is_one_of rows key place ≡ (key_eq k key && passes (q place) (row_at place (rows_under state k)))
+AreOf k q state rows = (key : Key) (place : ℕ) → is_one_of rows key place ≡ (key_eq k key && passes (q place) (row_at place (placed_under state k)))

@@ -2,7 +2,8 @@
 
 ghost use Rattle.std.specs.Prelude.{◌≡◌, ◌<◌, ◌≤◌, length};
 ghost use Rattle.jm_dest.specs.Numbers.{long_end};
-ghost use Rattle.jm_keep.specs.Persisted.{is_lasting as lasts, row_at, rows_under};
+ghost use Rattle.jm_machine.specs.Under.{placed_under};
+ghost use Rattle.jm_keep.specs.Persisted.{is_lasting as lasts, row_at};
 ghost use Rattle.jm_keep.specs.Steps.{StandsInOrder, passes};
 ghost use Rattle.jm_changes.specs.Standing.{IsLeft, IsWithin, goes, key_in, meant, stays};
 
@@ -31,7 +32,7 @@ fn stands<P: Planned>(planned: &P, index: usize, place: u64, which: &Which) -> b
     requires within { index < length (P.keys planned.now) }
     requires place { place ≤ long_end }
     requires order { StandsInOrder (P.state planned.now) }
-    ensures { result ≡ passes (meant which.now) (row_at place (rows_under (P.state planned.now) (key_in (P.keys planned.now) index))) }
+    ensures { result ≡ passes (meant which.now) (row_at place (placed_under (P.state planned.now) (key_in (P.keys planned.now) index))) }
 {
     match planned.row_where(index, place, which) {
         Some(row) => row.place == place && row.is_persistent,

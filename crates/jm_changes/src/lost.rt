@@ -4,9 +4,10 @@ ghost use Rattle.std.specs.Prelude.{◌≡◌, ◌<◌, ◌≤◌, ◌++◌, ◌
 ghost use Rattle.jm_dest.specs.Numbers.{long_end};
 ghost use Rattle.jm_dest.specs.declared.key.Key as logic;
 ghost use Rattle.jm_dest.specs.Keys.{key_eq};
+ghost use Rattle.jm_machine.specs.Under.{placed_under};
 ghost use Rattle.jm_keep.specs.declared.change.RowChange.TheVariants.{DropDelay, DropHeld, DropMessage};
 ghost use Rattle.jm_keep.specs.Leads.{drops, is_one_of};
-ghost use Rattle.jm_keep.specs.Persisted.{row_at, rows_under};
+ghost use Rattle.jm_keep.specs.Persisted.{row_at};
 ghost use Rattle.jm_keep.specs.Steps.{StandsInOrder, passes};
 ghost use Rattle.jm_changes.specs.Standing.{AreMet, IsRead, IsWithin, delay_at, goes, key_in, meant};
 
@@ -133,7 +134,7 @@ impl Lost {
         ensures fit { OnOk result (AreMet (goes (P.keys planned.now) going.now) (P.state planned.now) self.new.rows.items self.new.delays.items self.new.gone.items) }
         ensures rows { OnOk result ((key : logic.Key) (p : ℕ) → is_one_of self.new.rows.items key p ≡ (is_one_of self.old.rows.items key p
             || (key_eq (key_in (P.keys planned.now) index) key
-            && passes (meant which.now) (row_at p (rows_under (P.state planned.now) (key_in (P.keys planned.now) index)))))) }
+            && passes (meant which.now) (row_at p (placed_under (P.state planned.now) (key_in (P.keys planned.now) index)))))) }
     {
         let mut place = 0;
         while let Some(row) = planned.row_where(index, place, which) {

@@ -9,8 +9,8 @@ ghost use Rattle.jm_machine.specs.declared.state.Definition.{Definition as Defin
 ghost use Rattle.jm_machine.specs.Life as life;
 ghost use Rattle.jm_machine.specs.Machine as machine;
 ghost use Rattle.jm_machine.specs.Machine.{State};
+ghost use Rattle.jm_machine.specs.Under.{placed_under};
 ghost use Rattle.jm_keep.specs.Calls.{AreTakers};
-ghost use Rattle.jm_keep.specs.Persisted.{rows_under};
 ghost use Rattle.jm_changes.specs.Standing.{Covers, IsIndexOf, first_where, key_in, meant, standing};
 
 use jm_base::Mode;
@@ -71,7 +71,7 @@ pub trait Planned {
     fn row_where(&self, index: usize, place: u64, which: &Which) -> Option<Standing>
         requires within { index < length (keys self.now) }
         requires place { place ≤ long_end }
-        ensures row { result ≡ option_map standing (first_where (meant which.now) place (rows_under (state self.now) (key_in (keys self.now) index))) }
+        ensures row { result ≡ option_map standing (first_where (meant which.now) place (placed_under (state self.now) (key_in (keys self.now) index))) }
         ensures place { IfSome result (λ r. r.place < long_end) };
 
     /// What the subscription of the key asks for, where there is one.

@@ -3,12 +3,13 @@
 ghost use Rattle.std.specs.Prelude.{◌≡◌, ◌≤◌, ◌+◌, ◌∷◌, ◌++◌, [], Some, length, map, slice_get, IfOk, OnOk};
 ghost use Rattle.jm_dest.specs.declared.key.Key as logic;
 ghost use Rattle.jm_machine.specs.Machine.{places_end};
+ghost use Rattle.jm_machine.specs.Under.{is_persistent as persists};
 ghost use Rattle.jm_keep.specs.declared.change.RowChange.TheVariants.{PutHeld, PutMessage};
 ghost use Rattle.jm_format.specs.Format as format;
 ghost use Rattle.jm_keep.specs.Calls.{ArePublished, come, queue_station};
 ghost use Rattle.jm_keep.specs.Leads.{put_delay};
 ghost use Rattle.jm_changes.specs.Sending.{IsBrought};
-ghost use Rattle.jm_keep.specs.Persisted.{due_time, is_persistent as persists};
+ghost use Rattle.jm_keep.specs.Persisted.{due_time};
 
 use crate::planned::Planned;
 use jm_base::List as Bytes;

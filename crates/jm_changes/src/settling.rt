@@ -5,9 +5,10 @@ ghost use Rattle.jm_dest.specs.Numbers.{long_end};
 ghost use Rattle.jm_machine.specs.declared.state.PlacedRow.{PlacedRow};
 ghost use Rattle.jm_machine.specs.Machine.{are_meant, selected_by};
 ghost use Rattle.jm_machine.specs.Rows.{raised};
+ghost use Rattle.jm_machine.specs.Under.{next_under, placed_under};
 ghost use Rattle.jm_keep.specs.Calls.{AreDelivered, AreDone, DropsThen};
-ghost use Rattle.jm_keep.specs.Persisted.{is_lasting as lasts, rows_under};
-ghost use Rattle.jm_keep.specs.Steps.{AreGone, StandsInOrder, counted, lapsed_under, next_under, out_through, out_under, taken_under};
+ghost use Rattle.jm_keep.specs.Persisted.{is_lasting as lasts};
+ghost use Rattle.jm_keep.specs.Steps.{AreGone, StandsInOrder, counted, lapsed_under, out_through, out_under, taken_under};
 ghost use Rattle.jm_changes.specs.declared.going.Going.TheVariants as one;
 ghost use Rattle.jm_changes.specs.Standing.{AreMet, AreOf, goes, key_in, meant, standing, taken_row};
 
@@ -73,7 +74,7 @@ fn lost_where<P: Planned>(
 /// The row under the key with that index that the delivery takes: that at the planned place.
 fn taken_at<P: Planned>(planned: &P, index: usize) -> Option<Standing>
     requires { index < length (P.keys planned.now) }
-    ensures row { result ≡ option_map standing (taken_row (P.takes planned.now) (rows_under (P.state planned.now) (key_in (P.keys planned.now) index))) }
+    ensures row { result ≡ option_map standing (taken_row (P.takes planned.now) (placed_under (P.state planned.now) (key_in (P.keys planned.now) index))) }
     ensures place { IfSome result (λ r. r.place < long_end) }
 {
     let place = planned.taken()?;
@@ -92,7 +93,7 @@ fn lost_taken<P: Planned>(
     requires lasting { lasts (key_in (P.keys planned.now) index) ≡ true }
     ensures { IfOk result (λ lost. AreGone
         (taken_under (key_in (P.keys planned.now) index) now
-        (taken_row (P.takes planned.now) (rows_under (P.state planned.now) (key_in (P.keys planned.now) index))))
+        (taken_row (P.takes planned.now) (placed_under (P.state planned.now) (key_in (P.keys planned.now) index))))
         (P.state planned.now) lost.rows.items lost.delays.items lost.gone.items) }
 {
     let mut lost = lost_where(alloc, planned, index, &Which::Lapsed(now))?;
@@ -116,7 +117,7 @@ fn received<P: Planned>(
     requires lasting { lasts (key_in (P.keys planned.now) index) ≡ true }
     ensures { IfOk result (λ changes. DropsThen
         (taken_under (key_in (P.keys planned.now) index) now
-        (taken_row (P.takes planned.now) (rows_under (P.state planned.now) (key_in (P.keys planned.now) index))))
+        (taken_row (P.takes planned.now) (placed_under (P.state planned.now) (key_in (P.keys planned.now) index))))
         (P.state planned.now) [] changes.items) }
 {
     lost_taken(alloc, planned, index, now)?.into_changes()
@@ -130,7 +131,7 @@ fn push_count<P: Planned>(
 ) -> Result<(), AllocError>
     requires within { index < length (P.keys planned.now) }
     ensures { OnOk result (changes.new.items ≡ changes.old.items ++ counted (key_in (P.keys planned.now) index)
-        (taken_row (P.takes planned.now) (rows_under (P.state planned.now) (key_in (P.keys planned.now) index)))) }
+        (taken_row (P.takes planned.now) (placed_under (P.state planned.now) (key_in (P.keys planned.now) index)))) }
 {
     if let Some(row) = taken_at(planned, index) {
         if row.is_persistent {
@@ -158,7 +159,7 @@ fn sent<P: Planned>(
     requires lasting { lasts (key_in (P.keys planned.now) index) ≡ true }
     ensures { IfOk result (λ changes. DropsThen (lapsed_under (key_in (P.keys planned.now) index) now) (P.state planned.now)
         (counted (key_in (P.keys planned.now) index)
-        (taken_row (P.takes planned.now) (rows_under (P.state planned.now) (key_in (P.keys planned.now) index))))
+        (taken_row (P.takes planned.now) (placed_under (P.state planned.now) (key_in (P.keys planned.now) index))))
         changes.items) }
 {
     let lost = lost_where(alloc, planned, index, &Which::Lapsed(now))?;
@@ -178,7 +179,7 @@ pub(crate) fn delivered<P: Planned>(
 ) -> Result<Vec<RowChange>, AllocError>
     requires order { StandsInOrder (P.state planned.now) }
     requires taken { P.takes planned.now ≡ option_map (λ (r : PlacedRow). r.place)
-        (next_under (selected_by (Some consumer.now)) now consumer.now.key (rows_under (P.state planned.now) consumer.now.key)) }
+        (next_under (selected_by (Some consumer.now)) now consumer.now.key (placed_under (P.state planned.now) consumer.now.key)) }
     ensures { IfOk result (λ changes. AreDelivered mode (selected_by (Some consumer.now)) now consumer.now.key (P.state planned.now) changes.items) }
 {
     if !is_lasting(&consumer.key) {

@@ -7,12 +7,13 @@ use Rattle.jm_dest.specs.declared.key.Key.{Key}
 use Rattle.jm_dest.specs.declared.key.Key.TheVariants.{Queue, Durable}
 use Rattle.jm_dest.specs.Names.{text_eq}
 use Rattle.jm_machine.proofs.Keys.{key_same}
+use Rattle.jm_machine.specs.Under.{is_key}
 use Rattle.sqlite.specs.Kind.TheVariants.{Integer}
 use Rattle.sqlite_schema.specs.Rules.{kind_of}
 use Rattle.sqlite_value.specs.Order.{Row, column, bytes}
 use Rattle.sqlite_trees.specs.Tree.{Trees, rowid}
 use Rattle.sqlite_rules.specs.Edit.{id_in}
-use Rattle.jm_tables.specs.Keys.{client_in, is_key, key_in, key_of, queue_in}
+use Rattle.jm_tables.specs.Keys.{client_in, key_in, key_of, queue_in}
 use Rattle.jm_tables.specs.Rows.{is_under}
 use Rattle.jm_tables.specs.Valid.{IsStoredDelay, IsStoredHeld, is_queue, is_station, is_stored_client, is_stored_name, is_subscription}
 use Rattle.jm_decoding.specs.Kinds.{HasKeyKinds}

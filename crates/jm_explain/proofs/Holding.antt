@@ -16,7 +16,7 @@ use Rattle.jm_machine.specs.declared.state.RowState.TheVariants.{Waiting, Out}
 use Rattle.jm_machine.specs.Machine.{State, holding_of, is_home, is_idle, rows_of, station_of}
 use Rattle.jm_machine.specs.Rows.{bare, goes_out, is_out, is_waiting, waits}
 use Rattle.jm_machine.specs.Wants.{placed_rows}
-use Rattle.jm_queues.specs.Rows.{rows_under}
+use Rattle.jm_machine.specs.Under.{placed_under}
 use Rattle.jm_overview.specs.Overview.{out_in}
 use Rattle.jm_explain.specs.Held.{is_any_active, is_any_out}
 
@@ -47,10 +47,10 @@ home_at : (o : Option Station) → not (list_any (λ r. is_out (λ s c. true) r)
 home_at o = ap (λ rows. not (list_any (is_out (λ s c. true)) rows)) (bare_of o) ∙ ap not (out_is (placed_rows o))
 
 -- no row of the key is out
-pub durable_home : (p : Content → Bool) (client : Option (List ℕ)) (name : List ℕ) (state : State) → is_home (holding_of p (Durable client name) state) ≡ not (is_any_out (rows_under state (Durable client name)))
+pub durable_home : (p : Content → Bool) (client : Option (List ℕ)) (name : List ℕ) (state : State) → is_home (holding_of p (Durable client name) state) ≡ not (is_any_out (placed_under state (Durable client name)))
 durable_home p client name state = home_at (station_of (Durable client name) state.stations)
 
-pub shared_home : (p : Content → Bool) (client : Option (List ℕ)) (name : List ℕ) (state : State) → is_home (holding_of p (SharedOwn client name) state) ≡ not (is_any_out (rows_under state (SharedOwn client name)))
+pub shared_home : (p : Content → Bool) (client : Option (List ℕ)) (name : List ℕ) (state : State) → is_home (holding_of p (SharedOwn client name) state) ≡ not (is_any_out (placed_under state (SharedOwn client name)))
 shared_home p client name state = home_at (station_of (SharedOwn client name) state.stations)
 
 not_none : (n : ℕ) → (suc n == 0) ≡ false

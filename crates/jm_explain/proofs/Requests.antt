@@ -12,7 +12,7 @@ use Rattle.jm_machine.specs.declared.call.Call.TheVariants.{Ask}
 use Rattle.jm_machine.specs.declared.state.Definition.{Definition}
 use Rattle.jm_machine.specs.Life.{client_of}
 use Rattle.jm_machine.specs.Machine.{State, asked, definition_of, durable_of, holding_of, is_home, is_idle, selected_by, station_of}
-use Rattle.jm_queues.specs.Rows.{rows_under}
+use Rattle.jm_machine.specs.Under.{placed_under}
 use Rattle.jm_why.specs.declared.cause.Why.{Why}
 use Rattle.jm_why.specs.declared.cause.Why.TheVariants.{NoClient}
 use Rattle.jm_why.specs.Why.{begin_why, delete_why, first_why, join_why, request_why, resume_why, session_why, subscription_why, unless, why as why_of}
@@ -25,13 +25,13 @@ Look = Option Definition → Bool → Bool → Option Why
 
 -- the same by the core's rows and consumers
 abbrev looked : Look → Key → State → Option Why
-looked f key state = f (definition_of (station_of key state.stations)) (not (is_any_active key state.consumers)) (not (is_any_out (rows_under state key)))
+looked f key state = f (definition_of (station_of key state.stations)) (not (is_any_active key state.consumers)) (not (is_any_out (placed_under state key)))
 
 -- it sees what the machine holds of the key of a durable subscription
 looked_durable : (f : Look) (p : Content → Bool) (client : Option (List ℕ)) (name : List ℕ) (state : State) →
     looked f (Durable client name) state ≡ f (definition_of (station_of (Durable client name) state.stations)) (is_idle (holding_of p (Durable client name) state)) (is_home (holding_of p (Durable client name) state))
 looked_durable f p client name state =
-    ap (λ b. f (definition_of (station_of (Durable client name) state.stations)) b (not (is_any_out (rows_under state (Durable client name))))) (sym (idle_is p (Durable client name) state))
+    ap (λ b. f (definition_of (station_of (Durable client name) state.stations)) b (not (is_any_out (placed_under state (Durable client name))))) (sym (idle_is p (Durable client name) state))
     ∙ ap (λ b. f (definition_of (station_of (Durable client name) state.stations)) (is_idle (holding_of p (Durable client name) state)) b) (sym (durable_home p client name state))
 
 -- the same of a key that is that of a session's durable subscription

@@ -1,8 +1,8 @@
 //! What is held of a key that has a name, as far as a cause looks at it.
 
 ghost use Rattle.std.specs.Prelude.{◌≡◌, not};
+ghost use Rattle.jm_machine.specs.Under.{placed_under};
 ghost use Rattle.jm_plans.specs.Provider.{state_of};
-ghost use Rattle.jm_queues.specs.Rows.{rows_under};
 ghost use Rattle.jm_explain.specs.Held.{is_active_at, is_any_active, is_any_out};
 
 use jm_core::Core;
@@ -33,7 +33,7 @@ pub(crate) fn is_idle(core: &Core, key: &Key) -> bool
 
 /// Whether no row of the key is out. Goes over its rows.
 pub(crate) fn is_home(core: &Core, key: &Key) -> bool
-    ensures { result ≡ not (is_any_out (rows_under (state_of core.now) key.now)) }
+    ensures { result ≡ not (is_any_out (placed_under (state_of core.now) key.now)) }
 {
     match core.index_of(key) {
         None => true,

@@ -3,10 +3,10 @@
 ghost use Rattle.std.specs.Prelude.{◌≡◌, is_some, IfOk};
 ghost use Rattle.std.specs.Option.{option_copied};
 ghost use Rattle.jm_plans.specs.Provider.{state_of};
-ghost use Rattle.jm_queues.specs.Rows.{rows_under};
 ghost use Rattle.jm_explain.specs.Held.{had_why as had_cause, is_any_active, is_any_out};
 ghost use Rattle.jm_machine.specs.Life as life;
 ghost use Rattle.jm_machine.specs.Machine as machine;
+ghost use Rattle.jm_machine.specs.Under.{placed_under};
 ghost use Rattle.jm_sub.specs.Sharing.{is_shared};
 ghost use Rattle.jm_why.specs.Why as spec;
 ghost use Rattle.std.specs.Prelude.{not};
@@ -165,7 +165,7 @@ pub(crate) fn wanted_why(
 ) -> Result<Option<Why>, AllocError>
     ensures { IfOk result (λ why. why ≡ spec.subscription_why destination.now selector.now (had_cause sharing
         (machine.definition_of (machine.station_of key.now (state_of core.now).stations))
-        (not (is_any_active key.now (state_of core.now).consumers)) (not (is_any_out (rows_under (state_of core.now) key.now)))
+        (not (is_any_active key.now (state_of core.now).consumers)) (not (is_any_out (placed_under (state_of core.now) key.now)))
         (machine.asked destination.now selector.now no_local (is_shared sharing)))) }
 {
     let Destination::Topic(topic) = destination else {
@@ -187,7 +187,7 @@ pub(crate) fn wanted_why(
 /// Why the durable subscription of the key, where there is one, cannot be deleted.
 pub(crate) fn delete_why(core: &Core, key: &Key) -> Option<Why>
     ensures { result ≡ spec.delete_why (machine.definition_of (machine.station_of key.now (state_of core.now).stations))
-        (not (is_any_active key.now (state_of core.now).consumers)) (not (is_any_out (rows_under (state_of core.now) key.now))) }
+        (not (is_any_active key.now (state_of core.now).consumers)) (not (is_any_out (placed_under (state_of core.now) key.now))) }
 {
     if core.definition_of(key).is_none() {
         return None;

@@ -21,11 +21,12 @@ use Rattle.jm_machine.specs.declared.state.Row.{Row}
 use Rattle.jm_machine.specs.Life.{client_of, is_started, mode_of}
 use Rattle.jm_machine.specs.Rows.{settles_at_once}
 use Rattle.jm_machine.specs.Machine.{State, asked, consumer_of, definition_of, durable_of, is_client, key_at, of_number, of_session, reply, same_definition, selected_by, station_of, step}
+use Rattle.jm_machine.specs.Under.{is_persistent, lasts_at, next_under, placed_under}
 use Rattle.jm_keep.specs.declared.change.RowChange.{RowChange}
 use Rattle.jm_keep.specs.declared.change.RowChange.TheVariants.{DropStation, PutStation}
-use Rattle.jm_keep.specs.Persisted.{is_lasting, is_persistent, rows_under, LeadsTo}
+use Rattle.jm_keep.specs.Persisted.{is_lasting, LeadsTo}
 use Rattle.jm_keep.specs.Leads.{drops, puts}
-use Rattle.jm_keep.specs.Steps.{StandsInOrder, AreGone, taken_under, lapsed_under, out_through, out_under, all_under, next_under, counted, takes}
+use Rattle.jm_keep.specs.Steps.{StandsInOrder, AreGone, taken_under, lapsed_under, out_through, out_under, all_under, counted}
 
 -- Publications
 
@@ -45,7 +46,7 @@ brought m place keys = if is_persistent m.mode then come m place keys else []
 
 -- the keys are those of queues and of durable subscriptions that take the message
 abbrev pub AreTakers : State → Content → List Key → Type 0
-AreTakers state m keys = (key : Key) → list_any (λ k. key_eq k key) keys ≡ takes state m key
+AreTakers state m keys = (key : Key) → list_any (λ k. key_eq k key) keys ≡ lasts_at state m key
 
 -- the changes by which messages come that are published in turn, from the place on. Which keys take a PERSISTENT one is
 -- asked of the state before all of them
@@ -73,8 +74,8 @@ abbrev pub AreDelivered : Option Mode → (Content → Bool) → ℕ → Key →
 AreDelivered mode p now k state changes =
     MatchBool (is_lasting k)
     (MatchBool (settles_at_once mode)
-    (DropsThen (taken_under k now (next_under p now k (rows_under state k))) state [] changes)
-    (DropsThen (lapsed_under k now) state (counted k (next_under p now k (rows_under state k))) changes))
+    (DropsThen (taken_under k now (next_under p now k (placed_under state k))) state [] changes)
+    (DropsThen (lapsed_under k now) state (counted k (next_under p now k (placed_under state k))) changes))
     (changes ≡ [])
 
 -- from the key of a consumer, where it was made
@@ -95,7 +96,7 @@ AreSubscribed k d None state changes = changes ≡ PutStation k (Some d) ∷ []
 AreSubscribed k d (Some old) state changes =
     MatchBool (same_definition old d) (changes ≡ []) (DropsThen (all_under k) state (DropStation k ∷ PutStation k (Some d) ∷ []) changes)
 
--- the changes that a session's request asks for. What a listener takes is out in every mode, as in a session whose client
+-- the changes that a session's request asks for. What a listener lasts_at is out in every mode, as in a session whose client
 -- acknowledges
 abbrev pub AreRequested : State → SessionId → Request → List RowChange → Type 0
 AreRequested state s (CreateDurable c destination name selector no_local) changes =

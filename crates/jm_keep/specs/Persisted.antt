@@ -4,8 +4,6 @@ use Rattle.std.specs.Prelude.{◌≡◌, ℕ, Bool, true, false, ◌==◌, List,
 use Rattle.jm_dest.specs.declared.key.Key.{Key}
 use Rattle.jm_dest.specs.declared.key.Key.TheVariants.{Queue, Own, SharedOwn, Durable}
 use Rattle.jm_header.specs.declared.content.Content.{Content}
-use Rattle.jm_header.specs.declared.content.DeliveryMode.{DeliveryMode}
-use Rattle.jm_header.specs.declared.content.DeliveryMode.TheVariants.{Persistent, NonPersistent}
 use Rattle.jm_header.specs.Headers.{is_delayed}
 use Rattle.jm_format.specs.Format as format
 use Rattle.jm_machine.specs.declared.state.PlacedRow.{PlacedRow}
@@ -13,14 +11,9 @@ use Rattle.jm_machine.specs.declared.state.Row.{Row}
 use Rattle.jm_machine.specs.declared.state.Definition.{Definition}
 use Rattle.jm_machine.specs.Machine.{State, station_of, definition_of}
 use Rattle.jm_machine.specs.Reopened.{is_durable}
-use Rattle.jm_machine.specs.Wants.{placed_rows}
+use Rattle.jm_machine.specs.Under.{is_persistent, placed_under}
 use Rattle.jm_keep.specs.Stored.{Stored, changed_all}
 use Rattle.jm_keep.specs.declared.change.RowChange.{RowChange}
-
--- the mode stores messages (Jakarta Messaging 3.1, section 3.4.2)
-abbrev pub is_persistent : DeliveryMode → Bool
-is_persistent NonPersistent = false
-is_persistent Persistent = true
 
 -- what is held under the key outlasts the process: under a queue and a durable subscription
 abbrev pub is_lasting : Key → Bool
@@ -28,13 +21,6 @@ is_lasting (Queue name) = true
 is_lasting (Own s c) = false
 is_lasting (SharedOwn client name) = false
 is_lasting (Durable client name) = true
-
--- the rows under a key, at their places
-abbrev pub rows_under : State → Key → List PlacedRow
-rows_under state (Queue name) = state.queues name
-rows_under state (Own s c) = placed_rows (station_of (Own s c) state.stations)
-rows_under state (SharedOwn client name) = placed_rows (station_of (SharedOwn client name) state.stations)
-rows_under state (Durable client name) = placed_rows (station_of (Durable client name) state.stations)
 
 -- the row at the place
 abbrev pub row_at : ℕ → List PlacedRow → Option Row
@@ -56,7 +42,7 @@ if_stored (Some r) = if is_persistent r.message.mode then Some (shown r) else No
 
 -- the row that is stored of a key at a place
 abbrev pub stored_row : State → Key → ℕ → Option StoredRow
-stored_row state key place = if is_lasting key then if_stored (row_at place (rows_under state key)) else None
+stored_row state key place = if is_lasting key then if_stored (row_at place (placed_under state key)) else None
 
 -- the count of a row
 abbrev pub count_of : Option StoredRow → Option ℕ

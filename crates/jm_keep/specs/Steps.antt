@@ -2,25 +2,21 @@
 use Rattle.std.specs.Prelude.{◌≡◌, ℕ, Bool, true, false, ◌&&◌, ◌||◌, ◌==◌, List, [], ◌∷◌, ◌++◌, Option, Some, None, if◌then◌else◌}
 use Rattle.std.specs.List.{list_any}
 use Rattle.jm_dest.specs.declared.key.Key.{Key}
-use Rattle.jm_dest.specs.declared.key.Key.TheVariants.{Queue, Own, SharedOwn, Durable}
-use Rattle.jm_dest.specs.declared.destination.Destination.{Destination}
-use Rattle.jm_dest.specs.declared.destination.Destination.TheVariants.{Queue as ToQueue, Topic as ToTopic}
-use Rattle.jm_dest.specs.Names.{text_eq}
+use Rattle.jm_dest.specs.declared.key.Key.TheVariants.{Durable}
 use Rattle.jm_dest.specs.declared.session.SessionId.{SessionId}
 use Rattle.jm_dest.specs.Keys.{key_eq}
 use Rattle.jm_header.specs.declared.content.Content.{Content}
 use Rattle.jm_machine.specs.declared.state.PlacedRow.{PlacedRow}
 use Rattle.jm_machine.specs.declared.state.Row.{Row}
-use Rattle.jm_machine.specs.declared.state.Station.{Station}
 use Rattle.jm_machine.specs.Rows.{has_lapsed, is_out, raised, sent_out, InOrder}
-use Rattle.jm_machine.specs.Machine.{State, new_core, AllInOrder, Publisher, receive, settled, returned, with_done, of_number, deleted, put, with_message, accepts, publisher_of, station_of}
-use Rattle.jm_machine.specs.Wants.{next_placed, next_chosen}
-use Rattle.jm_keep.specs.Persisted.{rows_under, row_at, is_lasting, is_persistent, IsPersisted, LeadsTo}
+use Rattle.jm_machine.specs.Machine.{State, new_core, AllInOrder, receive, settled, returned, with_done, of_number, deleted, put, with_message}
+use Rattle.jm_keep.specs.Persisted.{row_at, is_lasting, IsPersisted, LeadsTo}
 use Rattle.jm_keep.specs.Stored.{nothing}
 use Rattle.jm_keep.specs.Leads.{is_one_of, drops, AreLast, AreDelays, Loses, Gains, StoresTheSame}
 use Rattle.jm_keep.specs.declared.change.RowChange.{RowChange}
 use Rattle.jm_keep.specs.declared.change.RowChange.TheVariants.{DropStation, PutStation, SetCount}
 use Rattle.jm_machine.specs.declared.state.Definition.{Definition}
+use Rattle.jm_machine.specs.Under.{is_persistent, lasts_at, next_under, placed_under}
 
 -- the rows of each queue stand by place, and those of each subscription
 pub record StandsInOrder (state : State) : Type 0 where
@@ -32,13 +28,6 @@ abbrev pub is_place_of : Option PlacedRow → ℕ → Bool
 is_place_of None place = false
 is_place_of (Some x) place = x.place == place
 
--- the row that a delivery takes of what stands under a key
-abbrev pub next_under : (Content → Bool) → ℕ → Key → List PlacedRow → Option PlacedRow
-next_under p now (Queue name) rows = next_chosen p now rows
-next_under p now (Own s c) rows = next_placed now rows
-next_under p now (SharedOwn client name) rows = next_placed now rows
-next_under p now (Durable client name) rows = next_placed now rows
-
 -- a row that there may be is stored, and passes
 abbrev pub passes : (Row → Bool) → Option Row → Bool
 passes p None = false
@@ -47,7 +36,7 @@ passes p (Some r) = is_persistent r.message.mode && p r
 -- the rows are the stored ones that go, the places those of their messages of which none is left, and the delays those of
 -- these messages that have a delay
 pub record AreGone (goes : Key → ℕ → Row → Bool) (state : State) (rows : List (Key × ℕ)) (delays places : List ℕ) : Type 0 where
-  pub rows_are : (key : Key) (place : ℕ) → is_one_of rows key place ≡ (is_lasting key && passes (goes key place) (row_at place (rows_under state key)))
+  pub rows_are : (key : Key) (place : ℕ) → is_one_of rows key place ≡ (is_lasting key && passes (goes key place) (row_at place (placed_under state key)))
   pub places_are : AreLast state rows places
   pub delays_are : AreDelays state delays places
 
@@ -76,29 +65,12 @@ abbrev pub counted : Key → Option PlacedRow → List RowChange
 counted k None = []
 counted k (Some x) = if is_persistent x.row.message.mode then SetCount k x.place (raised x.row.count) ∷ [] else []
 
--- the message goes to the queue of that name
-abbrev pub is_for : List ℕ → Destination → Bool
-is_for name (ToQueue d) = text_eq d name
-is_for name (ToTopic d) = false
-
--- a subscription that there may be accepts the message of its publisher
-abbrev pub is_accepted : Publisher → Content → Option Station → Bool
-is_accepted publisher m None = false
-is_accepted publisher m (Some x) = accepts x.key x.definition publisher m
-
--- the message comes to the queue, or to the durable subscription, of the key
-abbrev pub takes : State → Content → Key → Bool
-takes state m (Queue name) = is_for name m.destination
-takes state m (Own s c) = false
-takes state m (SharedOwn client name) = false
-takes state m (Durable client name) = is_accepted (publisher_of state.life m) m (station_of (Durable client name) state.stations)
-
 -- a PERSISTENT message that is published comes to the keys that take it
 abbrev pub PublishGains : Type 0
 PublishGains =
     (state : State) (m : Content) (keys : List Key) (one : Key) →
     StandsInOrder state → is_persistent m.mode ≡ true →
-    ((key : Key) → list_any (λ k. key_eq k key) keys ≡ takes state m key) → takes state m one ≡ true →
+    ((key : Key) → list_any (λ k. key_eq k key) keys ≡ lasts_at state m key) → lasts_at state m one ≡ true →
     Gains state (with_message state m) keys state.next_place m
 
 -- an acknowledgement and a commit lose the rows that are out through consumers that pass
@@ -122,7 +94,7 @@ ReturnStores = (state : State) (p : SessionId → ℕ → Bool) → StoresTheSam
 abbrev pub ReceiveLoses : Type 0
 ReceiveLoses =
     (state : State) (p : Content → Bool) (now : ℕ) (k : Key) (rows : List (Key × ℕ)) (delays places : List ℕ) →
-    StandsInOrder state → is_lasting k ≡ true → AreGone (taken_under k now (next_under p now k (rows_under state k))) state rows delays places →
+    StandsInOrder state → is_lasting k ≡ true → AreGone (taken_under k now (next_under p now k (placed_under state k))) state rows delays places →
     Loses state (receive p (λ r. []) now (Some k) state) rows delays places
 
 -- a delivery that settles nothing loses the rows that have lapsed; the one that goes out through the consumer is counted
@@ -130,7 +102,7 @@ abbrev pub CountedReceiveLeads : Type 0
 CountedReceiveLeads =
     (state : State) (p : Content → Bool) (s : SessionId) (c now : ℕ) (k : Key) (rows : List (Key × ℕ)) (delays places : List ℕ) →
     StandsInOrder state → is_lasting k ≡ true → AreGone (lapsed_under k now) state rows delays places →
-    LeadsTo state (receive p (λ r. sent_out s c r ∷ []) now (Some k) state) (drops rows delays places ++ counted k (next_under p now k (rows_under state k)))
+    LeadsTo state (receive p (λ r. sent_out s c r ∷ []) now (Some k) state) (drops rows delays places ++ counted k (next_under p now k (placed_under state k)))
 
 -- of a new core nothing is stored
 abbrev pub NewStoresNothing : Type 0

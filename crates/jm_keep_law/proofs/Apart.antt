@@ -31,8 +31,9 @@ use Rattle.jm_machine.specs.Accepted.{AllAccepted, HoldsAccepted}
 use Rattle.jm_machine.specs.Reopened.{AreDurable, AreSentTo, HoldMessages}
 use Rattle.jm_machine.specs.Rows.{InOrder}
 use Rattle.jm_machine.specs.Isolation.Reached.{New, Reopened, Stepped}
+use Rattle.jm_machine.specs.Under.{placed_under}
 use Rattle.jm_machine.proofs.Keys.{text_same}
-use Rattle.jm_keep.specs.Persisted.{row_at, rows_under}
+use Rattle.jm_keep.specs.Persisted.{row_at}
 use Rattle.jm_keep.specs.Apart.{QueuesApart}
 
 -- ---- rows at places that pass
@@ -399,7 +400,7 @@ Fits d n (Own s c) p = is_of_topic (d p) ≡ true
 Fits d n (SharedOwn client name) p = is_of_topic (d p) ≡ true
 Fits d n (Durable client name) p = is_of_topic (d p) ≡ true
 
-fits_at : (state : State) (h : IsSorted state) (key : Key) (place : ℕ) → IsSome (row_at place (rows_under state key)) → Fits h.0 state.next_place key place
+fits_at : (state : State) (h : IsSorted state) (key : Key) (place : ℕ) → IsSome (row_at place (placed_under state key)) → Fits h.0 state.next_place key place
 fits_at state h (OfQueue name) place s = (found_at (OfThis h.0 state.next_place name) place (state.queues name) (h.1.queues name) s).1
 fits_at state h (Own t c) place s = (found_at (OfTopic h.0 state.next_place) place (placed_rows (station_of (Own t c) state.stations)) (each_found _ (Own t c) state.stations h.1.stations) s).1
 fits_at state h (SharedOwn client name) place s = (found_at (OfTopic h.0 state.next_place) place (placed_rows (station_of (SharedOwn client name) state.stations)) (each_found _ (SharedOwn client name) state.stations h.1.stations) s).1

@@ -24,12 +24,13 @@ use Rattle.jm_machine.specs.declared.state.Row.{Row}
 use Rattle.jm_machine.specs.Life.{client_of, is_started, mode_of}
 use Rattle.jm_machine.specs.Rows.{settles_at_once, sent_out, left_of, taken, deliver_placed, deliver_chosen}
 use Rattle.jm_machine.specs.Machine.{State, after, after_commit, answer, asked, closed, commit_refusal, consumer_of, definition_of, deleted, held, holding_at, is_coming, set_busy, set_listening, take, is_client, is_same, joined, key_at, made, moved, of_connection, of_number, of_session, publish_refusal, published, put, receive, refusal, replied, reply, returned, same_definition, selected_by, settled, station_of, step, subscribed, with_life, with_message}
+use Rattle.jm_machine.specs.Under.{is_persistent, lasts_at, next_under, placed_under}
 use Rattle.jm_machine.proofs.Keys.{key_refl}
 use Rattle.jm_keep.specs.declared.change.RowChange.{RowChange}
 use Rattle.jm_keep.specs.declared.change.RowChange.TheVariants.{DropStation, PutStation}
-use Rattle.jm_keep.specs.Persisted.{is_lasting, is_persistent, rows_under, LeadsTo}
+use Rattle.jm_keep.specs.Persisted.{is_lasting, LeadsTo}
 use Rattle.jm_keep.specs.Leads.{drops, puts, StoresTheSame}
-use Rattle.jm_keep.specs.Steps.{StandsInOrder, AreGone, taken_under, lapsed_under, out_through, all_under, next_under, counted, takes}
+use Rattle.jm_keep.specs.Steps.{StandsInOrder, AreGone, taken_under, lapsed_under, out_through, all_under, counted}
 use Rattle.jm_keep.specs.Calls.{queue_station, come, brought, AreTakers, ArePublished, DropsThen, AreDelivered, AreReceived, AreSubscribed, AreRequested, AreCommitted, AreChanges, ChangesLead, RefusedLeads}
 use Rattle.jm_keep_law.proofs.Leads.{chain, drops_lead, puts_lead, station_leads, nothing_leads}
 use Rattle.jm_keep_law.proofs.Published.{publish_gains, unstored, taken_nowhere, takes_after, takes_settled}
@@ -63,7 +64,7 @@ message_leads state m keys o t = go (is_persistent m.mode) refl
     go false e = nothing_leads state (with_message state m) (unstored state m o e)
 
 -- which keys take a message is asked of an earlier state
-published_from : (a b : State) → ((m : Content) (key : Key) → takes b m key ≡ takes a m key) → (place : ℕ) (ms : List Content) (cs : List RowChange) → ArePublished a place ms cs → ArePublished b place ms cs
+published_from : (a b : State) → ((m : Content) (key : Key) → lasts_at b m key ≡ lasts_at a m key) → (place : ℕ) (ms : List Content) (cs : List RowChange) → ArePublished a place ms cs → ArePublished b place ms cs
 published_from a b t place [] cs h = h
 published_from a b t place (m ∷ ms) cs h = (h.0, h.1, (λ e key. h.2 e key ∙ sym (t m key)), published_from a b t (place + 1) ms h.1 h.3, h.4)
 
@@ -97,19 +98,19 @@ delivered_lead : (state : State) (mode : Option Mode) (p : Content → Bool) (s 
 delivered_lead state mode p s c now k cs o h = go (is_lasting k) refl h
   where
     settle : is_lasting k ≡ true → (b : Bool) → settles_at_once mode ≡ b
-        → MatchBool b (DropsThen (taken_under k now (next_under p now k (rows_under state k))) state [] cs) (DropsThen (lapsed_under k now) state (counted k (next_under p now k (rows_under state k))) cs)
+        → MatchBool b (DropsThen (taken_under k now (next_under p now k (placed_under state k))) state [] cs) (DropsThen (lapsed_under k now) state (counted k (next_under p now k (placed_under state k))) cs)
         → LeadsTo state (receive p (left_of mode s c) now (Some k) state) cs
     settle l true e h = subst (λ f. LeadsTo state (receive p f now (Some k) state) cs) (all_left mode s c true e)
-        (dropped_lead (taken_under k now (next_under p now k (rows_under state k))) state (receive p (λ r. []) now (Some k) state) [] cs
+        (dropped_lead (taken_under k now (next_under p now k (placed_under state k))) state (receive p (λ r. []) now (Some k) state) [] cs
         (λ rows delays places gone. chain state (receive p (λ r. []) now (Some k) state) (receive p (λ r. []) now (Some k) state) (drops rows delays places) []
         (drops_lead state (receive p (λ r. []) now (Some k) state) rows delays places (receive_loses state p now k rows delays places o l gone))
         (nothing_leads (receive p (λ r. []) now (Some k) state) (receive p (λ r. []) now (Some k) state) (same_refl (receive p (λ r. []) now (Some k) state)))) h)
     settle l false e h = subst (λ f. LeadsTo state (receive p f now (Some k) state) cs) (all_left mode s c false e)
-        (dropped_lead (lapsed_under k now) state (receive p (λ r. sent_out s c r ∷ []) now (Some k) state) (counted k (next_under p now k (rows_under state k))) cs
+        (dropped_lead (lapsed_under k now) state (receive p (λ r. sent_out s c r ∷ []) now (Some k) state) (counted k (next_under p now k (placed_under state k))) cs
         (λ rows delays places gone. counted_receive_leads state p s c now k rows delays places o l gone) h)
 
     go : (b : Bool) → is_lasting k ≡ b
-        → MatchBool b (MatchBool (settles_at_once mode) (DropsThen (taken_under k now (next_under p now k (rows_under state k))) state [] cs) (DropsThen (lapsed_under k now) state (counted k (next_under p now k (rows_under state k))) cs)) (cs ≡ [])
+        → MatchBool b (MatchBool (settles_at_once mode) (DropsThen (taken_under k now (next_under p now k (placed_under state k))) state [] cs) (DropsThen (lapsed_under k now) state (counted k (next_under p now k (placed_under state k))) cs)) (cs ≡ [])
         → LeadsTo state (receive p (left_of mode s c) now (Some k) state) cs
     go true l h = settle l (settles_at_once mode) refl h
     go false l h = none_lead state (receive p (left_of mode s c) now (Some k) state) cs (changes_same (deliver_placed now (left_of mode s c)) (deliver_chosen p now (left_of mode s c)) k state l) h
@@ -118,7 +119,7 @@ pub received_lead : (state : State) (mode : Option Mode) (p : Content → Bool) 
 received_lead state mode p s c now None cs o h = none_lead state state cs (same_refl state) h
 received_lead state mode p s c now (Some k) cs o h = delivered_lead state mode p s c now k cs o h
 
--- what a listener takes leads there as a receive that leaves the row out; that the consumer is busy is not stored
+-- what a listener lasts_at leads there as a receive that leaves the row out; that the consumer is busy is not stored
 pub taken_lead : (state : State) (p : Content → Bool) (s : SessionId) (c now : ℕ) (k : Option Key) (cs : List RowChange) → StandsInOrder state → AreReceived (Some Client) p now k state cs → LeadsTo state (take p s c now k state) cs
 taken_lead state p s c now k cs o h =
     lead_on state (receive p (taken s c) now k state) (take p s c now k state) cs

@@ -12,12 +12,13 @@ use Rattle.jm_machine.specs.declared.state.Row.{Row}
 use Rattle.jm_machine.specs.Rows.{has_lapsed, raised, sent_out, InOrder, live_placed, live, bare, is_next, is_next_chosen, deliver_placed, deliver_chosen}
 use Rattle.jm_machine.specs.Machine.{State, receive}
 use Rattle.jm_machine.specs.Reopened.{is_durable}
+use Rattle.jm_machine.specs.Under.{is_persistent, next_under, placed_under}
 use Rattle.jm_machine.proofs.Keys.{key_same, key_refl}
 use Rattle.jm_keep.specs.declared.change.RowChange.TheVariants.{SetCount}
 use Rattle.jm_keep.specs.Stored.{is_at}
-use Rattle.jm_keep.specs.Persisted.{shown, rows_under, row_at, StoredRow, stored_row, if_stored, is_lasting, is_persistent, durable_definition, LeadsTo}
+use Rattle.jm_keep.specs.Persisted.{shown, row_at, StoredRow, stored_row, if_stored, is_lasting, durable_definition, LeadsTo}
 use Rattle.jm_keep.specs.Leads.{drops}
-use Rattle.jm_keep.specs.Steps.{StandsInOrder, is_place_of, next_under, passes, lapsed_under, counted, CountedReceiveLeads}
+use Rattle.jm_keep.specs.Steps.{StandsInOrder, is_place_of, passes, lapsed_under, counted, CountedReceiveLeads}
 use Rattle.jm_keep_law.proofs.Placed.{row_at-filter, row_at-sent, found_row, order_filter}
 use Rattle.jm_keep_law.proofs.Gone.{left_stored, under_key, loses_gone}
 use Rattle.jm_keep_law.proofs.Leads.{chain, drops_lead, count_leads, nothing_leads}
@@ -91,7 +92,7 @@ of_key (Own s c) fs fq rows = fs rows
 of_key (SharedOwn client name) fs fq rows = fs rows
 of_key (Durable client name) fs fq rows = fs rows
 
-pub under_changed : (fs fq : List PlacedRow → List PlacedRow) → fs [] ≡ [] → (k : Key) (state : State) → rows_under (changes fs fq k state) k ≡ of_key k fs fq (rows_under state k)
+pub under_changed : (fs fq : List PlacedRow → List PlacedRow) → fs [] ≡ [] → (k : Key) (state : State) → placed_under (changes fs fq k state) k ≡ of_key k fs fq (placed_under state k)
 under_changed fs fq z (Queue name) state = ap (λ c. cond c (fq (state.queues name)) (state.queues name)) (key_refl (Queue name))
 under_changed fs fq z (Own s c) state = found_own (Own s c) fs z state.stations
 under_changed fs fq z (SharedOwn client name) state = found_own (SharedOwn client name) fs z state.stations
@@ -103,8 +104,8 @@ one_change (Own s c) f rows = refl
 one_change (SharedOwn client name) f rows = refl
 one_change (Durable client name) f rows = refl
 
-pub stored_of : (state : State) (k : Key) → is_lasting k ≡ true → (place : ℕ) → stored_row state k place ≡ if_stored (row_at place (rows_under state k))
-stored_of state k l place = ap (λ b. cond b (if_stored (row_at place (rows_under state k))) None) l
+pub stored_of : (state : State) (k : Key) → is_lasting k ≡ true → (place : ℕ) → stored_row state k place ≡ if_stored (row_at place (placed_under state k))
+stored_of state k l place = ap (λ b. cond b (if_stored (row_at place (placed_under state k))) None) l
 
 sent_row : (p : Content → Bool) (s : SessionId) (c now n : ℕ) (k : Key) (rows : List PlacedRow) → InOrder n rows → (place : ℕ) →
     row_at place (of_key k (deliver_placed now (λ r. sent_out s c r ∷ [])) (deliver_chosen p now (λ r. sent_out s c r ∷ [])) rows) ≡ sent_at s c (next_under p now k rows) place (row_at place (live_placed now rows))
@@ -125,23 +126,23 @@ next_stands p now n (Durable client name) rows h x e = found_row n (is_next now 
 lapsed : ℕ → Key → State → State
 lapsed now k state = changes (live_placed now) (live_placed now) k state
 
-own_lapsed : (now : ℕ) (k : Key) (state : State) → is_lasting k ≡ true → (place : ℕ) → stored_row (lapsed now k state) k place ≡ if_stored (row_at place (live_placed now (rows_under state k)))
+own_lapsed : (now : ℕ) (k : Key) (state : State) → is_lasting k ≡ true → (place : ℕ) → stored_row (lapsed now k state) k place ≡ if_stored (row_at place (live_placed now (placed_under state k)))
 unfolding lapsed
 own_lapsed now k state l place =
     stored_of (changes (live_placed now) (live_placed now) k state) k l place
-    ∙ ap (λ rows. if_stored (row_at place rows)) (under_changed (live_placed now) (live_placed now) refl k state ∙ one_change k (live_placed now) (rows_under state k))
+    ∙ ap (λ rows. if_stored (row_at place rows)) (under_changed (live_placed now) (live_placed now) refl k state ∙ one_change k (live_placed now) (placed_under state k))
 
 row_lapsed : (now : ℕ) (k : Key) (state : State) → StandsInOrder state → is_lasting k ≡ true → (key : Key) (place : ℕ) →
-    stored_row (lapsed now k state) key place ≡ cond (key_eq k key && passes (has_lapsed now) (row_at place (rows_under state k))) None (stored_row state key place)
+    stored_row (lapsed now k state) key place ≡ cond (key_eq k key && passes (has_lapsed now) (row_at place (placed_under state k))) None (stored_row state key place)
 unfolding lapsed
 row_lapsed now k state o l key place = go (key_eq k key) refl
   where
-    go : (b : Bool) → key_eq k key ≡ b → stored_row (lapsed now k state) key place ≡ cond (b && passes (has_lapsed now) (row_at place (rows_under state k))) None (stored_row state key place)
-    go true e = subst (λ t. stored_row (lapsed now k state) t place ≡ cond (passes (has_lapsed now) (row_at place (rows_under state k))) None (stored_row state t place)) (key_same k key e)
+    go : (b : Bool) → key_eq k key ≡ b → stored_row (lapsed now k state) key place ≡ cond (b && passes (has_lapsed now) (row_at place (placed_under state k))) None (stored_row state key place)
+    go true e = subst (λ t. stored_row (lapsed now k state) t place ≡ cond (passes (has_lapsed now) (row_at place (placed_under state k))) None (stored_row state t place)) (key_same k key e)
         (own_lapsed now k state l place
-        ∙ ap if_stored (row_at-filter state.next_place place (λ r. not (has_lapsed now r)) (rows_under state k) (under_in_order state o k))
-        ∙ left_stored (has_lapsed now) (row_at place (rows_under state k))
-        ∙ sym (ap (λ r. cond (passes (has_lapsed now) (row_at place (rows_under state k))) None r) (stored_of state k l place)))
+        ∙ ap if_stored (row_at-filter state.next_place place (λ r. not (has_lapsed now r)) (placed_under state k) (under_in_order state o k))
+        ∙ left_stored (has_lapsed now) (row_at place (placed_under state k))
+        ∙ sym (ap (λ r. cond (passes (has_lapsed now) (row_at place (placed_under state k))) None r) (stored_of state k l place)))
     go false e = row_other (live_placed now) (live_placed now) k state key e place
 
 definition_lapsed : (now : ℕ) (k : Key) (state : State) (key : Key) → durable_definition (lapsed now k state) key ≡ durable_definition state key
@@ -154,15 +155,15 @@ other_lapsed now k state key e place = row_other (live_placed now) (live_placed 
 
 pub counted_receive_leads : CountedReceiveLeads
 counted_receive_leads state p s c now k rows delays places o l gone =
-    chain state (lapsed now k state) (receive p (λ r. sent_out s c r ∷ []) now (Some k) state) (drops rows delays places) (counted k (next_under p now k (rows_under state k)))
+    chain state (lapsed now k state) (receive p (λ r. sent_out s c r ∷ []) now (Some k) state) (drops rows delays places) (counted k (next_under p now k (placed_under state k)))
     (drops_lead state (lapsed now k state) rows delays places
     (loses_gone (lapsed_under k now) state (lapsed now k state) rows delays places (definition_lapsed now k state)
     (λ key place. row_lapsed now k state o l key place ∙ ap (λ b. cond b None (stored_row state key place)) (under_key (has_lapsed now) k state l key place)) gone))
-    (counts_next (lapsed now k state) (receive p (λ r. sent_out s c r ∷ []) now (Some k) state) k s c (live_placed now (rows_under state k)) (next_under p now k (rows_under state k))
+    (counts_next (lapsed now k state) (receive p (λ r. sent_out s c r ∷ []) now (Some k) state) k s c (live_placed now (placed_under state k)) (next_under p now k (placed_under state k))
     (λ key. ap (λ d. cond (is_durable key) d None) (definition_kept k key (deliver_placed now (λ r. sent_out s c r ∷ [])) state.stations) ∙ sym (definition_lapsed now k state key))
     (own_lapsed now k state l)
     (λ place. stored_of (receive p (λ r. sent_out s c r ∷ []) now (Some k) state) k l place
     ∙ ap (λ xs. if_stored (row_at place xs)) (under_changed (deliver_placed now (λ r. sent_out s c r ∷ [])) (deliver_chosen p now (λ r. sent_out s c r ∷ [])) refl k state)
-    ∙ ap if_stored (sent_row p s c now state.next_place k (rows_under state k) (under_in_order state o k) place))
+    ∙ ap if_stored (sent_row p s c now state.next_place k (placed_under state k) (under_in_order state o k) place))
     (λ key e place. row_other (deliver_placed now (λ r. sent_out s c r ∷ [])) (deliver_chosen p now (λ r. sent_out s c r ∷ [])) k state key e place ∙ sym (other_lapsed now k state key e place))
-    (next_stands p now state.next_place k (rows_under state k) (under_in_order state o k)))
+    (next_stands p now state.next_place k (placed_under state k) (under_in_order state o k)))

@@ -10,10 +10,11 @@ use Rattle.jm_machine.specs.declared.state.Station.{Station}
 use Rattle.jm_machine.specs.Machine.{State, station_of, definition_of, without, at_key, with_rows, deleted, put}
 use Rattle.jm_machine.specs.Wants.{placed_rows}
 use Rattle.jm_machine.specs.Reopened.{is_durable}
+use Rattle.jm_machine.specs.Under.{is_persistent, placed_under}
 use Rattle.jm_machine.proofs.Keys.{key_same, key_refl}
 use Rattle.jm_keep.specs.declared.change.RowChange.TheVariants.{DropStation, PutStation}
 use Rattle.jm_keep.specs.Stored.{definition_after}
-use Rattle.jm_keep.specs.Persisted.{shown, is_persistent, row_at, StoredRow, stored_row, if_stored, durable_definition, is_lasting, LeadsTo, rows_under}
+use Rattle.jm_keep.specs.Persisted.{shown, row_at, StoredRow, stored_row, if_stored, durable_definition, is_lasting, LeadsTo}
 use Rattle.jm_keep.specs.Leads.{drops, Loses}
 use Rattle.jm_keep.specs.Steps.{passes, AreGone, all_under, DeleteLeads, PutLeads}
 use Rattle.jm_keep_law.proofs.Gone.{loses_gone}
@@ -173,7 +174,7 @@ loses state client name rows delays places a =
     loses_gone (all_under (Durable client name)) state (emptied (Durable client name) state) rows delays places
     (λ key. ap (λ d. cond (is_durable key) d None) (definition_kept (Durable client name) key (λ rows. []) state.stations))
     (λ key place. sym (stored_emptied state (Durable client name) key place) ∙ stored_deleted state client name key place
-    ∙ ap (λ b. cond b None (stored_row state key place)) (all_go (key_eq (Durable client name) key) (is_lasting key) (row_at place (rows_under state key))))
+    ∙ ap (λ b. cond b None (stored_row state key place)) (all_go (key_eq (Durable client name) key) (is_lasting key) (row_at place (placed_under state key))))
     a
 
 definition_deleted : (state : State) (client : Option (List ℕ)) (name : List ℕ) (key : Key) → durable_definition (deleted (Durable client name) state) key ≡ definition_after key (durable_definition (emptied (Durable client name) state) key) (DropStation (Durable client name))

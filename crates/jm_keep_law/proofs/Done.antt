@@ -10,10 +10,11 @@ use Rattle.jm_machine.specs.declared.state.PlacedRow.{PlacedRow}
 use Rattle.jm_machine.specs.Rows.{is_out, settles_at_once}
 use Rattle.jm_machine.specs.Machine.{State, done, of_number, returned_rows, set_busy, settled_rows, with_done}
 use Rattle.jm_machine.specs.Reopened.{is_durable}
+use Rattle.jm_machine.specs.Under.{placed_under}
 use Rattle.jm_machine.proofs.Keys.{key_same}
 use Rattle.jm_keep.specs.declared.change.RowChange.{RowChange}
 use Rattle.jm_keep.specs.Stored.{changed_all}
-use Rattle.jm_keep.specs.Persisted.{rows_under, row_at, stored_row, if_stored, is_lasting, LeadsTo}
+use Rattle.jm_keep.specs.Persisted.{row_at, stored_row, if_stored, is_lasting, LeadsTo}
 use Rattle.jm_keep.specs.Leads.{StoresTheSame, drops}
 use Rattle.jm_keep.specs.Steps.{StandsInOrder, DoneLoses, out_under, passes}
 use Rattle.jm_keep.specs.Calls.{AreDone, DropsThen}
@@ -27,26 +28,26 @@ use Rattle.jm_keep_law.proofs.Leads.{drops_lead, nothing_leads}
 use Rattle.jm_keep_law.proofs.Quiet.{changes_same, durables_same, none_lead, same_trans}
 
 -- all rows of the key change
-under_all : (f : List PlacedRow → List PlacedRow) → f [] ≡ [] → (k : Key) (state : State) → rows_under (changes f f k state) k ≡ f (rows_under state k)
-under_all f z k state = under_changed f f z k state ∙ one_change k f (rows_under state k)
+under_all : (f : List PlacedRow → List PlacedRow) → f [] ≡ [] → (k : Key) (state : State) → placed_under (changes f f k state) k ≡ f (placed_under state k)
+under_all f z k state = under_changed f f z k state ∙ one_change k f (placed_under state k)
 
 -- ---- what is settled
 
 row_own : (p : SessionId → ℕ → Bool) (k : Key) (state : State) → StandsInOrder state → is_lasting k ≡ true → (place : ℕ) →
-    stored_row (changes (settled_rows p) (settled_rows p) k state) k place ≡ cond (passes (is_out p) (row_at place (rows_under state k))) None (stored_row state k place)
+    stored_row (changes (settled_rows p) (settled_rows p) k state) k place ≡ cond (passes (is_out p) (row_at place (placed_under state k))) None (stored_row state k place)
 row_own p k state o l place =
     stored_of (changes (settled_rows p) (settled_rows p) k state) k l place
     ∙ ap (λ rows. if_stored (row_at place rows)) (under_all (settled_rows p) refl k state)
-    ∙ ap if_stored (row_at-filter state.next_place place (λ r. not (is_out p r)) (rows_under state k) (under_in_order state o k))
-    ∙ left_stored (is_out p) (row_at place (rows_under state k))
-    ∙ ap (λ x. cond (passes (is_out p) (row_at place (rows_under state k))) None x) (sym (stored_of state k l place))
+    ∙ ap if_stored (row_at-filter state.next_place place (λ r. not (is_out p r)) (placed_under state k) (under_in_order state o k))
+    ∙ left_stored (is_out p) (row_at place (placed_under state k))
+    ∙ ap (λ x. cond (passes (is_out p) (row_at place (placed_under state k))) None x) (sym (stored_of state k l place))
 
 row_left : (p : SessionId → ℕ → Bool) (k : Key) (state : State) → StandsInOrder state → is_lasting k ≡ true → (key : Key) (place : ℕ) →
-    stored_row (changes (settled_rows p) (settled_rows p) k state) key place ≡ cond (key_eq k key && passes (is_out p) (row_at place (rows_under state k))) None (stored_row state key place)
+    stored_row (changes (settled_rows p) (settled_rows p) k state) key place ≡ cond (key_eq k key && passes (is_out p) (row_at place (placed_under state k))) None (stored_row state key place)
 row_left p k state o l key place = go (key_eq k key) refl
   where
-    go : (b : Bool) → key_eq k key ≡ b → stored_row (changes (settled_rows p) (settled_rows p) k state) key place ≡ cond (b && passes (is_out p) (row_at place (rows_under state k))) None (stored_row state key place)
-    go true e = subst (λ t. stored_row (changes (settled_rows p) (settled_rows p) k state) t place ≡ cond (passes (is_out p) (row_at place (rows_under state k))) None (stored_row state t place)) (key_same k key e) (row_own p k state o l place)
+    go : (b : Bool) → key_eq k key ≡ b → stored_row (changes (settled_rows p) (settled_rows p) k state) key place ≡ cond (b && passes (is_out p) (row_at place (placed_under state k))) None (stored_row state key place)
+    go true e = subst (λ t. stored_row (changes (settled_rows p) (settled_rows p) k state) t place ≡ cond (passes (is_out p) (row_at place (placed_under state k))) None (stored_row state t place)) (key_same k key e) (row_own p k state o l place)
     go false e = row_other (settled_rows p) (settled_rows p) k state key e place
 
 pub done_loses : DoneLoses
@@ -65,7 +66,7 @@ given_same p k state = record {
   where
     go : (key : Key) (place : ℕ) (b : Bool) → key_eq k key ≡ b → stored_row (changes (returned_rows p) (returned_rows p) k state) key place ≡ stored_row state key place
     go key place true e = subst (λ t. stored_row (changes (returned_rows p) (returned_rows p) k state) t place ≡ stored_row state t place) (key_same k key e)
-        (ap (λ rows. if_lasts (is_lasting k) (if_stored (row_at place rows))) (under_all (returned_rows p) refl k state) ∙ ap (λ r. if_lasts (is_lasting k) r) (returned_stored p place (rows_under state k)))
+        (ap (λ rows. if_lasts (is_lasting k) (if_stored (row_at place rows))) (under_all (returned_rows p) refl k state) ∙ ap (λ r. if_lasts (is_lasting k) r) (returned_stored p place (placed_under state k)))
     go key place false e = row_other (returned_rows p) (returned_rows p) k state key e place
 
 -- ---- consumers

@@ -5,8 +5,9 @@ use Rattle.jm_dest.specs.declared.key.Key.{Key}
 use Rattle.jm_dest.specs.Keys.{key_eq}
 use Rattle.jm_machine.specs.declared.state.Row.{Row}
 use Rattle.jm_machine.specs.Machine.{State}
+use Rattle.jm_machine.specs.Under.{is_persistent, placed_under}
 use Rattle.jm_machine.proofs.Keys.{key_same}
-use Rattle.jm_keep.specs.Persisted.{shown, rows_under, row_at, StoredRow, stored_row, if_stored, is_lasting, is_persistent, durable_definition}
+use Rattle.jm_keep.specs.Persisted.{shown, row_at, StoredRow, stored_row, if_stored, is_lasting, durable_definition}
 use Rattle.jm_keep.specs.Leads.{is_one_of, is_among, Loses}
 use Rattle.jm_keep.specs.Steps.{passes, AreGone}
 use Rattle.jm_keep_law.proofs.Placed.{if_passes}
@@ -33,18 +34,18 @@ none_goes q (Some r) = false_either (is_persistent r.message.mode)
 
 -- what goes under one key goes under that key alone
 pub under_key : (q : Row → Bool) (k : Key) (state : State) → is_lasting k ≡ true → (key : Key) (place : ℕ) →
-    (key_eq k key && passes q (row_at place (rows_under state k))) ≡ (is_lasting key && passes (λ r. key_eq k key && q r) (row_at place (rows_under state key)))
+    (key_eq k key && passes q (row_at place (placed_under state k))) ≡ (is_lasting key && passes (λ r. key_eq k key && q r) (row_at place (placed_under state key)))
 under_key q k state l key place = go (key_eq k key) refl
   where
-    go : (b : Bool) → key_eq k key ≡ b → (b && passes q (row_at place (rows_under state k))) ≡ (is_lasting key && passes (λ r. b && q r) (row_at place (rows_under state key)))
-    go true e = subst (λ t. passes q (row_at place (rows_under state k)) ≡ (is_lasting t && passes q (row_at place (rows_under state t)))) (key_same k key e)
-        (sym (ap (λ c. c && passes q (row_at place (rows_under state k))) l))
-    go false e = sym (ap (λ c. is_lasting key && c) (none_goes q (row_at place (rows_under state key))) ∙ false_either (is_lasting key))
+    go : (b : Bool) → key_eq k key ≡ b → (b && passes q (row_at place (placed_under state k))) ≡ (is_lasting key && passes (λ r. b && q r) (row_at place (placed_under state key)))
+    go true e = subst (λ t. passes q (row_at place (placed_under state k)) ≡ (is_lasting t && passes q (row_at place (placed_under state t)))) (key_same k key e)
+        (sym (ap (λ c. c && passes q (row_at place (placed_under state k))) l))
+    go false e = sym (ap (λ c. is_lasting key && c) (none_goes q (row_at place (placed_under state key))) ∙ false_either (is_lasting key))
 
 -- a state that has lost the rows that go has lost what is listed of them
 pub loses_gone : (goes : Key → ℕ → Row → Bool) (old new : State) (rows : List (Key × ℕ)) (delays places : List ℕ) →
     ((key : Key) → durable_definition new key ≡ durable_definition old key) →
-    ((key : Key) (place : ℕ) → stored_row new key place ≡ cond (is_lasting key && passes (goes key place) (row_at place (rows_under old key))) None (stored_row old key place)) →
+    ((key : Key) (place : ℕ) → stored_row new key place ≡ cond (is_lasting key && passes (goes key place) (row_at place (placed_under old key))) None (stored_row old key place)) →
     AreGone goes old rows delays places → Loses old new rows delays places
 loses_gone goes old new rows delays places d l a = record {
   definitions = d;
@@ -66,5 +67,5 @@ loses_gone goes old new rows delays places d l a = record {
     empty false o e = e
 
     last : (key : Key) (place : ℕ) → is_among places place ≡ true → (o : Option StoredRow) → stored_row old key place ≡ o → stored_row new key place ≡ None
-    last key place e None f = l key place ∙ empty (is_lasting key && passes (goes key place) (row_at place (rows_under old key))) (stored_row old key place) f
+    last key place e None f = l key place ∙ empty (is_lasting key && passes (goes key place) (row_at place (placed_under old key))) (stored_row old key place) f
     last key place e (Some r) f = gone key place (a.places_are.last key place e (subst (λ (o : Option StoredRow). IsSome o) (sym f) refl))

@@ -16,10 +16,11 @@ use Rattle.jm_machine.specs.Rows.{InOrder, fresh}
 use Rattle.jm_machine.specs.Machine.{State, Publisher, publisher_of, accepts, is_full, brought, offered, queued, one_missed, with_rows, with_message, settled, settled_rows, station_of, definition_of}
 use Rattle.jm_machine.specs.Wants.{placed_rows}
 use Rattle.jm_machine.specs.Reopened.{is_durable}
+use Rattle.jm_machine.specs.Under.{is_accepted, is_for, is_persistent, lasts_at, placed_under}
 use Rattle.jm_machine.proofs.Keys.{key_same}
-use Rattle.jm_keep.specs.Persisted.{shown, rows_under, row_at, StoredRow, stored_row, if_stored, is_lasting, is_persistent}
+use Rattle.jm_keep.specs.Persisted.{shown, row_at, StoredRow, stored_row, if_stored, is_lasting}
 use Rattle.jm_keep.specs.Leads.{StoresTheSame}
-use Rattle.jm_keep.specs.Steps.{StandsInOrder, is_for, is_accepted, takes, PublishGains}
+use Rattle.jm_keep.specs.Steps.{StandsInOrder, PublishGains}
 use Rattle.jm_keep_law.proofs.Received.{found_in_order}
 
 -- ---- rows
@@ -116,13 +117,13 @@ queue_come : (d : Destination) (m : Content) (n : ℕ) (queues : List ℕ → Li
 queue_come (ToQueue d) m n queues name = refl
 queue_come (ToTopic d) m n queues name = refl
 
-under_new : (state : State) (m : Content) (key : Key) → is_lasting key ≡ true → rows_under (with_message state m) key ≡ joined (takes state m key) state.next_place m (rows_under state key)
+under_new : (state : State) (m : Content) (key : Key) → is_lasting key ≡ true → placed_under (with_message state m) key ≡ joined (lasts_at state m key) state.next_place m (placed_under state key)
 under_new state m (Queue name) l = queue_come m.destination m state.next_place state.queues name
 under_new state m (Own s c) l = cc
 under_new state m (SharedOwn client name) l = cc
 under_new state m (Durable client name) l = rows_come state.limit (publisher_of state.life m) m state.next_place client name state.stations
 
-pub under_in_order : (state : State) → StandsInOrder state → (key : Key) → InOrder state.next_place (rows_under state key)
+pub under_in_order : (state : State) → StandsInOrder state → (key : Key) → InOrder state.next_place (placed_under state key)
 under_in_order state o (Queue name) = o.queues name
 under_in_order state o (Own s c) = found_in_order state.next_place (Own s c) state.stations o.stations
 under_in_order state o (SharedOwn client name) = found_in_order state.next_place (SharedOwn client name) state.stations o.stations
@@ -133,46 +134,46 @@ abbrev pub if_lasts : Bool → Option StoredRow → Option StoredRow
 if_lasts b o = cond b o None
 
 free : (state : State) → StandsInOrder state → (key : Key) → stored_row state key state.next_place ≡ None
-free state o key = ap (λ r. if_lasts (is_lasting key) (if_stored r)) (next_free state.next_place (rows_under state key) (under_in_order state o key)) ∙ go (is_lasting key)
+free state o key = ap (λ r. if_lasts (is_lasting key) (if_stored r)) (next_free state.next_place (placed_under state key) (under_in_order state o key)) ∙ go (is_lasting key)
   where
     go : (b : Bool) → if_lasts b None ≡ None
     go true = refl
     go false = refl
 
-takes_lasting : (state : State) (m : Content) (key : Key) → takes state m key ≡ true → is_lasting key ≡ true
+takes_lasting : (state : State) (m : Content) (key : Key) → lasts_at state m key ≡ true → is_lasting key ≡ true
 takes_lasting state m (Queue name) e = refl
 takes_lasting state m (Own s c) e = cc
 takes_lasting state m (SharedOwn client name) e = cc
 takes_lasting state m (Durable client name) e = refl
 
-comes : (state : State) (m : Content) → StandsInOrder state → is_persistent m.mode ≡ true → (key : Key) → takes state m key ≡ true → stored_row (with_message state m) key state.next_place ≡ Some (shown (fresh m))
+comes : (state : State) (m : Content) → StandsInOrder state → is_persistent m.mode ≡ true → (key : Key) → lasts_at state m key ≡ true → stored_row (with_message state m) key state.next_place ≡ Some (shown (fresh m))
 comes state m o p key t =
     let l : is_lasting key ≡ true = takes_lasting state m key t in
-    ap (λ b. if_lasts b (if_stored (row_at state.next_place (rows_under (with_message state m) key)))) l
-    ∙ ap (λ rows. if_stored (row_at state.next_place rows)) (under_new state m key l ∙ ap (λ b. joined b state.next_place m (rows_under state key)) t)
-    ∙ ap if_stored (row_at-last state.next_place (fresh m) (rows_under state key) (next_free state.next_place (rows_under state key) (under_in_order state o key)))
+    ap (λ b. if_lasts b (if_stored (row_at state.next_place (placed_under (with_message state m) key)))) l
+    ∙ ap (λ rows. if_stored (row_at state.next_place rows)) (under_new state m key l ∙ ap (λ b. joined b state.next_place m (placed_under state key)) t)
+    ∙ ap if_stored (row_at-last state.next_place (fresh m) (placed_under state key) (next_free state.next_place (placed_under state key) (under_in_order state o key)))
     ∙ ap (λ b. cond b (Some (shown (fresh m))) None) p
 
 -- where it does not come, or at another place, the same is stored
-as_before : (state : State) (m : Content) (key : Key) (place : ℕ) → ((b : Bool) → takes state m key ≡ b → row_at place (joined b state.next_place m (rows_under state key)) ≡ row_at place (rows_under state key)) → stored_row (with_message state m) key place ≡ stored_row state key place
+as_before : (state : State) (m : Content) (key : Key) (place : ℕ) → ((b : Bool) → lasts_at state m key ≡ b → row_at place (joined b state.next_place m (placed_under state key)) ≡ row_at place (placed_under state key)) → stored_row (with_message state m) key place ≡ stored_row state key place
 as_before state m key place h = go (is_lasting key) refl
   where
-    go : (b : Bool) → is_lasting key ≡ b → if_lasts b (if_stored (row_at place (rows_under (with_message state m) key))) ≡ if_lasts b (if_stored (row_at place (rows_under state key)))
-    go true l = ap (λ rows. if_stored (row_at place rows)) (under_new state m key l) ∙ ap if_stored (h (takes state m key) refl)
+    go : (b : Bool) → is_lasting key ≡ b → if_lasts b (if_stored (row_at place (placed_under (with_message state m) key))) ≡ if_lasts b (if_stored (row_at place (placed_under state key)))
+    go true l = ap (λ rows. if_stored (row_at place rows)) (under_new state m key l) ∙ ap if_stored (h (lasts_at state m key) refl)
     go false l = refl
 
-untaken : (state : State) (m : Content) (key : Key) (place : ℕ) → takes state m key ≡ false → stored_row (with_message state m) key place ≡ stored_row state key place
+untaken : (state : State) (m : Content) (key : Key) (place : ℕ) → lasts_at state m key ≡ false → stored_row (with_message state m) key place ≡ stored_row state key place
 untaken state m key place t = as_before state m key place go
   where
-    go : (b : Bool) → takes state m key ≡ b → row_at place (joined b state.next_place m (rows_under state key)) ≡ row_at place (rows_under state key)
+    go : (b : Bool) → lasts_at state m key ≡ b → row_at place (joined b state.next_place m (placed_under state key)) ≡ row_at place (placed_under state key)
     go true e = cc
     go false e = refl
 
 elsewhere : (state : State) (m : Content) (key : Key) (place : ℕ) → (state.next_place == place) ≡ false → stored_row (with_message state m) key place ≡ stored_row state key place
 elsewhere state m key place f = as_before state m key place go
   where
-    go : (b : Bool) → takes state m key ≡ b → row_at place (joined b state.next_place m (rows_under state key)) ≡ row_at place (rows_under state key)
-    go true e = row_at-before state.next_place place (fresh m) f (rows_under state key)
+    go : (b : Bool) → lasts_at state m key ≡ b → row_at place (joined b state.next_place m (placed_under state key)) ≡ row_at place (placed_under state key)
+    go true e = row_at-before state.next_place place (fresh m) f (placed_under state key)
     go false e = refl
 
 pub publish_gains : PublishGains
@@ -195,22 +196,22 @@ unstored state m o p = record {
   rows = λ key place. go key place (state.next_place == place) refl;
 }
   where
-    here : (key : Key) (b : Bool) → takes state m key ≡ b → stored_row (with_message state m) key state.next_place ≡ stored_row state key state.next_place
+    here : (key : Key) (b : Bool) → lasts_at state m key ≡ b → stored_row (with_message state m) key state.next_place ≡ stored_row state key state.next_place
     here key false t = untaken state m key state.next_place t
     here key true t = let l : is_lasting key ≡ true = takes_lasting state m key t in
-        ap (λ b. if_lasts b (if_stored (row_at state.next_place (rows_under (with_message state m) key)))) l
-        ∙ ap (λ rows. if_stored (row_at state.next_place rows)) (under_new state m key l ∙ ap (λ b. joined b state.next_place m (rows_under state key)) t)
-        ∙ ap if_stored (row_at-last state.next_place (fresh m) (rows_under state key) (next_free state.next_place (rows_under state key) (under_in_order state o key)))
+        ap (λ b. if_lasts b (if_stored (row_at state.next_place (placed_under (with_message state m) key)))) l
+        ∙ ap (λ rows. if_stored (row_at state.next_place rows)) (under_new state m key l ∙ ap (λ b. joined b state.next_place m (placed_under state key)) t)
+        ∙ ap if_stored (row_at-last state.next_place (fresh m) (placed_under state key) (next_free state.next_place (placed_under state key) (under_in_order state o key)))
         ∙ ap (λ b. cond b (Some (shown (fresh m))) None) p
         ∙ sym (free state o key)
 
     go : (key : Key) (place : ℕ) (b : Bool) → (state.next_place == place) ≡ b → stored_row (with_message state m) key place ≡ stored_row state key place
     go key place true e = let same : state.next_place ≡ place = grind (arith, nat_tests) in
-        subst (λ q. stored_row (with_message state m) key q ≡ stored_row state key q) same (here key (takes state m key) refl)
+        subst (λ q. stored_row (with_message state m) key q ≡ stored_row state key q) same (here key (lasts_at state m key) refl)
     go key place false e = elsewhere state m key place e
 
--- no key takes it
-pub taken_nowhere : (state : State) (m : Content) → ((key : Key) → takes state m key ≡ false) → StoresTheSame state (with_message state m)
+-- no key lasts_at it
+pub taken_nowhere : (state : State) (m : Content) → ((key : Key) → lasts_at state m key ≡ false) → StoresTheSame state (with_message state m)
 taken_nowhere state m t = record {
   definitions = λ key. ap (λ d. cond (is_durable key) d None) (definition_kept state.limit (publisher_of state.life m) m state.next_place key state.stations);
   rows = λ key place. untaken state m key place (t key);
@@ -229,7 +230,7 @@ accepted_after limit publisher new n by m key (x ∷ stations) =
     go true r = ap (λ k. accepts k (offered limit publisher new n x).definition by m) (key_kept limit publisher new n x) ∙ ap (λ d. accepts x.key d by m) (definition_is limit publisher new n x)
     go false r = r
 
-pub takes_after : (state : State) (new m : Content) (key : Key) → takes (with_message state new) m key ≡ takes state m key
+pub takes_after : (state : State) (new m : Content) (key : Key) → lasts_at (with_message state new) m key ≡ lasts_at state m key
 takes_after state new m (Queue name) = refl
 takes_after state new m (Own s c) = refl
 takes_after state new m (SharedOwn client name) = refl
@@ -244,7 +245,7 @@ accepted_settled f by m key (x ∷ stations) = go (key_eq x.key key) (accepted_s
     go true r = refl
     go false r = r
 
-pub takes_settled : (p : SessionId → ℕ → Bool) (state : State) (m : Content) (key : Key) → takes (settled p state) m key ≡ takes state m key
+pub takes_settled : (p : SessionId → ℕ → Bool) (state : State) (m : Content) (key : Key) → lasts_at (settled p state) m key ≡ lasts_at state m key
 takes_settled p state m (Queue name) = refl
 takes_settled p state m (Own s c) = refl
 takes_settled p state m (SharedOwn client name) = refl

@@ -13,9 +13,10 @@ use Rattle.jm_machine.specs.Rows.{has_lapsed, InOrder, live_placed, live, bare, 
 use Rattle.jm_machine.specs.Machine.{State, AllInOrder, receive, station_of, definition_of, at_key, at_queue_of, with_rows}
 use Rattle.jm_machine.specs.Wants.{next_placed, next_chosen, placed_rows}
 use Rattle.jm_machine.specs.Reopened.{is_durable}
+use Rattle.jm_machine.specs.Under.{is_persistent, next_under, placed_under}
 use Rattle.jm_machine.proofs.Keys.{key_same, key_refl}
-use Rattle.jm_keep.specs.Persisted.{shown, rows_under, row_at, stored_row, if_stored, is_lasting, is_persistent}
-use Rattle.jm_keep.specs.Steps.{StandsInOrder, is_place_of, next_under, passes, taken_under, ReceiveLoses}
+use Rattle.jm_keep.specs.Persisted.{shown, row_at, stored_row, if_stored, is_lasting}
+use Rattle.jm_keep.specs.Steps.{StandsInOrder, is_place_of, passes, taken_under, ReceiveLoses}
 use Rattle.jm_keep_law.proofs.Gone.{under_key, loses_gone}
 use Rattle.jm_keep_law.proofs.Placed.{if_passes, row_at-filter, row_at-gone, order_filter}
 
@@ -114,7 +115,7 @@ definition_kept k key f (x ∷ stations) = go (key_eq x.key k) (definition_kept 
 
 -- the row that is stored of the key after the delivery
 row_own : (p : Content → Bool) (now : ℕ) (k : Key) (state : State) → StandsInOrder state → is_lasting k ≡ true → (place : ℕ) →
-    stored_row (receive p (λ r. []) now (Some k) state) k place ≡ cond (is_lost now (next_under p now k (rows_under state k)) place (row_at place (rows_under state k))) None (stored_row state k place)
+    stored_row (receive p (λ r. []) now (Some k) state) k place ≡ cond (is_lost now (next_under p now k (placed_under state k)) place (row_at place (placed_under state k))) None (stored_row state k place)
 row_own p now (Queue name) state o l place =
     ap (λ c. if_stored (row_at place (cond c (deliver_chosen p now (λ r. []) (state.queues name)) (state.queues name)))) (own name)
     ∙ chosen_left p state.next_place now place (state.queues name) (o.queues name)
@@ -142,16 +143,16 @@ row_other fs fq k state (SharedOwn client name) e place = refl
 row_other fs fq k state (Durable client name) e place = ap (λ x. if_stored (row_at place (placed_rows x))) (found_other k (Durable client name) fs state.stations e)
 
 row_left : (p : Content → Bool) (now : ℕ) (k : Key) (state : State) → StandsInOrder state → is_lasting k ≡ true → (key : Key) (place : ℕ) →
-    stored_row (receive p (λ r. []) now (Some k) state) key place ≡ cond (key_eq k key && is_lost now (next_under p now k (rows_under state k)) place (row_at place (rows_under state k))) None (stored_row state key place)
+    stored_row (receive p (λ r. []) now (Some k) state) key place ≡ cond (key_eq k key && is_lost now (next_under p now k (placed_under state k)) place (row_at place (placed_under state k))) None (stored_row state key place)
 row_left p now k state o l key place = go (key_eq k key) refl
   where
-    go : (b : Bool) → key_eq k key ≡ b → stored_row (receive p (λ r. []) now (Some k) state) key place ≡ cond (b && is_lost now (next_under p now k (rows_under state k)) place (row_at place (rows_under state k))) None (stored_row state key place)
-    go true e = subst (λ t. stored_row (receive p (λ r. []) now (Some k) state) t place ≡ cond (is_lost now (next_under p now k (rows_under state k)) place (row_at place (rows_under state k))) None (stored_row state t place)) (key_same k key e) (row_own p now k state o l place)
+    go : (b : Bool) → key_eq k key ≡ b → stored_row (receive p (λ r. []) now (Some k) state) key place ≡ cond (b && is_lost now (next_under p now k (placed_under state k)) place (row_at place (placed_under state k))) None (stored_row state key place)
+    go true e = subst (λ t. stored_row (receive p (λ r. []) now (Some k) state) t place ≡ cond (is_lost now (next_under p now k (placed_under state k)) place (row_at place (placed_under state k))) None (stored_row state t place)) (key_same k key e) (row_own p now k state o l place)
     go false e = row_other (deliver_placed now (λ r. [])) (deliver_chosen p now (λ r. [])) k state key e place
 
 pub receive_loses : ReceiveLoses
 receive_loses state p now k rows delays places o l lost =
-    loses_gone (taken_under k now (next_under p now k (rows_under state k))) state (receive p (λ r. []) now (Some k) state) rows delays places
+    loses_gone (taken_under k now (next_under p now k (placed_under state k))) state (receive p (λ r. []) now (Some k) state) rows delays places
     (λ key. ap (λ d. cond (is_durable key) d None) (definition_kept k key (deliver_placed now (λ r. [])) state.stations))
-    (λ key place. row_left p now k state o l key place ∙ ap (λ b. cond b None (stored_row state key place)) (under_key (taken now (next_under p now k (rows_under state k)) place) k state l key place))
+    (λ key place. row_left p now k state o l key place ∙ ap (λ b. cond b None (stored_row state key place)) (under_key (taken now (next_under p now k (placed_under state k)) place) k state l key place))
     lost

@@ -12,7 +12,8 @@ use Rattle.jm_machine.specs.Rows.{is_out, given_back}
 use Rattle.jm_machine.specs.Machine.{State, settled_rows, returned_rows, settled, returned, station_of, definition_of, with_rows}
 use Rattle.jm_machine.specs.Wants.{placed_rows}
 use Rattle.jm_machine.specs.Reopened.{is_durable}
-use Rattle.jm_keep.specs.Persisted.{rows_under, row_at, stored_row, if_stored, is_lasting}
+use Rattle.jm_machine.specs.Under.{placed_under}
+use Rattle.jm_keep.specs.Persisted.{row_at, stored_row, if_stored, is_lasting}
 use Rattle.jm_keep.specs.Steps.{StandsInOrder, SettleLoses, ReturnStores, passes, out_through}
 use Rattle.jm_keep_law.proofs.Placed.{row_at-filter}
 use Rattle.jm_keep_law.proofs.Gone.{left_stored, loses_gone}
@@ -38,13 +39,13 @@ definition_kept f key (x ∷ stations) = go (key_eq x.key key) (definition_kept 
     go true r = refl
     go false r = r
 
-under_settled : (p : SessionId → ℕ → Bool) (state : State) (key : Key) → rows_under (settled p state) key ≡ settled_rows p (rows_under state key)
+under_settled : (p : SessionId → ℕ → Bool) (state : State) (key : Key) → placed_under (settled p state) key ≡ settled_rows p (placed_under state key)
 under_settled p state (Queue name) = refl
 under_settled p state (Own s c) = found_rows (settled_rows p) refl (Own s c) state.stations
 under_settled p state (SharedOwn client name) = found_rows (settled_rows p) refl (SharedOwn client name) state.stations
 under_settled p state (Durable client name) = found_rows (settled_rows p) refl (Durable client name) state.stations
 
-under_returned : (p : SessionId → ℕ → Bool) (state : State) (key : Key) → rows_under (returned p state) key ≡ returned_rows p (rows_under state key)
+under_returned : (p : SessionId → ℕ → Bool) (state : State) (key : Key) → placed_under (returned p state) key ≡ returned_rows p (placed_under state key)
 under_returned p state (Queue name) = refl
 under_returned p state (Own s c) = found_rows (returned_rows p) refl (Own s c) state.stations
 under_returned p state (SharedOwn client name) = found_rows (returned_rows p) refl (SharedOwn client name) state.stations
@@ -52,14 +53,14 @@ under_returned p state (Durable client name) = found_rows (returned_rows p) refl
 
 -- ---- what is settled
 
-row_left : (p : SessionId → ℕ → Bool) (state : State) → StandsInOrder state → (key : Key) (place : ℕ) → stored_row (settled p state) key place ≡ cond (is_lasting key && passes (is_out p) (row_at place (rows_under state key))) None (stored_row state key place)
+row_left : (p : SessionId → ℕ → Bool) (state : State) → StandsInOrder state → (key : Key) (place : ℕ) → stored_row (settled p state) key place ≡ cond (is_lasting key && passes (is_out p) (row_at place (placed_under state key))) None (stored_row state key place)
 row_left p state o key place =
     ap (λ rows. if_lasts (is_lasting key) (if_stored (row_at place rows))) (under_settled p state key)
-    ∙ ap (λ r. if_lasts (is_lasting key) (if_stored r)) (row_at-filter state.next_place place (λ r. not (is_out p r)) (rows_under state key) (under_in_order state o key))
-    ∙ ap (λ r. if_lasts (is_lasting key) r) (left_stored (is_out p) (row_at place (rows_under state key)))
-    ∙ go (is_lasting key) (passes (is_out p) (row_at place (rows_under state key)))
+    ∙ ap (λ r. if_lasts (is_lasting key) (if_stored r)) (row_at-filter state.next_place place (λ r. not (is_out p r)) (placed_under state key) (under_in_order state o key))
+    ∙ ap (λ r. if_lasts (is_lasting key) r) (left_stored (is_out p) (row_at place (placed_under state key)))
+    ∙ go (is_lasting key) (passes (is_out p) (row_at place (placed_under state key)))
   where
-    go : (a b : Bool) → if_lasts a (cond b None (if_stored (row_at place (rows_under state key)))) ≡ cond (a && b) None (if_lasts a (if_stored (row_at place (rows_under state key))))
+    go : (a b : Bool) → if_lasts a (cond b None (if_stored (row_at place (placed_under state key)))) ≡ cond (a && b) None (if_lasts a (if_stored (row_at place (placed_under state key))))
     go true true = refl
     go true false = refl
     go false true = refl
@@ -86,5 +87,5 @@ returned_stored p place (x ∷ rows) = go (x.place == place) (returned_stored p 
 pub return_stores : ReturnStores
 return_stores state p = record {
   definitions = λ key. ap (λ d. cond (is_durable key) d None) (definition_kept (returned_rows p) key state.stations);
-  rows = λ key place. ap (λ rows. if_lasts (is_lasting key) (if_stored (row_at place rows))) (under_returned p state key) ∙ ap (λ r. if_lasts (is_lasting key) r) (returned_stored p place (rows_under state key));
+  rows = λ key place. ap (λ rows. if_lasts (is_lasting key) (if_stored (row_at place rows))) (under_returned p state key) ∙ ap (λ r. if_lasts (is_lasting key) r) (returned_stored p place (placed_under state key));
 }

@@ -30,7 +30,8 @@ use Rattle.jm_machine.specs.Places.{rows_at, rows_holding}
 use Rattle.jm_machine.specs.Queues.{rows_unless, state_after}
 use Rattle.jm_machine.specs.Isolation.{Reached}
 use Rattle.jm_machine.specs.Isolation.Reached.{Stepped}
-use Rattle.jm_law.specs.Subscriptions.{placed_of, held_under, is_key, next_row, settles_under, drops_under, goes_under, settled_under, dropped_under, gone_under, row_for, rows_for, came_under, all_settled_under, all_dropped_under, all_gone_under, all_came_under, SubscriptionKeeps}
+use Rattle.jm_machine.specs.Under.{is_key}
+use Rattle.jm_law.specs.Subscriptions.{placed_of, held_under, next_row, settles_under, drops_under, goes_under, settled_under, dropped_under, gone_under, row_for, rows_for, came_under, all_settled_under, all_dropped_under, all_gone_under, all_came_under, SubscriptionKeeps}
 use Rattle.jm_machine.proofs.Keys.{key_same}
 use Rattle.jm_law.proofs.Stations.{mapped, station_of-map, station_of-at, station_of_other-at, station-put, other-put, station-without, other-without, station-ended}
 use Rattle.jm_law.proofs.Projection.{refused}

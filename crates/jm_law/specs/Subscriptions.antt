@@ -20,6 +20,7 @@ use Rattle.jm_machine.specs.Machine.{State, Publisher, publisher_of, accepts, is
 use Rattle.jm_machine.specs.Isolation.{Reached}
 use Rattle.jm_machine.specs.Places.{rows_at, rows_holding}
 use Rattle.jm_machine.specs.Queues.{first_row, rows_unless, state_after}
+use Rattle.jm_machine.specs.Under.{is_key}
 
 -- the rows of a subscription that there is
 abbrev pub placed_of : Option Station → List PlacedRow
@@ -29,11 +30,6 @@ placed_of (Some x) = x.rows
 -- the rows that are held under the key
 abbrev pub held_under : Key → State → List PlacedRow
 held_under key state = placed_of (station_of key state.stations)
-
--- a key that there is, and it is that one
-abbrev pub is_key : Key → Option Key → Bool
-is_key key None = false
-is_key key (Some other) = key_eq other key
 
 -- the row of a subscription that a receive delivers
 abbrev pub next_row : ℕ → List PlacedRow → List PlacedRow

@@ -21,7 +21,6 @@ use Rattle.jm_plans.specs.Plans.{IsPlan}
 use Rattle.jm_plans.specs.Provider.{Provider, state_of}
 use Rattle.jm_core.specs.Reading.{decides, deletes, delivery_to, place_taken, publishes, puts, takes}
 use Rattle.jm_changes.specs.Planned.{IsDecided, IsPlannedCall, IsPlannedRequest, IsTaken}
-use Rattle.jm_listed.proofs.Rows.{same_taken}
 
 decided_by : (held : Option Definition) (k : Key) (d : Definition) (decision : Option (Key × Subscription)) → decision ≡ decision_of held k d → IsDecided k d held (decides decision)
 decided_by None k d decision e = ap decides e
@@ -61,11 +60,11 @@ decided_for state s (request.Done c ok) decision e = absurd e
 received : (state : State) (r : Receiver) → IsTaken state r.session r.consumer r.moment (place_taken state (delivery_to r.moment (source_of state.life state.consumers r.session r.consumer)))
 received state r = λ x started found.
     let source : source_of state.life state.consumers r.session r.consumer ≡ Some x = ap (λ b. cond b (consumer_of state.consumers r.session r.consumer) None) started ∙ found in
-    ap (λ (o : Option Consumer). place_taken state (delivery_to r.moment o)) source ∙ same_taken state r.moment x
+    ap (λ (o : Option Consumer). place_taken state (delivery_to r.moment o)) source
 
 listened : (state : State) (r : Receiver) → IsTaken state r.session r.consumer r.moment (place_taken state (delivery_to r.moment (consumer_of state.consumers r.session r.consumer)))
 listened state r = λ x started found.
-    ap (λ (o : Option Consumer). place_taken state (delivery_to r.moment o)) found ∙ same_taken state r.moment x
+    ap (λ (o : Option Consumer). place_taken state (delivery_to r.moment o)) found
 
 -- which was planned to be deleted and put, which row is taken, and which messages are published, for which places are left
 pub planned_call : (p : Provider) (who : Who) (call : Call) (c : Change) → IsPlan p who call c → IsPlannedCall (state_of p) who call (deletes c) (puts c) (takes (state_of p) c) (publishes c)

@@ -1,5 +1,5 @@
 -- Rows that are found, as listing reads them.
-use Rattle.std.proofs.Common.{◌≡◌, ◌<◌, ◌≤◌, ℕ, Bool, true, false, cond, List, [], ◌∷◌, refl, ap, sym, subst, ◌∙◌, arith, Option, Some, None}
+use Rattle.std.proofs.Common.{◌≡◌, ◌<◌, ◌≤◌, ℕ, Bool, true, false, cond, List, [], ◌∷◌, refl, arith, Option, Some, None}
 use Rattle.std.specs.Prelude.{◌&&◌, IfSome, filter, find, nat_le, option_map}
 use Rattle.jm_dest.specs.declared.key.Key.{Key}
 use Rattle.jm_dest.specs.declared.key.Key.TheVariants.{Queue, Own, SharedOwn, Durable}
@@ -10,27 +10,12 @@ use Rattle.jm_machine.specs.declared.state.PlacedRow.{PlacedRow}
 use Rattle.jm_machine.specs.declared.state.Row.{Row}
 use Rattle.jm_machine.specs.Rows.{AllAbove, InOrder, bare, is_next, is_next_chosen, live, live_placed}
 use Rattle.jm_machine.specs.Machine.{State, selected_by}
-use Rattle.jm_keep.specs.Persisted.{rows_under}
-use Rattle.jm_keep.specs.Steps.{StandsInOrder, next_under, takes}
+use Rattle.jm_machine.specs.Under.{lasts_at, next_under, placed_under}
+use Rattle.jm_keep.specs.Steps.{StandsInOrder}
 use Rattle.jm_changes.specs.declared.planned.Standing.{Standing}
 use Rattle.jm_changes.specs.Standing.{first_where, standing}
 use Rattle.jm_keep_law.proofs.Published.{under_in_order}
 use Rattle.jm_core.specs.Reading as reading
-use Rattle.jm_queues.specs.Rows as queues
-
--- ---- the same words
-
-pub same_rows : (state : State) (key : Key) → queues.rows_under state key ≡ rows_under state key
-same_rows state (Queue name) = refl
-same_rows state (Own s c) = refl
-same_rows state (SharedOwn client name) = refl
-same_rows state (Durable client name) = refl
-
-pub same_takes : (state : State) (m : Content) (key : Key) → reading.lasts_at state m key ≡ takes state m key
-same_takes state m (Queue name) = refl
-same_takes state m (Own s c) = refl
-same_takes state m (SharedOwn client name) = refl
-same_takes state m (Durable client name) = refl
 
 -- ---- fewer rows stand in order
 
@@ -64,43 +49,31 @@ below n q (x ∷ rows) e h = go (q x) (below n q rows e h.2)
     go true r = let low = h.0 in omega (arith, low, e)
     go false r = r
 
-pub first_below : (state : State) (q : Row → Bool) (place : ℕ) (key : Key) → StandsInOrder state → state.next_place ≤ long_end → IfSome (option_map standing (first_where q place (rows_under state key))) (λ r. r.place < long_end)
+pub first_below : (state : State) (q : Row → Bool) (place : ℕ) (key : Key) → StandsInOrder state → state.next_place ≤ long_end → IfSome (option_map standing (first_where q place (placed_under state key))) (λ r. r.place < long_end)
 first_below state q place key o e =
-    if_map standing (λ (r : Standing). r.place < long_end) (first_where q place (rows_under state key))
-    (below state.next_place (λ x. nat_le place x.place && q x.row) (rows_under state key) e (under_in_order state o key))
+    if_map standing (λ (r : Standing). r.place < long_end) (first_where q place (placed_under state key))
+    (below state.next_place (λ x. nat_le place x.place && q x.row) (placed_under state key) e (under_in_order state o key))
 
-next_below : (state : State) (p : Content → Bool) (now : ℕ) (key : Key) → StandsInOrder state → state.next_place ≤ long_end → IfSome (next_under p now key (rows_under state key)) (λ x. x.place < long_end)
+next_below : (state : State) (p : Content → Bool) (now : ℕ) (key : Key) → StandsInOrder state → state.next_place ≤ long_end → IfSome (next_under p now key (placed_under state key)) (λ x. x.place < long_end)
 next_below state p now (Queue name) o e =
-    below state.next_place (λ x. is_next_chosen p now (live now (bare (rows_under state (Queue name)))) x.row) (live_placed now (rows_under state (Queue name))) e
-    (order_filter state.next_place (λ x. _) (rows_under state (Queue name)) (under_in_order state o (Queue name)))
+    below state.next_place (λ x. is_next_chosen p now (live now (bare (placed_under state (Queue name)))) x.row) (live_placed now (placed_under state (Queue name))) e
+    (order_filter state.next_place (λ x. _) (placed_under state (Queue name)) (under_in_order state o (Queue name)))
 next_below state p now (Own s c) o e =
-    below state.next_place (λ x. is_next now (live now (bare (rows_under state (Own s c)))) x.row) (live_placed now (rows_under state (Own s c))) e
-    (order_filter state.next_place (λ x. _) (rows_under state (Own s c)) (under_in_order state o (Own s c)))
+    below state.next_place (λ x. is_next now (live now (bare (placed_under state (Own s c)))) x.row) (live_placed now (placed_under state (Own s c))) e
+    (order_filter state.next_place (λ x. _) (placed_under state (Own s c)) (under_in_order state o (Own s c)))
 next_below state p now (SharedOwn client name) o e =
-    below state.next_place (λ x. is_next now (live now (bare (rows_under state (SharedOwn client name)))) x.row) (live_placed now (rows_under state (SharedOwn client name))) e
-    (order_filter state.next_place (λ x. _) (rows_under state (SharedOwn client name)) (under_in_order state o (SharedOwn client name)))
+    below state.next_place (λ x. is_next now (live now (bare (placed_under state (SharedOwn client name)))) x.row) (live_placed now (placed_under state (SharedOwn client name))) e
+    (order_filter state.next_place (λ x. _) (placed_under state (SharedOwn client name)) (under_in_order state o (SharedOwn client name)))
 next_below state p now (Durable client name) o e =
-    below state.next_place (λ x. is_next now (live now (bare (rows_under state (Durable client name)))) x.row) (live_placed now (rows_under state (Durable client name))) e
-    (order_filter state.next_place (λ x. _) (rows_under state (Durable client name)) (under_in_order state o (Durable client name)))
+    below state.next_place (λ x. is_next now (live now (bare (placed_under state (Durable client name)))) x.row) (live_placed now (placed_under state (Durable client name))) e
+    (order_filter state.next_place (λ x. _) (placed_under state (Durable client name)) (under_in_order state o (Durable client name)))
 
--- ---- the row that a delivery takes
-
-same_next : (p : Content → Bool) (now : ℕ) (key : Key) (rows : List PlacedRow) → reading.next_under p now key rows ≡ next_under p now key rows
-same_next p now (Queue name) rows = refl
-same_next p now (Own s c) rows = refl
-same_next p now (SharedOwn client name) rows = refl
-same_next p now (Durable client name) rows = refl
-
-pub same_taken : (state : State) (now : ℕ) (x : Consumer) → reading.place_taken state (Some (now, x)) ≡ option_map (λ (r : PlacedRow). r.place) (next_under (selected_by (Some x)) now x.key (rows_under state x.key))
-same_taken state now x =
-    ap (λ o. option_map (λ (r : PlacedRow). r.place) o)
-    (same_next (selected_by (Some x)) now x.key (queues.rows_under state x.key) ∙ ap (λ rows. next_under (selected_by (Some x)) now x.key rows) (same_rows state x.key))
+-- ---- the row that a delivery lasts_at
 
 pub taken_below : (state : State) (d : Option (ℕ × Consumer)) → StandsInOrder state → state.next_place ≤ long_end → IfSome (reading.place_taken state d) (λ n. n < long_end)
 taken_below state None o e = tt
 taken_below state (Some d) o e =
-    subst (λ n. IfSome n (λ (k : ℕ). k < long_end)) (sym (same_taken state d.0 d.1))
-    (if_map (λ (r : PlacedRow). r.place) (λ (k : ℕ). k < long_end) (next_under (selected_by (Some d.1)) d.0 d.1.key (rows_under state d.1.key)) (next_below state (selected_by (Some d.1)) d.0 d.1.key o e))
+    if_map (λ (r : PlacedRow). r.place) (λ (k : ℕ). k < long_end) (next_under (selected_by (Some d.1)) d.0 d.1.key (placed_under state d.1.key)) (next_below state (selected_by (Some d.1)) d.0 d.1.key o e)
 
 -- ---- each row is meant
 

@@ -2,7 +2,7 @@
 
 ghost use Rattle.std.specs.Prelude.{◌≡◌, ◌≤◌, Some, option_map};
 ghost use Rattle.jm_machine.specs.Machine.{places_end};
-ghost use Rattle.jm_keep.specs.Persisted.{is_persistent as persists};
+ghost use Rattle.jm_machine.specs.Under.{is_persistent as persists};
 ghost use Rattle.jm_stations.specs.Standing as reads;
 ghost use Rattle.jm_keep.specs.Steps.{StandsInOrder};
 ghost use Rattle.jm_changes.specs.Standing as standing;

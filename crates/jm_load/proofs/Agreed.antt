@@ -24,11 +24,11 @@ use Rattle.jm_format.specs.Messages.{IsMessage, writeable}
 use Rattle.jm_machine.specs.declared.state.Definition.{Definition}
 use Rattle.jm_machine.specs.Machine.{is_to}
 use Rattle.jm_machine.specs.Reopened.{is_durable}
+use Rattle.jm_machine.specs.Under.{is_key, is_persistent}
 use Rattle.jm_machine.proofs.Keys.{key_refl, key_same, text_same}
-use Rattle.jm_keep.specs.Persisted.{is_persistent}
 use Rattle.jm_parts.specs.Stored as core
 use Rattle.jm_selector.specs.Selectors.{matches, selector_read}
-use Rattle.jm_tables.specs.Keys.{is_key, key_of}
+use Rattle.jm_tables.specs.Keys.{key_of}
 use Rattle.jm_tables.specs.Rows.{definition_in, is_at, is_under, record_at}
 use Rattle.jm_tables.specs.Schema.{station_tree, message_tree, held_tree, delayed_tree}
 use Rattle.jm_tables.specs.Valid as valid
@@ -60,15 +60,15 @@ to_topic topic (ToTopic name) h = ap (λ (t : List ℕ). ToTopic t) (sym (text_s
 
 -- what may hold a message as a decoded station may hold it as a stored one
 under_from : (key : Key) (d : Definition) (m : Content) → may_hold key (if is_durable key then Some d else None) m ≡ true → MayHold (Some key) d m
-under_from (Queue name) d m h = to_queue name (core.is_persistent m.mode) m.destination h
+under_from (Queue name) d m h = to_queue name (is_persistent m.mode) m.destination h
 under_from (Own s c) d m h = cc
 under_from (SharedOwn client name) d m h = cc
 under_from (Durable client name) d m h =
-    let first = and_parts (core.is_persistent m.mode) (is_to d.topic m.destination && matches d.selector m) h in
+    let first = and_parts (is_persistent m.mode) (is_to d.topic m.destination && matches d.selector m) h in
     let second = and_parts (is_to d.topic m.destination) (matches d.selector m) first.1 in
     (to_topic d.topic m.destination second.0, second.1)
 
-persistent_is : (mode : DeliveryMode) → IsTrue (is_persistent mode) → core.is_persistent mode ≡ true
+persistent_is : (mode : DeliveryMode) → IsTrue (is_persistent mode) → is_persistent mode ≡ true
 persistent_is Persistent h = refl
 persistent_is NonPersistent h = cc
 
@@ -79,7 +79,7 @@ text_itself t = key_refl (Queue t)
 under_to : (key : Key) (d : Definition) (m n : Content) → m ≡ writeable n → IsTrue (is_persistent m.mode) → MayHold (Some key) d n → may_hold key (if is_durable key then Some d else None) m ≡ true
 under_to (Queue name) d m n same mode h =
     let sent : m.destination ≡ ToQueue name = ap (λ (x : Content). x.destination) same ∙ h in
-    ap (core.sent_to name (core.is_persistent m.mode)) sent ∙ and_from _ _ (persistent_is m.mode mode) (text_itself name)
+    ap (core.sent_to name (is_persistent m.mode)) sent ∙ and_from _ _ (persistent_is m.mode mode) (text_itself name)
 under_to (Own s c) d m n same mode h = absurd h
 under_to (SharedOwn client name) d m n same mode h = absurd h
 under_to (Durable client name) d m n same mode h =

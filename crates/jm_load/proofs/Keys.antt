@@ -12,7 +12,8 @@ use Rattle.sqlite_rules.specs.Edit.{id_in}
 use Rattle.jm_dest.specs.declared.key.Key.{Key}
 use Rattle.jm_dest.specs.declared.key.Key.TheVariants.{Queue, Durable}
 use Rattle.jm_machine.proofs.Keys.{key_same}
-use Rattle.jm_tables.specs.Keys.{client_in, is_key, key_in, key_of, queue_in}
+use Rattle.jm_machine.specs.Under.{is_key}
+use Rattle.jm_tables.specs.Keys.{client_in, key_in, key_of, queue_in}
 use Rattle.jm_tables.specs.Rows.{is_under, is_under_at}
 use Rattle.jm_queries.specs.Shown.{held_cmp, key_cmp}
 use Rattle.jm_loading.specs.Order.{client, family, name}

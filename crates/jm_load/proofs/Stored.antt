@@ -10,8 +10,8 @@ use Rattle.jm_dest.specs.Keys.{key_eq}
 use Rattle.jm_format.specs.Format as format
 use Rattle.jm_machine.specs.declared.state.Definition.{Definition}
 use Rattle.jm_machine.specs.Reopened.{is_durable}
+use Rattle.jm_machine.specs.Under.{is_key}
 use Rattle.jm_machine.proofs.Keys.{key_same}
-use Rattle.jm_tables.specs.Keys.{is_key}
 use Rattle.jm_tables.specs.Rows.{count_under, definition_in, definition_under, due_at, is_at, is_under, is_under_at, number_in, record_at}
 use Rattle.jm_tables.specs.Schema.{station_tree, message_tree, held_tree, delayed_tree}
 use Rattle.jm_decoding.specs.declared.station.StationRow.{StationRow}

@@ -15,6 +15,7 @@ use Rattle.jm_header.specs.declared.content.Content.{Content}
 use Rattle.jm_machine.specs.declared.state.Definition.{Definition}
 use Rattle.jm_machine.specs.Machine.{is_to}
 use Rattle.jm_machine.specs.Reopened.{is_durable}
+use Rattle.jm_machine.specs.Under.{is_persistent}
 use Rattle.jm_machine.proofs.Keys.{key_refl, text_same}
 use Rattle.jm_selector.specs.Selectors.{matches}
 use Rattle.jm_stations.specs.declared.loading.StoredRow.{StoredRow}
@@ -23,7 +24,7 @@ use Rattle.jm_parts.specs.declared.stored.Holders.{Holders}
 use Rattle.jm_parts.specs.declared.stored.Holders.TheVariants as holders
 use Rattle.jm_parts.specs.declared.stored.StoredMessage.{StoredMessage}
 use Rattle.jm_parts.specs.declared.stored.StoredSubscription.{StoredSubscription}
-use Rattle.jm_parts.specs.Stored.{AreHolders, IsAdmitted, admits, count_at, count_under, is_persistent, queue_admits, sent_to}
+use Rattle.jm_parts.specs.Stored.{AreHolders, IsAdmitted, admits, count_at, count_under, queue_admits, sent_to}
 use Rattle.jm_reopened.specs.Given.{count_in, count_of_key}
 use Rattle.jm_decoding.specs.declared.station.StationRow.{StationRow}
 use Rattle.jm_loading.specs.Fitting.{is_holder, may_hold}

@@ -15,6 +15,7 @@ use Rattle.jm_selector.specs.Selectors.{matches, selector_refusal}
 use Rattle.jm_machine.specs.declared.state.Definition.{Definition}
 use Rattle.jm_machine.specs.declared.state.PlacedRow.{PlacedRow}
 use Rattle.jm_machine.specs.Machine.{State, is_to}
+use Rattle.jm_machine.specs.Under.{is_persistent}
 use Rattle.jm_machine.proofs.Keys.{text_same}
 use Rattle.jm_holds.specs.Holds.{AllHold, EachHolds, HoldsMessages, IsOfQueue, IsOfTopic}
 use Rattle.jm_stations.specs.declared.loading.StoredRow.{StoredRow}
@@ -22,7 +23,7 @@ use Rattle.jm_parts.specs.declared.stored.Holders.{Holders}
 use Rattle.jm_parts.specs.declared.stored.Holders.TheVariants as holders
 use Rattle.jm_parts.specs.declared.stored.StoredMessage.{StoredMessage}
 use Rattle.jm_parts.specs.declared.stored.StoredSubscription.{StoredSubscription}
-use Rattle.jm_parts.specs.Stored.{AreHolders, ArePlaced, IsAdmitted, MayReopen, admits, count_at, count_under, is_persistent, place_after, row_stored, rows_at, rows_stored, rows_under, state_stored, stations_stored}
+use Rattle.jm_parts.specs.Stored.{AreHolders, ArePlaced, IsAdmitted, MayReopen, admits, count_at, count_under, place_after, row_stored, rows_at, rows_stored, rows_under, state_stored, stations_stored}
 use Rattle.jm_decoding.specs.declared.message.MessageRow.{MessageRow}
 use Rattle.jm_decoding.specs.declared.station.StationRow.{StationRow}
 use Rattle.jm_loading.specs.Holds.{HasMessage, HasSelector}

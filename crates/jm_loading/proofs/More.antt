@@ -17,6 +17,7 @@ use Rattle.jm_dest.specs.Keys.{key_eq}
 use Rattle.jm_dest.specs.Names.{text_eq}
 use Rattle.jm_header.specs.declared.content.Content.{Content}
 use Rattle.jm_machine.specs.Reopened.{is_durable}
+use Rattle.jm_machine.specs.Under.{is_persistent}
 use Rattle.jm_machine.proofs.Keys.{key_same, key_sym, text_same}
 use Rattle.jm_stations.specs.declared.loading.StoredRow.{StoredRow}
 use Rattle.jm_stations.specs.Loading.{stored_at}
@@ -24,7 +25,7 @@ use Rattle.jm_parts.specs.declared.stored.Holders.{Holders}
 use Rattle.jm_parts.specs.declared.stored.Holders.TheVariants as holders
 use Rattle.jm_parts.specs.declared.stored.StoredMessage.{StoredMessage}
 use Rattle.jm_parts.specs.declared.stored.StoredSubscription.{StoredSubscription}
-use Rattle.jm_parts.specs.Stored.{AreHolders, IsAdmitted, admits, count_at, count_under, is_persistent, queue_admits, sent_to}
+use Rattle.jm_parts.specs.Stored.{AreHolders, IsAdmitted, admits, count_at, count_under, queue_admits, sent_to}
 use Rattle.jm_reopened.specs.Given.{count_in, count_of_key}
 use Rattle.jm_loading.specs.Holding.{AreRising, DoRise, IsHeldInQueue, IsHeldMore, IsHeldUnder, IsRowMore, end_of}
 use Rattle.jm_loading.specs.Messages.{IsUnheld}

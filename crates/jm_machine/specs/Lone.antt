@@ -27,6 +27,7 @@ use Rattle.jm_machine.specs.Life.{Life, connection_of, mode_of, is_started, life
 use Rattle.jm_machine.specs.Rows.{fresh, left_of, taken, settles_at_once, is_out, given_back, deliver}
 use Rattle.jm_machine.specs.Machine.{State, station_of, definition_of, missed_of, rows_of, Publisher, publisher_of, accepts, is_full, one_missed, consumer_of, durable_of, key_created, is_same, asked, new_consumer, defined, of_session, of_connection, of_number, closed_consumer, ends, set_listening, set_busy, is_coming, is_client, is_transacted, Holding, refusal, reply_by}
 use Rattle.jm_machine.specs.Entries.{life_after_entry, committed}
+use Rattle.jm_machine.specs.Under.{is_key}
 
 -- what belongs to an unshared topic subscription: its key, its own sessions, the clients of their connections, and its
 -- consumers' numbers
@@ -51,11 +52,6 @@ client_or (Some x) later = if x.is_open then x.client else None
 -- the client for which the connection is ever open, in the opening or later: numbers are used once, so there is one
 abbrev pub clients_in : State → List Entry → ℕ → Option (List ℕ)
 clients_in opening entries c = client_or (connection_of opening.life.connections c) (client_opened entries c)
-
--- a key that may be absent is there, and is that one
-abbrev pub is_key : Key → Option Key → Bool
-is_key key None = false
-is_key key (Some other) = key_eq other key
 
 -- a session's creating request names the key by its own words, the connections having these clients
 abbrev pub names_key : Key → (ℕ → Option (List ℕ)) → SessionId → Request → Bool

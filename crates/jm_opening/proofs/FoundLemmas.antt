@@ -12,8 +12,8 @@ use Rattle.jm_opening.specs.declared.found.Found.{Found}
 use Rattle.jm_opening.specs.declared.found.Found.TheVariants.{Blank, Bare, Indexed, Current}
 use Rattle.jm_opening.specs.declared.judged.LastOpening.{LastOpening}
 use Rattle.jm_opening.specs.declared.judged.OpenFault.{OpenFault}
-use Rattle.jm_opening.specs.Judged.{HasKey, IsLast, greatest_opening, version_number}
-use Rattle.jm_tables.specs.Valid.{IsOpening}
+use Rattle.jm_opening.specs.Judged.{HasKey, IsLast, version_number}
+use Rattle.jm_tables.specs.Valid.{IsOpening, greatest_opening}
 use Rattle.jm_opening.specs.Meta.{meta_row, meta_shown}
 use Rattle.jm_opening.specs.Opened.{IsFound, IsOfStore, IsOpened, SaysLast, opening_of, schema_of, version_of}
 

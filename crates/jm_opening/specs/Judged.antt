@@ -1,15 +1,12 @@
 -- What the rows of meta say.
 use Rattle.std.specs.Prelude.{◌≡◌, ◌≢◌, ◌⊎◌, ◌≤◌, ◌<◌, ℕ, ℤ, pos, Bool, List, [], ◌∷◌, length, ⊤, if◌then◌else◌}
+use Rattle.jm_tables.specs.Valid.{greatest_opening}
 use Rattle.sqlite_value.specs.declared.value.Value.TheVariants.{Int}
 use Rattle.sqlite_value.specs.Order.{Row, column}
 use Rattle.jm_opening.specs.declared.judged.LastOpening.{LastOpening}
 use Rattle.jm_opening.specs.declared.judged.OpenFault.{OpenFault}
 use Rattle.jm_opening.specs.declared.judged.OpenFault.TheVariants.{Damaged, WrongVersion, Exhausted, Memory, Store}
 use Rattle.jm_opening.specs.declared.judged.TableName.TheVariants.{Meta}
-
--- the greatest number of an opening
-abbrev pub greatest_opening : ℕ
-greatest_opening = 4294967295
 
 -- the column is a whole number
 abbrev pub IsNumberAt : Row → ℕ → ℤ → Type 0

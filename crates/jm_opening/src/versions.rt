@@ -1,10 +1,11 @@
 //! Which version's tables a database has.
 
 ghost use Rattle.std.specs.Prelude.{◌≡◌, ◌<◌, ◌≤◌, ◌+◌, ◌⊎◌, Some, IsTrue, IfOk, IfErr};
+ghost use Rattle.jm_tables.specs.Valid.{greatest_opening};
 ghost use Rattle.jm_tables.specs.Schema as tables;
 ghost use Rattle.jm_tables.specs.Schema.{no_schema, schema_1_bare, schema_1};
 ghost use Rattle.jm_opening.specs.declared.judged.OpenFault.TheVariants.{Memory, Store};
-ghost use Rattle.jm_opening.specs.Judged.{greatest_opening, version_number};
+ghost use Rattle.jm_opening.specs.Judged.{version_number};
 ghost use Rattle.jm_opening.specs.Opened.{opening_of, schema_of, version_of};
 
 use crate::found::Found;

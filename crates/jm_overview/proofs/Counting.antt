@@ -9,9 +9,9 @@ use Rattle.jm_stations.specs.Standing.{is_from}
 use Rattle.jm_dest.specs.declared.key.Key.{Key}
 use Rattle.jm_dest.specs.declared.key.Key.TheVariants.{Queue, Own, SharedOwn, Durable}
 use Rattle.jm_machine.specs.Machine.{State, places_end}
+use Rattle.jm_machine.specs.Under.{placed_under}
 use Rattle.jm_keep.specs.Steps.{StandsInOrder}
 use Rattle.jm_keep_law.proofs.Published.{under_in_order}
-use Rattle.jm_queues.specs.Rows.{rows_under}
 use Rattle.jm_overview.specs.Overview.{waiting_in, out_in}
 
 -- rows above a place stand from each place on that is not above the next
@@ -124,7 +124,7 @@ wider n m [] l h = h
 wider n m (x ∷ rows) l h = let below = h.0 in (omega (arith, below, l), h.1, wider n m rows l h.2)
 
 -- the rows under each key stand by place
-pub under_key : (state : State) → StandsInOrder state → state.next_place ≤ places_end → (key : Key) → InOrder places_end (rows_under state key)
+pub under_key : (state : State) → StandsInOrder state → state.next_place ≤ places_end → (key : Key) → InOrder places_end (placed_under state key)
 under_key state o l (Queue name) = wider _ _ _ l (under_in_order state o (Queue name))
 under_key state o l (Own s c) = wider _ _ _ l (under_in_order state o (Own s c))
 under_key state o l (SharedOwn client name) = wider _ _ _ l (under_in_order state o (SharedOwn client name))

@@ -4,9 +4,9 @@ ghost use Rattle.std.specs.Prelude.{◌≡◌, ◌<◌, length, slice_index_or};
 ghost use Rattle.jm_dest.specs.declared.key.Key.{Key as KeyShown};
 ghost use Rattle.jm_machine.specs.Machine.{places_end};
 ghost use Rattle.jm_machine.specs.Rows.{InOrder};
+ghost use Rattle.jm_machine.specs.Under.{placed_under};
 ghost use Rattle.jm_plans.specs.Provider.{state_of};
 ghost use Rattle.jm_core.specs.Reading.{keys_in};
-ghost use Rattle.jm_queues.specs.Rows.{rows_under};
 ghost use Rattle.jm_overview.specs.Overview as spec;
 
 use crate::tally::tally_of;
@@ -63,7 +63,7 @@ fn overview_of(rows: &Rows<'_>) -> KeyOverview
 /// oldest (ours). Looks at each row once; takes no memory and changes nothing.
 pub fn overview_at(core: &Core, index: usize) -> KeyOverview
     requires { index < length (keys_in core.now) }
-    ensures { (d : KeyShown) → result ≡ spec.overview (rows_under (state_of core.now) (slice_index_or (keys_in core.now) index d)) }
+    ensures { (d : KeyShown) → result ≡ spec.overview (placed_under (state_of core.now) (slice_index_or (keys_in core.now) index d)) }
 {
     law_rows_in_order(core);
     law_places(core);

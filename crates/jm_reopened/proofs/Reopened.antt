@@ -13,9 +13,6 @@ use Rattle.jm_dest.specs.Keys.{key_eq}
 use Rattle.jm_dest.specs.Names.{text_eq}
 use Rattle.jm_format.specs.Format as format
 use Rattle.jm_header.specs.declared.content.Content.{Content}
-use Rattle.jm_header.specs.declared.content.DeliveryMode.{DeliveryMode}
-use Rattle.jm_header.specs.declared.content.DeliveryMode.TheVariants.{NonPersistent, Persistent}
-use Rattle.jm_keep.specs.Persisted as keep
 use Rattle.jm_keep.specs.Persisted.{IsPersisted, StoredRow as KeptRow, count_of, due_time, durable_definition, if_stored, row_at, stored_row as kept_row}
 use Rattle.jm_machine.specs.declared.state.PlacedRow.{PlacedRow}
 use Rattle.jm_machine.specs.declared.state.Row.{Row}
@@ -23,6 +20,7 @@ use Rattle.jm_machine.specs.declared.state.Station.{Station}
 use Rattle.jm_machine.specs.Machine.{definition_of, station_of}
 use Rattle.jm_machine.specs.Reopened.{is_durable}
 use Rattle.jm_machine.specs.Wants.{placed_rows}
+use Rattle.jm_machine.specs.Under.{is_persistent}
 use Rattle.jm_machine.proofs.Keys.{key_refl}
 use Rattle.jm_stations.specs.declared.loading.StoredRow.{StoredRow}
 use Rattle.jm_stations.specs.Loading.{stored_at, stored_row}
@@ -30,7 +28,7 @@ use Rattle.jm_parts.specs.declared.stored.Holders.{Holders}
 use Rattle.jm_parts.specs.declared.stored.Holders.TheVariants as holders
 use Rattle.jm_parts.specs.declared.stored.StoredMessage.{StoredMessage}
 use Rattle.jm_parts.specs.declared.stored.StoredSubscription.{StoredSubscription}
-use Rattle.jm_parts.specs.Stored.{AreHolders, ArePlaced, IsAdmitted, MayReopen, count_at, count_under, is_persistent, row_stored, rows_stored, rows_under, sent_to, state_stored, stations_stored}
+use Rattle.jm_parts.specs.Stored.{AreHolders, ArePlaced, IsAdmitted, MayReopen, count_at, count_under, row_stored, rows_stored, rows_under, sent_to, state_stored, stations_stored}
 use Rattle.jm_reopened.specs.Given.{AreSome, ReopenedIsGiven, count_given, count_in, count_of_key, due_given, given, given_at}
 
 -- what stands for a row where there is none
@@ -91,12 +89,8 @@ row_in p low g (s ∷ ss) ms key h = go (key_eq s.key key) (row_given p low (g z
 
 -- ---- what is stored of it: all messages that are held are PERSISTENT
 
-same_mode : (mode : DeliveryMode) → is_persistent mode ≡ keep.is_persistent mode
-same_mode NonPersistent = refl
-same_mode Persistent = refl
-
 stored_kept : (m : Content) (n : ℕ) → is_persistent m.mode ≡ true → if_stored (Some (stored_row m n)) ≡ Some (record { count = n; message = m })
-stored_kept m n e = ap (λ b. cond b (Some (record { count = n; message = m })) None) (sym (same_mode m.mode) ∙ e)
+stored_kept m n e = ap (λ b. cond b (Some (record { count = n; message = m })) None) e
 
 first_true : (a b : Bool) → (a && b) ≡ true → a ≡ true
 first_true true b h = refl

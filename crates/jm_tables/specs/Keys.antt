@@ -1,9 +1,8 @@
 -- Keys as columns.
-use Rattle.std.specs.Prelude.{ℕ, ℤ, pos, Bool, false, List, [], ◌∷◌, Option, Some, None, if◌then◌else◌}
+use Rattle.std.specs.Prelude.{ℕ, ℤ, pos, List, [], ◌∷◌, Option, Some, None, if◌then◌else◌}
 use Rattle.std.specs.Ordering.{int_eq}
 use Rattle.jm_dest.specs.declared.key.Key.{Key}
 use Rattle.jm_dest.specs.declared.key.Key.TheVariants.{Queue, Durable}
-use Rattle.jm_dest.specs.Keys.{key_eq}
 use Rattle.sqlite_value.specs.Order.{Row, column, bytes}
 use Rattle.sqlite_rules.specs.Edit.{id_in}
 
@@ -24,8 +23,3 @@ key_in family client name = if int_eq family (pos 1) then queue_in client name e
 -- the key of a row of station, or of held
 abbrev pub key_of : Row → Option Key
 key_of r = key_in (id_in (column r 1)) (bytes (column r 2)) (bytes (column r 3))
-
--- it is that key
-abbrev pub is_key : Key → Option Key → Bool
-is_key key None = false
-is_key key (Some k) = key_eq k key

@@ -5,12 +5,13 @@ use Rattle.jm_dest.specs.declared.key.Key.{Key}
 use Rattle.jm_machine.specs.declared.state.Definition.{Definition}
 use Rattle.jm_selector.specs.Selectors.{selector_read, standing}
 use Rattle.jm_machine.specs.Reopened.{is_durable}
+use Rattle.jm_machine.specs.Under.{is_key}
 use Rattle.jm_keep.specs.Stored.{Stored}
 use Rattle.sqlite_value.specs.Order.{Row, column, bytes}
 use Rattle.sqlite_trees.specs.Tree.{Trees, rowid}
 use Rattle.sqlite_rules.specs.Edit.{id_in}
 use Rattle.jm_tables.specs.Schema.{station_tree, message_tree, held_tree, delayed_tree}
-use Rattle.jm_tables.specs.Keys.{key_of, is_key}
+use Rattle.jm_tables.specs.Keys.{key_of}
 
 -- a number that is not negative
 abbrev pub number_in : ℤ → ℕ

@@ -13,7 +13,7 @@ use Rattle.jm_format.specs.Format as format
 use Rattle.jm_format.specs.Messages.{IsMessage}
 use Rattle.jm_machine.specs.declared.state.Definition.{Definition}
 use Rattle.jm_machine.specs.Rows.{greatest_count}
-use Rattle.jm_keep.specs.Persisted.{is_persistent}
+use Rattle.jm_machine.specs.Under.{is_persistent}
 use Rattle.jm_selector.specs.Selectors.{matches, selector_refusal}
 use Rattle.sqlite_value.specs.Order.{Row, column, bytes}
 use Rattle.sqlite_trees.specs.Tree.{Trees, rowid}

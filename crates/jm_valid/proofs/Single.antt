@@ -18,7 +18,8 @@ use Rattle.sqlite_rules.proofs.ListLemmas.{all_has, has_found}
 use Rattle.jm_dest.specs.declared.key.Key.{Key}
 use Rattle.jm_dest.specs.declared.key.Key.TheVariants.{Queue, Durable}
 use Rattle.jm_machine.proofs.Keys.{key_same}
-use Rattle.jm_tables.specs.Keys.{client_in, is_key, key_in, key_of, queue_in}
+use Rattle.jm_machine.specs.Under.{is_key}
+use Rattle.jm_tables.specs.Keys.{client_in, key_in, key_of, queue_in}
 use Rattle.jm_tables.specs.Rows.{is_at, is_under, record_at}
 use Rattle.jm_tables.specs.Schema.{station_tree}
 use Rattle.jm_tables.specs.Sound.{AreRows, Serves}

@@ -15,7 +15,8 @@ use Rattle.jm_machine.specs.declared.state.Row.{Row}
 use Rattle.jm_machine.specs.declared.state.Station.{Station}
 use Rattle.jm_machine.specs.Machine.{State, definition_of, station_of}
 use Rattle.jm_machine.specs.Wants.{placed_rows}
-use Rattle.jm_keep.specs.Persisted.{StoredRow, count_of, durable_definition, if_stored, is_persistent, row_at, shown, stored_row}
+use Rattle.jm_machine.specs.Under.{is_persistent}
+use Rattle.jm_keep.specs.Persisted.{StoredRow, count_of, durable_definition, if_stored, row_at, shown, stored_row}
 use Rattle.jm_holds.specs.Holds.{AllHold, EachHolds, HoldsAsked, HoldsMessages, IsOfQueue, IsOfTopic}
 
 -- ---- rows and stations

@@ -26,10 +26,11 @@ use Rattle.std.specs.Prelude.{Result, Ok, Err}
 use Rattle.jm_selector.specs.Selectors.{matches, read_refusal, selector_read, selector_refusal, standing}
 use Rattle.jm_machine.specs.declared.state.Definition.{Definition}
 use Rattle.jm_machine.specs.Machine.{State}
+use Rattle.jm_machine.specs.Under.{is_key}
 use Rattle.jm_machine.proofs.Keys.{key_refl, text_same}
 use Rattle.jm_holds.specs.Holds.{HoldsMessages}
 use Rattle.jm_keep.specs.Persisted.{StoredRow, due_time, durable_definition, stored_row}
-use Rattle.jm_tables.specs.Keys.{client_in, is_key, key_in, key_of, queue_in}
+use Rattle.jm_tables.specs.Keys.{client_in, key_in, key_of, queue_in}
 use Rattle.jm_tables.specs.Rows.{definition_in, definition_under, due_at, is_at, is_under, is_under_at, number_in, record_at, selector_in}
 use Rattle.jm_tables.specs.Schema.{station_tree, message_tree, held_tree, delayed_tree}
 use Rattle.jm_tables.specs.Valid.{IsKept, IsStoredDelay, IsStoredHeld, IsStoredMessage, IsValid, MayHold, is_held_at, is_queue, is_station, is_subscription}

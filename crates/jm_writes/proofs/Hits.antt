@@ -9,6 +9,7 @@ use Rattle.jm_dest.specs.declared.key.Key.TheVariants.{Queue, Own, SharedOwn, Du
 use Rattle.jm_dest.specs.Keys.{key_eq}
 use Rattle.jm_dest.specs.Names.{text_eq, client_eq}
 use Rattle.jm_machine.proofs.Keys.{key_refl, key_same, key_sym, text_same}
+use Rattle.jm_machine.specs.Under.{is_key}
 use Rattle.jm_keep.specs.Stored as stored
 use Rattle.sqlite_value.specs.declared.value.Value.TheVariants.{Int, Text}
 use Rattle.sqlite_value.specs.declared.keys.Collation.TheVariants.{Binary}
@@ -18,7 +19,7 @@ use Rattle.sqlite_sql.specs.declared.ops.CompareOp.TheVariants.{Eq}
 use Rattle.sqlite_sql.specs.Ops.{binary, is_true}
 use Rattle.sqlite_rules.specs.Edit.{id_in}
 use Rattle.sqlite_trees.specs.Tree.{rowid}
-use Rattle.jm_tables.specs.Keys.{client_in, queue_in, key_in, key_of, is_key}
+use Rattle.jm_tables.specs.Keys.{client_in, queue_in, key_in, key_of}
 use Rattle.jm_tables.specs.Rows.{is_under, is_under_at, is_at}
 use Rattle.jm_writes.specs.Columns.{durable_family, family_of, text_of, client_of, name_of}
 use Rattle.jm_writes.proofs.Edits.{hits}

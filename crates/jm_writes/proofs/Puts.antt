@@ -156,7 +156,7 @@ module _ (old new : State) (key : Key) (family : ℤ) (place count : ℕ) (stand
   last = behind row rows refl s.held
 
   new_at : (k : Key) (p : ℕ) → is_under_at k p row ≡ stored.is_at key place k p
-  new_at k p = ap₂ ◌&&◌ (ap (Rattle.jm_tables.specs.Keys.is_key k) (key_back key family stands)) (same_place place p)
+  new_at k p = ap₂ ◌&&◌ (ap (Rattle.jm_machine.specs.Under.is_key k) (key_back key family stands)) (same_place place p)
 
   -- no other row has the key and the place
   alone : (r : Row) → Has rows r → is_under_at key place r ≡ true → ⊥

@@ -24,10 +24,11 @@ use Rattle.jm_machine.specs.declared.state.Row.{Row}
 use Rattle.jm_machine.specs.Life.{client_of, is_started, mode_of}
 use Rattle.jm_machine.specs.Rows.{raised, settles_at_once}
 use Rattle.jm_machine.specs.Machine.{State, asked, consumer_of, definition_of, durable_of, is_client, key_at, of_number, of_session, same_definition, selected_by, station_of}
+use Rattle.jm_machine.specs.Under.{is_persistent, next_under, placed_under}
 use Rattle.jm_keep.specs.Calls.{AreChanges, AreDelivered, AreDone, ArePublished, AreReceived, AreRequested, AreSubscribed, DropsThen, brought, come, queue_station}
 use Rattle.jm_keep.specs.Leads.{drops, put_delay, puts}
-use Rattle.jm_keep.specs.Persisted.{due_time, is_lasting, is_persistent, rows_under}
-use Rattle.jm_keep.specs.Steps.{all_under, counted, lapsed_under, next_under, out_through, out_under, taken_under}
+use Rattle.jm_keep.specs.Persisted.{due_time, is_lasting}
+use Rattle.jm_keep.specs.Steps.{all_under, counted, lapsed_under, out_through, out_under, taken_under}
 use Rattle.jm_keep.specs.Stored.{Stored, changed, changed_all, message_after, nothing}
 use Rattle.jm_keep.specs.declared.change.RowChange.{RowChange}
 use Rattle.jm_keep.specs.declared.change.RowChange.TheVariants.{DropHeld, DropMessage, DropStation, PutStation, PutMessage, PutHeld, SetCount, DropDelay, PutDelay}
@@ -147,8 +148,8 @@ delivered : (mode : Option Mode) (p : Content → Bool) (now : ℕ) (k : Key) (s
 delivered mode p now k state changes are =
     either (is_lasting k) _ _ _ are
     (λ lasting. either (settles_at_once mode) _ _ _ lasting
-    (λ settled. dropped_then (taken_under k now (next_under p now k (rows_under state k))) state [] changes settled tt)
-    (λ out. dropped_then (lapsed_under k now) state (counted k (next_under p now k (rows_under state k))) changes out (count_put k (next_under p now k (rows_under state k)))))
+    (λ settled. dropped_then (taken_under k now (next_under p now k (placed_under state k))) state [] changes settled tt)
+    (λ out. dropped_then (lapsed_under k now) state (counted k (next_under p now k (placed_under state k))) changes out (count_put k (next_under p now k (placed_under state k)))))
     (unchanged changes)
 
 received : (mode : Option Mode) (p : Content → Bool) (now : ℕ) (k : Option Key) (state : State) (changes : List RowChange) → AreReceived mode p now k state changes → AllByRecursion BringsRecord changes

@@ -21,10 +21,10 @@ use Rattle.jm_dest.specs.Keys.{key_eq}
 use Rattle.jm_dest.specs.Names.{is_name, text_eq}
 use Rattle.jm_machine.specs.declared.state.Definition.{Definition}
 use Rattle.jm_machine.specs.Reopened.{is_durable}
+use Rattle.jm_machine.specs.Under.{is_key}
 use Rattle.jm_machine.proofs.Keys.{key_same}
 use Rattle.jm_keep.specs.declared.change.RowChange.TheVariants.{PutStation}
 use Rattle.jm_tables.specs.Schema.{station, station_tree, message_tree, held_tree, delayed_tree}
-use Rattle.jm_tables.specs.Keys.{is_key}
 use Rattle.jm_tables.specs.Rows.{is_set, selector_in, definition_in, is_under, definition_under, count_under, record_at, due_at}
 use Rattle.jm_tables.specs.Sound.{Serves}
 use Rattle.jm_tables.specs.Valid.{is_mark, is_queue, is_stored_client, is_stored_name, may_share}

@@ -1,5 +1,5 @@
 use Rattle.std.proofs.Common.{sym, subst, ◌∙◌}
-use Rattle.jm_keep.specs.Persisted.{rows_under}
+use Rattle.jm_machine.specs.Under.{placed_under}
 use Rattle.jm_keep.specs.Steps.{AreGone, taken_under}
 use Rattle.jm_changes.specs.Standing.{key_in, taken_row}
 use Rattle.jm_changes.proofs.Listed.{taken_read, takes_none, takes_one, takes_other}
@@ -16,7 +16,7 @@ returns g c =
     let key = key_in (g.P.Planned.keys c.args.planned.now) c.args.index in
     let state = g.P.Planned.state c.args.planned.now in
     let place = g.P.Planned.takes c.args.planned.now in
-    let taken = taken_under key c.args.now (taken_row place (rows_under state key)) in
+    let taken = taken_under key c.args.now (taken_row place (placed_under state key)) in
     elim c.match-taken_at.branch [
       | in-Some+then-row+in_ok-add w ↦
           subst (λ s. AreGone taken state s.rows.items s.delays.items s.gone.items) (sym w.lost-is)

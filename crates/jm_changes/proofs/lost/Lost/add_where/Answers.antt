@@ -1,5 +1,5 @@
 use Rattle.std.proofs.Common.{◌+◌, arith, sym, ap, ◌∙◌, subst}
-use Rattle.jm_keep.specs.Persisted.{rows_under}
+use Rattle.jm_machine.specs.Under.{placed_under}
 use Rattle.jm_changes.specs.Standing.{AreMet, goes, key_in, meant}
 use Rattle.jm_changes.proofs.First.{met, none_found}
 use Rattle.jm_changes.proofs.Losing.{Has, has_all, turn_from, turn_more, turn_read, turn_same}
@@ -9,7 +9,7 @@ use Rattle.jm_changes.proofs.lost.Lost.add_where.Goals.{then-row+in_ok-add, else
 
 pub loop-row-smaller : goal.loop-row-smaller
 loop-row-smaller g c =
-    let from = turn_from _ _ _ _ (met (meant c.args.which.now) (g.P.Planned.state c.args.planned.now).next_place c.loop-row.place (rows_under (g.P.Planned.state c.args.planned.now) (key_in (g.P.Planned.keys c.args.planned.now) c.args.index)) c.in-Some.row
+    let from = turn_from _ _ _ _ (met (meant c.args.which.now) (g.P.Planned.state c.args.planned.now).next_place c.loop-row.place (placed_under (g.P.Planned.state c.args.planned.now) (key_in (g.P.Planned.keys c.args.planned.now) c.args.index)) c.in-Some.row
     (under_in_order (g.P.Planned.state c.args.planned.now) c.requires.order (key_in (g.P.Planned.keys c.args.planned.now) c.args.index)) (sym c.row_where.ensures.row ∙ c.in-Some.is)) in
     let end = c.in-Some.ensures.place in
     omega (arith, from, end)
@@ -20,16 +20,16 @@ add-requires-clause-read g c =
     let state = g.P.Planned.state c.args.planned.now in
     let key = key_in keys c.args.index in
     turn_read (meant c.args.which.now) c.loop-row.place state key c.in-Some.row
-    (met (meant c.args.which.now) state.next_place c.loop-row.place (rows_under state key) c.in-Some.row (under_in_order state c.requires.order key) (sym c.row_where.ensures.row ∙ c.in-Some.is))
+    (met (meant c.args.which.now) state.next_place c.loop-row.place (placed_under state key) c.in-Some.row (under_in_order state c.requires.order key) (sym c.row_where.ensures.row ∙ c.in-Some.is))
 
 pub loop-row-preserved : goal.loop-row-preserved
 loop-row-preserved g c =
     let keys = g.P.Planned.keys c.args.planned.now in
     let state = g.P.Planned.state c.args.planned.now in
     let key = key_in keys c.args.index in
-    let under = rows_under state key in
+    let under = placed_under state key in
     let before = c.args.self.now.rows.items in
-    let turned = (met (meant c.args.which.now) (g.P.Planned.state c.args.planned.now).next_place c.loop-row.place (rows_under (g.P.Planned.state c.args.planned.now) (key_in (g.P.Planned.keys c.args.planned.now) c.args.index)) c.in-Some.row
+    let turned = (met (meant c.args.which.now) (g.P.Planned.state c.args.planned.now).next_place c.loop-row.place (placed_under (g.P.Planned.state c.args.planned.now) (key_in (g.P.Planned.keys c.args.planned.now) c.args.index)) c.in-Some.row
     (under_in_order (g.P.Planned.state c.args.planned.now) c.requires.order (key_in (g.P.Planned.keys c.args.planned.now) c.args.index)) (sym c.row_where.ensures.row ∙ c.in-Some.is)) in
     let end = c.in-Some.ensures.place in
     record {
@@ -49,4 +49,4 @@ loop-row-preserved g c =
     }
 
 pub returns-clause-rows : goal.returns-clause-rows
-returns-clause-rows g c = has_all (meant c.args.which.now) (key_in (g.P.Planned.keys c.args.planned.now) c.args.index) (rows_under (g.P.Planned.state c.args.planned.now) (key_in (g.P.Planned.keys c.args.planned.now) c.args.index)) _ _ c.loop-row.place (none_found _ (sym c.row_where.ensures.row ∙ c.in_default.is)) c.loop-row.invariant.met
+returns-clause-rows g c = has_all (meant c.args.which.now) (key_in (g.P.Planned.keys c.args.planned.now) c.args.index) (placed_under (g.P.Planned.state c.args.planned.now) (key_in (g.P.Planned.keys c.args.planned.now) c.args.index)) _ _ c.loop-row.place (none_found _ (sym c.row_where.ensures.row ∙ c.in_default.is)) c.loop-row.invariant.met
