@@ -49,7 +49,6 @@ use Rattle.jm_lane.specs.contracts.lane.Lane as Lane
 use Rattle.jm_pending.specs.contracts.held.Held as Held
 use Rattle.jm_lane.specs.contracts.table.Stored as Stored
 use Rattle.jm_lane.specs.contracts.table.Table as Table
-use Rattle.jm_stations.specs.contracts.backlogs.Backlogs as Backlogs
 use Rattle.jm_stations.specs.contracts.outstanding.Outstanding as Outstanding
 use Rattle.jm_stations.specs.contracts.stations.Stations as Stations
 use Rattle.jm_queues.specs.contracts.queues.Queues as Queues
@@ -126,11 +125,8 @@ Table_send = search (sendable, crosses, maps.crosses, Stored_send) depth 60 fits
 Outstanding_send : IsSend Outstanding.the_row
 Outstanding_send = search (sendable, crosses, maps.crosses) depth 60 fits 20000
 
-pub Backlogs_send : IsSend Backlogs.the_row
-Backlogs_send = search (sendable, crosses, maps.crosses, Held_send, Table_send, Outstanding_send) depth 60 fits 20000
-
 pub Stations_send : IsSend Stations.the_row
-Stations_send = search (sendable, crosses, maps.crosses, Key_send, Backlogs_send) depth 60 fits 20000
+Stations_send = search (sendable, crosses, maps.crosses, Key_send, Held_send, Table_send, Outstanding_send) depth 60 fits 20000
 
 pub Queues_send : IsSend Queues.the_row
 Queues_send = search (sendable, crosses, maps.crosses, Stations_send) depth 60 fits 20000

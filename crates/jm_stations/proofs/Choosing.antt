@@ -142,7 +142,11 @@ found_there q (r ∷ rows) x up h = go (q r) h (found_there q rows x up.1) (find
         let over : r.place < x.place = subst (λ o. IfSome o (λ (y : Row). r.place < y.place)) e above in
         rw (ne_eqb r.place x.place (omega (arith, over))) (rec e)
 
--- so the next one is that at its place, of those that are left
+-- so the next one is that at its place
+pub where_there : (p : Content → Bool) (t : Messages) (now : ℕ) (rows : List Row) (x : Row) → IsRising rows → next_where p t now rows ≡ Some x → find (is_at x.place) rows ≡ Some x
+where_there p t now rows x rising next = found_there (is_next_where p t now rows) rows x rising (sym (found_where p t now rows) ∙ next)
+
+-- and of those that are left
 pub where_left : (p : Content → Bool) (t : Messages) (now : ℕ) (rows : List Row) (x : Row) → IsRising rows → next_where p t now rows ≡ Some x → find (is_at x.place) (filter (stays now) rows) ≡ Some x
 where_left p t now rows x rising next =
     found_there (is_next_where p t now rows) (filter (stays now) rows) x (rising-filter (stays now) rows rising) (find_kept (is_next_where p t now rows) (stays now) (where_stays p t now rows) rows ∙ sym (found_where p t now rows) ∙ next)

@@ -100,12 +100,12 @@ pub closed_shown : (t t' : Messages) (p : Key → Bool) (keys : List Key) (lists
 closed_shown t t' p keys lists counted keeps = all_shown_kept t t' (lists_under p keys lists) keeps (all_covered t' (lists_under p keys lists) counted) ∙ left_shown t p keys lists
 
 -- as many keys are left as lists
-pub as_many_left : (p : Key → Bool) (keys : List Key) (list : List Backlog) → length keys ≡ length list → length (filter p keys) ≡ length (kept_under p keys list)
-as_many_left p [] list e = refl
+pub as_many_left : (p : Key → Bool) (keys : List Key) (lists : List Held) → length keys ≡ length lists → length (filter p keys) ≡ length (lists_under p keys lists)
+as_many_left p [] lists e = refl
 as_many_left p (k ∷ keys) [] e = absurd (omega (arith, e))
-as_many_left p (k ∷ keys) (b ∷ list) e = go (p k) (filter p keys) (kept_under p keys list) (as_many_left p keys list (omega (arith, e)))
+as_many_left p (k ∷ keys) (h ∷ lists) e = go (p k) (filter p keys) (lists_under p keys lists) (as_many_left p keys lists (omega (arith, e)))
   where
-    go : (c : Bool) (xs : List Key) (ys : List Backlog) → length xs ≡ length ys → length (cond c (k ∷ xs) xs) ≡ length (cond c (b ∷ ys) ys)
+    go : (c : Bool) (xs : List Key) (ys : List Held) → length xs ≡ length ys → length (cond c (k ∷ xs) xs) ≡ length (cond c (h ∷ ys) ys)
     go true xs ys e = ap suc e
     go false xs ys e = e
 

@@ -47,6 +47,10 @@ one_holder t second place lists k g =
 pub still_held : (t second third : Messages) (place : ℕ) (lists after : List Held) → IsKept t lists place → GainsHolder t second place → FollowsAll second third (all_rows lists) (all_rows after) → 0 < holders_of third place
 still_held t second third place lists after k g f = omega (arith, one_holder t second place lists k g, none_all t place lists k.each, f.holders place)
 
+-- nothing is held at first
+pub nothing_kept : (t : Messages) (lists : List Held) → lists ≡ [] → ((p : ℕ) → holders_of t p ≡ 0) → IsKept t lists 1
+nothing_kept t lists none free = rw none (record { counted = record { each = free }; each = All-nil (IsBacklog t 1); places = omega arith })
+
 -- what is held after it
 pub published_kept : (t second third fourth : Messages) (place : ℕ) (x : MachineRow) (indexes : List ℕ) (lists after : List Held) → IsKept t lists place → place < 2 ^ 63 → GainsHolder t second place → message_of second place ≡ Some x.message → ((p : ℕ) → p ≢ place → message_of second p ≡ message_of t p) → IsOffered indexes (row_of place x.message x.count x.state) lists after → FollowsAll second third (all_rows lists) (all_rows after) → LosesHolder third fourth place → KeepsMessages third fourth
     → IsKept fourth after (place + 1) × KeepsMessages second fourth

@@ -6,22 +6,26 @@ use Rattle.std.proofs.lemmas.List.{get_or-map, get_or_default, length-map}
 use Rattle.std.proofs.lemmas.List.Elements.{All-head, All-tail, All-weaker}
 use Rattle.jm_gaps.proofs.Items.{item_read}
 use Rattle.jm_dest.specs.declared.session.SessionId.{SessionId}
+use Rattle.jm_header.specs.declared.content.Content.{Content}
 use Rattle.jm_machine.specs.declared.state.PlacedRow.{PlacedRow}
 use Rattle.jm_machine.specs.Rows as machine
+use Rattle.jm_machine.specs.Wants.{next_chosen}
 use Rattle.jm_lane.specs.declared.row.Row.{Row}
 use Rattle.jm_lane.specs.Rows as here
+use Rattle.jm_lane.specs.Rows.{IsRising}
 use Rattle.jm_pending.specs.Rows.{Held}
 use Rattle.jm_lane.specs.Lanes as lane
 use Rattle.jm_lane.specs.Cursors as cursor
 use Rattle.jm_lane.specs.Holders.{Messages, Covers, holders_of}
 use Rattle.jm_pending.specs.Placed.{placed, all_placed, IsRowOf, AreRowsOf}
 use Rattle.jm_lanes.proofs.Places.{find_has}
-use Rattle.jm_stations.specs.Backlogs.{Backlog}
+use Rattle.jm_stations.specs.declared.picked.Picked.{Picked}
+use Rattle.jm_stations.specs.Backlogs.{Backlog, IsPicked, picked_of}
 use Rattle.jm_stations.specs.Kept.{shown, all_shown, IsKept}
 use Rattle.jm_stations.specs.Standing.{is_at, is_from, lapsed_from, out_from, holds, has_row, IsFirstOf}
 use Rattle.jm_stations.proofs.Holders.{covers_one}
-use Rattle.jm_stations.proofs.Receiving.{no_rows, within_shown}
-use Rattle.jm_stations.proofs.Choosing.{all_held}
+use Rattle.jm_stations.proofs.Receiving.{no_rows, picked_one, within_shown}
+use Rattle.jm_stations.proofs.Choosing.{all_held, next_where_same, where_there}
 
 -- a row is found with its message where it is found without
 pub find_shown : (t : Messages) (p : Row → Bool) (q : PlacedRow → Bool) (rs : List Row) → All (λ r. q (placed t r) ≡ p r) rs → option_map (placed t) (find p rs) ≡ find q (all_placed t rs)
@@ -62,6 +66,28 @@ rows_seen t lists k h d l is =
     let inside = within_shown t lists k l in
     let found : h ≡ get_or lists k no_rows = item_read lists k h is ∙ get_or_default lists k h no_rows inside in
     ap (λ (x : Held). all_placed t x.rows) found ∙ ap (λ (b : Backlog). b.rows) (sym (get_or-map (shown t) lists k no_rows d inside))
+
+-- the row at the place that was picked is the next one of those whose messages pass
+pub picked_seen : (p : Content → Bool) (settles : Bool) (t : Messages) (place now k : ℕ) (lists : List Held) (h : Held) (q : Picked) (d : Backlog) → k < length (all_shown t lists) → slice_get lists k ≡ Some h → IsKept t lists place → IsRising h.rows → IsPicked p settles now (all_shown t lists) k (Some q) → find (is_at q.place) (all_placed t h.rows) ≡ next_chosen p now (get_or (all_shown t lists) k d).rows
+picked_seen p settles t place now k lists h q d l is w rising picked =
+    let inside = within_shown t lists k l in
+    let found : h ≡ get_or lists k h = item_read lists k h is in
+    let rows : List Row = (get_or lists k h).rows in
+    let one = picked_one p settles t place now k h lists q inside w picked in
+    let there : find (lane.is_at one.0.place) rows ≡ Some one.0 = where_there p t now rows one.0 (subst (λ (x : Held). IsRising x.rows) found rising) one.1.0 in
+    (λ i. find (is_at (one.1.1 i)) (all_placed t (found i).rows))
+    ∙ sym (at_shown t one.0.place rows)
+    ∙ ap (option_map (placed t)) (there ∙ sym one.1.0)
+    ∙ sym (next_where_same p t now rows (covers_one t lists k h inside w.counted) (w.each k h inside).own.each)
+    ∙ ap (λ (b : Backlog). next_chosen p now b.rows) (sym (get_or-map (shown t) lists k h d inside))
+
+-- where nothing was picked, none is next
+none_next : (settles : Bool) (list : List Backlog) (o : Option PlacedRow) → None ≡ picked_of settles list o → None ≡ o
+none_next settles list None e = refl
+none_next settles list (Some x) e = absurd (cc)
+
+pub none_seen : (p : Content → Bool) (settles : Bool) (now k : ℕ) (list : List Backlog) (d : Backlog) → IsPicked p settles now list k None → None ≡ next_chosen p now (get_or list k d).rows
+none_seen p settles now k list d picked = none_next settles list (next_chosen p now (get_or list k d).rows) (picked d)
 
 -- a list with a row at the place is seen with one
 is_some_map : {X Y : Type 0} (f : X → Y) (o : Option X) → is_some (option_map f o) ≡ is_some o

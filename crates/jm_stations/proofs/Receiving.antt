@@ -133,7 +133,7 @@ told_sent p t place s c now k d lists out q x l w rising e is =
     ap (λ o. handed_copy o q.copy) (e ∙ ap (option_map (sent s c)) left) ∙ told ∙ ap (λ o. delivery (option_map (λ (y : PlacedRow). y.row) (option_map (placed t) o))) (sym is.0) ∙ ap delivery (sym (row_where_same p t now rows (covers_one t lists k d l w.counted) (w.each k d l).own.each))
 
 -- what is no pick is none
-pub picked_absent : (o : Option Picked) → ((x : Picked) → o ≡ Some x → ⊥) → o ≡ None
+pub picked_absent : {X : Type 0} (o : Option X) → ((x : X) → o ≡ Some x → ⊥) → o ≡ None
 picked_absent None h = refl
 picked_absent (Some x) h = absurd (h x refl)
 

@@ -2,14 +2,15 @@
 use Rattle.std.proofs.Common.{◌≡◌, ℕ, ◌<◌, List, length, get_or, Option, Some, None, Bool, refl, ap, sym, ◌∙◌, option_map, nat_eq}
 use Rattle.std.specs.Map.{lookup}
 use Rattle.std.specs.Option.{IfSome}
+use Rattle.std.specs.Prelude.{IfOk, Result, Ok, Err}
 use Rattle.jm_header.specs.declared.content.Content.{Content}
 use Rattle.jm_lane.specs.declared.row.Row.{Row}
 use Rattle.jm_pending.specs.Rows.{Held, next}
 use Rattle.jm_pending.specs.Chosen.{next_where}
 use Rattle.jm_lane.specs.Holders.{Messages, holders_of, message_of}
 use Rattle.jm_pending.specs.Placed.{placed, all_placed, content_of}
-use Rattle.jm_machine.specs.Wants.{next_chosen}
-use Rattle.jm_stations.specs.Backlogs.{Backlog, holders_at, kept_message, copy_wanted, copy_wanted_where, next_placed, picked_of}
+use Rattle.jm_machine.specs.Wants.{next_chosen, next_placed}
+use Rattle.jm_stations.specs.Backlogs.{Backlog, holders_at, kept_message, copy_wanted, copy_wanted_where, picked_of}
 use Rattle.jm_stations.specs.Kept.{all_shown, copied, picked, IsKept}
 use Rattle.jm_stations.proofs.Holders.{covers_one}
 use Rattle.jm_stations.proofs.Choosing.{next_where_same, where_held}
@@ -54,3 +55,8 @@ picked_where_is p settles t place now k d lists l w =
     let rows = (get_or lists k d).rows in
     let covers = covers_one t lists k d l w.counted in
     picked_shown settles t (all_shown t lists) (next_where p t now rows) (kept_row settles t place lists (next_where p t now rows) w (where_held p t now rows covers)) ∙ ap (picked_of settles (all_shown t lists)) (sym (next_where_same p t now rows covers (w.each k d l).own.each))
+
+-- what holds of a result for each backlog holds of it for all
+pub each_ok : {E : Type 0} {X Y : Type 0} (r : Result X E) (P : X → Y → Type 0) → ((d : Y) → IfOk r (λ x. P x d)) → IfOk r (λ x. (d : Y) → P x d)
+each_ok (Ok x) P h = h
+each_ok (Err e) P h = tt

@@ -1,5 +1,5 @@
 -- What is held under each key, as callers see it.
-use Rattle.std.specs.Prelude.{◌≡◌, ◌≤◌, ◌<◌, ◌-◌, ◌↔◌, nat_eq, ℕ, zero, suc, Bool, true, not, option_map, ◌&&◌, ◌==◌, List, [], ◌∷◌, ◌++◌, Contains, find, length, count_by, sum_by, slice_index_or, Option, Some, None, if◌then◌else◌}
+use Rattle.std.specs.Prelude.{◌≡◌, ◌≤◌, ◌<◌, ◌-◌, ◌↔◌, nat_eq, ℕ, zero, suc, Bool, true, not, option_map, ◌&&◌, ◌==◌, List, [], ◌∷◌, ◌++◌, Contains, length, count_by, sum_by, slice_index_or, Option, Some, None, if◌then◌else◌}
 use Rattle.std.specs.List.{list_any, IsDistinct}
 use Rattle.std.specs.Option.{option_or}
 use Rattle.jm_dest.specs.declared.key.Key.{Key}
@@ -10,8 +10,8 @@ use Rattle.jm_machine.specs.declared.state.PlacedRow.{PlacedRow}
 use Rattle.jm_machine.specs.declared.answer.Answer.{Answer}
 use Rattle.jm_machine.specs.declared.answer.Answer.TheVariants.{Delivered, Nothing}
 use Rattle.jm_machine.specs.Machine.{delivery, one_missed, settled_rows, returned_rows}
-use Rattle.jm_machine.specs.Rows.{protected, fresh, is_out, sent_out, live, is_next, next, bare, chosen, deliver_chosen, live_placed}
-use Rattle.jm_machine.specs.Wants.{next_chosen}
+use Rattle.jm_machine.specs.Rows.{protected, fresh, is_out, sent_out, live, next, bare, chosen, deliver_chosen}
+use Rattle.jm_machine.specs.Wants.{next_chosen, next_placed}
 use Rattle.jm_pending.specs.declared.held.Taken.{Taken}
 use Rattle.jm_stations.specs.declared.picked.Picked.{Picked}
 use Rattle.jm_lane.specs.declared.row.Row.{Row as RowHere}
@@ -24,14 +24,6 @@ pub record Backlog : Type 0 where
   pub limit : Option ℕ
   pub missed : ℕ
   pub room : ℕ
-
--- what is held under all keys, in order of creation, the place of the next publication, for how many more messages
--- there is room, and for how many more keys
-pub record Backlogs : Type 0 where
-  pub list : List Backlog
-  pub next_place : ℕ
-  pub message_room : ℕ
-  pub list_room : ℕ
 
 -- nothing is held yet, of which there may be at most so many rows, or any number
 abbrev pub empty : Option ℕ → Backlog
@@ -109,10 +101,6 @@ answered now rows = delivery (next now (live now (bare rows)))
 -- what a delivery from those of the rows answers whose messages pass
 abbrev pub answered_where : (Content → Bool) → ℕ → List PlacedRow → Answer
 answered_where p now rows = delivery (next now (live now (chosen p (bare rows))))
-
--- the row that a delivery takes
-abbrev pub next_placed : ℕ → List PlacedRow → Option PlacedRow
-next_placed now rows = find (λ x. is_next now (live now (bare rows)) x.row) (live_placed now rows)
 
 -- none of the rows is out
 abbrev pub are_home : List PlacedRow → Bool

@@ -24,7 +24,7 @@
 //!
 //! `pick` answers what a delivery from the rows under a key takes (`picked_of`): the place of the next row, with a copy of
 //! its message, where it is not settled at once or another row holds it; `pick_where` of the next one whose message a selector
-//! selects. They change nothing, and want memory only where a copy is wanted.
+//! selects; where each message passes both pick the same. They change nothing, and want memory only where a copy is wanted.
 //!
 //! `receive` and `deliver` are handed what was picked, answer the machine's `delivery` and change those rows by the machine's
 //! `deliver_chosen`: the row is settled, or goes out to the session through its consumer, counted once more. They take the row
@@ -39,8 +39,9 @@
 //! messages; a `copy` has the same keys, and the same under each but for the room. `remove` takes a key out with its
 //! rows, and each message that no other row holds; it takes no memory.
 //!
-//! `row_of`, `row_from`, `lapsed_from`, `out_from`, `next` and `next_where` by index give `Standing`, a row with its
-//! message borrowed; `holders_of` says how many rows of all keys stand at a place, `holder_from` the first key from
+//! `row_of`, `row_picked`, `row_from`, `lapsed_from` and `out_from` by index give `Standing`, a row with its
+//! message borrowed; `row_picked` gives the row that was picked, at its place, so that it is not searched a second time;
+//! `holders_of` says how many rows of all keys stand at a place, `holder_from` the first key from
 //! an index on under which one does; `key_at` the key of an index, `keys` all of them in order of creation.
 //!
 //! `settle_at` and `give_back_at` do what `settle` and `give_back` do under one key alone, and look at no other.
@@ -52,12 +53,14 @@
 //! among few keys and among many, but that it looks at the index of each key under which rows may be out.
 #![tactic(auto)]
 
-mod backlogs;
 mod copies;
+mod delivering;
+mod handing;
 mod lists;
 mod loading;
 mod outstanding;
 mod picked;
+mod reading;
 mod standing;
 mod stations;
 

@@ -3,11 +3,8 @@
 ghost use Rattle.std.specs.Prelude.{◌≡◌, ◌≤◌, ◌<◌, IfSome, find, option_map};
 ghost use Rattle.jm_dest.specs.Numbers.{long_end};
 ghost use Rattle.jm_machine.specs.Machine.{are_meant};
-ghost use Rattle.jm_machine.specs.Wants.{next_chosen};
-ghost use Rattle.jm_selector.specs.Selectors.{matches};
 ghost use Rattle.jm_lane.specs.Holders.{Covers, holders_of};
 ghost use Rattle.jm_pending.specs.Placed.{AreRowsOf, all_placed, placed};
-ghost use Rattle.jm_stations.specs.Backlogs.{next_placed};
 ghost use Rattle.jm_stations.specs.Standing as spec;
 
 use jm_dest::Moment;
@@ -15,7 +12,6 @@ use jm_gaps::GapList;
 use jm_header::Message;
 use jm_machine::{Consumers, RowState};
 use jm_pending::{Held, Row, Table};
-use jm_selector::Selector;
 
 /// A row as it stands under a key, with its message, which is borrowed (ours).
 #[derive(Clone, Copy)]
@@ -89,29 +85,6 @@ pub(crate) fn out_from<'a>(
     ensures { option_map spec.row_of result ≡ find (spec.out_from place (are_meant which.now)) (all_placed table.now held.now.rows) }
 {
     with_message(table, held.out_from(place, which))
-}
-
-/// The row of a list that a delivery at that moment would take.
-pub(crate) fn next<'a>(table: &'a Table, held: &Held, now: Moment) -> Option<Standing<'a>>
-    requires covers { Covers table.now held.now.rows }
-    requires own { AreRowsOf table.now held.now.rows }
-    ensures { option_map spec.row_of result ≡ next_placed now (all_placed table.now held.now.rows) }
-{
-    with_message(table, held.next(now))
-}
-
-/// The row of a list that a delivery at that moment would take of those whose messages the selector selects.
-pub(crate) fn next_where<'a>(
-    table: &'a Table,
-    held: &Held,
-    now: Moment,
-    selector: &Selector,
-) -> Option<Standing<'a>>
-    requires covers { Covers table.now held.now.rows }
-    requires own { AreRowsOf table.now held.now.rows }
-    ensures { option_map spec.row_of result ≡ next_chosen (matches selector.now) now (all_placed table.now held.now.rows) }
-{
-    with_message(table, held.next_where(table, now, selector))
 }
 
 /// The first index from that one on of a list in which a row stands at that place.

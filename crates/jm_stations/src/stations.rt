@@ -1,32 +1,23 @@
 //! What is held under each key.
 
-ghost use Rattle.std.specs.Prelude.{◌≡◌, Bool, ◌≤◌, ◌<◌, ◌+◌, ◌^◌, ◌++◌, [], ◌∷◌, true, false, not, nat_eq, is_some, All, filter, length, map, slice_index_or, Some, None, IfSome, IfOk, OnOk, OnErr};
+ghost use Rattle.std.specs.Prelude.{◌≡◌, ◌≤◌, ◌<◌, ◌+◌, ◌^◌, ◌++◌, [], ◌∷◌, true, false, not, nat_eq, is_some, All, filter, length, map, slice_index_or, Some, None, IfSome, IfOk, OnOk};
 ghost use Rattle.std.specs.List.{IsDistinct, remove};
 ghost use Rattle.jm_dest.specs.declared.key.Key.{Key};
 ghost use Rattle.jm_dest.specs.Keys.{key_eq};
-ghost use Rattle.jm_header.specs.declared.content.Content.{Content};
 ghost use Rattle.jm_machine.specs.Attached.{ended};
-ghost use Rattle.jm_machine.specs.Machine.{are_meant, places_end};
+ghost use Rattle.jm_machine.specs.Machine.{places_end};
 ghost use Rattle.jm_machine.specs.Sections.{is_own_of};
-ghost use Rattle.jm_selector.specs.Selectors.{matches};
 ghost use Rattle.jm_stations.specs.Backlogs as spec;
 ghost use Rattle.jm_stations.specs.Backlogs.{Backlog};
-ghost use Rattle.jm_stations.specs.Loading.{AreLoaded};
 ghost use Rattle.jm_stations.specs.Stations.{NoneShared, index_in, is_shared};
-ghost use Rattle.std.specs.Prelude.{find, option_map};
-ghost use Rattle.jm_machine.specs.Wants.{next_chosen};
-ghost use Rattle.jm_stations.specs.Standing as standing;
 
-use crate::backlogs::Backlogs;
-use crate::copies;
-use crate::loading::StoredRow;
-use crate::picked::Picked;
-use crate::standing::Standing;
-use jm_dest::{ConsumerId, Key, Moment, SessionId};
-use jm_header::Message;
+use crate::outstanding::Outstanding;
+use crate::{copies, lists};
+use jm_dest::Key;
+use jm_gaps::GapList;
 use jm_indexed::{Choice, KeySet};
-use jm_machine::{Answer, Attached, Consumers, PlacedRow, Row};
-use jm_selector::Selector;
+use jm_machine::{Attached, Consumers};
+use jm_pending::{Held, Table};
 use std::alloc::{AllocError, Global};
 use std::marker::Model;
 
@@ -35,9 +26,12 @@ use std::marker::Model;
 /// of the next publication, and for how many more messages and keys there is room. Where `shares` is false, no key is of
 /// a shared subscription that is not durable, and a close ends the consumers' own subscriptions alone.
 pub struct Stations {
-    alloc: Global,
+    pub(crate) alloc: Global,
     keys: KeySet<Key>,
-    backlogs: Backlogs,
+    pub(crate) lists: GapList<Held>,
+    pub(crate) table: Table,
+    pub(crate) next_place: u64,
+    pub(crate) outstanding: Outstanding,
     shares: bool,
 }
 
@@ -46,7 +40,10 @@ impl Drop for Stations {
         let Stations {
             alloc: _alloc,
             keys: _keys,
-            backlogs: _backlogs,
+            lists: _lists,
+            table: _table,
+            next_place: _,
+            outstanding: _outstanding,
             shares: _,
         } = self;
     }
@@ -56,19 +53,21 @@ impl Model for Stations {
     ghost use Rattle.std.specs.Prelude.{◌≡◌, false, min, length};
     ghost use Rattle.std.specs.List.{IsDistinct};
     ghost use Rattle.jm_dest.specs.Keys.{key_eq};
+    ghost use Rattle.jm_stations.specs.Kept.{IsKept, all_shown};
+    ghost use Rattle.jm_stations.specs.Outstanding.{AreHomeBut};
     ghost use Rattle.jm_stations.specs.Stations.{Stations as StationsShown, NoneShared};
 
     ghost Value = { StationsShown };
 
     ghost view = { λ s. record {
       keys = s.keys.keys;
-      list = s.backlogs.list;
-      next_place = s.backlogs.next_place;
-      message_room = s.backlogs.message_room;
-      key_room = min s.keys.spare s.backlogs.list_room;
+      list = all_shown s.table s.lists.items;
+      next_place = s.next_place;
+      message_room = s.table.spare;
+      key_room = min s.keys.spare (min s.lists.spare s.outstanding.room);
     } };
 
-    ghost invariant = { λ s. (length s.keys.keys ≡ length s.backlogs.list) × IsDistinct key_eq s.keys.keys × (s.shares ≡ false → NoneShared s.keys.keys) };
+    ghost invariant = { λ s. IsKept s.table s.lists.items s.next_place × (s.outstanding.number ≡ length s.lists.items) × AreHomeBut s.outstanding.indexes s.lists.items × (length s.keys.keys ≡ length s.lists.items) × IsDistinct key_eq s.keys.keys × (s.shares ≡ false → NoneShared s.keys.keys) };
 }
 
 /// Keeps the keys of the subscriptions that do not end once the consumers are closed.
@@ -113,7 +112,10 @@ impl Stations {
         Stations {
             alloc,
             keys: KeySet::new(alloc),
-            backlogs: Backlogs::new(alloc),
+            lists: GapList::new(alloc),
+            table: Table::new(alloc),
+            next_place: 1,
+            outstanding: Outstanding::new(alloc),
             shares: false,
         }
     }
@@ -133,14 +135,14 @@ impl Stations {
         ensures place { result ≡ self.now.next_place }
         ensures bound { self.now.next_place ≤ places_end }
     {
-        self.backlogs.next_place()
+        self.next_place
     }
 
     /// How many messages are held, each counted once, however many rows hold it.
     pub fn kept(&self) -> usize
         ensures { spec.IsNumberOfMessages result self.now.list }
     {
-        self.backlogs.kept()
+        self.table.len()
     }
 
     /// The same keys, in their order, with the same rows under each, and the same next place; there may be other
@@ -152,33 +154,21 @@ impl Stations {
           key_room = copy.key_room;
         }) }
     {
-        let backlogs = self.backlogs.copy()?;
+        let table = self.table.copy()?;
+        let lists = copies::copy_lists(self.alloc, &self.lists)?;
+        let outstanding = self.outstanding.copy(self.alloc)?;
         let keys = self
             .keys
             .copy_with(copies::copy_keys(self.alloc, &self.keys)?)?;
         Ok(Stations {
             alloc: self.alloc,
             keys,
-            backlogs,
+            lists,
+            table,
+            next_place: self.next_place,
+            outstanding,
             shares: self.shares,
         })
-    }
-
-    /// The rows under the key with that index, by place, each with a copy of its message. `AllocError` where a
-    /// request for memory was refused.
-    pub fn rows_of(&self, index: usize) -> Result<Vec<PlacedRow>, AllocError>
-        requires { index < length self.now.list }
-        ensures { (d : Backlog) → IfOk result (λ rows. rows.items ≡ (slice_index_or self.now.list index d).rows) }
-    {
-        self.backlogs.rows_of(index)
-    }
-
-    /// Whether no row under the key with that index is out to a session. Takes no memory.
-    pub fn is_home(&self, index: usize) -> bool
-        requires { index < length self.now.list }
-        ensures { (d : Backlog) → result ≡ spec.are_home (slice_index_or self.now.list index d).rows }
-    {
-        self.backlogs.is_home(index)
     }
 
     /// Where the key stands, in order of creation. It is found by halves.
@@ -225,7 +215,8 @@ impl Stations {
         ensures ok { OnOk result (0 < self.new.key_room) }
     {
         self.keys.reserve(1)?;
-        self.backlogs.reserve_list()
+        self.outstanding.reserve()?;
+        self.lists.reserve(1)
     }
 
     /// Adds a key behind all others, under which nothing is held, of which there may be at most so many rows, or
@@ -244,7 +235,8 @@ impl Stations {
         self.keys.insert(key);
         // The length is what says that each key stands once.
         let _number = self.keys.len();
-        self.backlogs.create(limit);
+        self.lists.push(Held::new(self.alloc, limit));
+        self.outstanding.add_list();
     }
 
     /// The key with that index goes with the rows under it, and each message that no other row holds with them; the
@@ -263,7 +255,9 @@ impl Stations {
         self.keys.remove(index);
         // The length is what says that each key stands once.
         let _number = self.keys.len();
-        self.backlogs.remove(index);
+        let mut held = self.lists.remove(index);
+        held.clear(&mut self.table);
+        self.outstanding.remove_list(index);
     }
 
     /// The keys of the subscriptions that end once those consumers are closed, as `Attached::ends` has it, go with the rows
@@ -314,7 +308,14 @@ impl Stations {
         ensures message_room { self.old.message_room ≤ self.new.message_room }
         ensures key_room { self.old.key_room ≤ self.new.key_room }
     {
-        self.backlogs.close(&self.keys, which, attached);
+        lists::close_each(
+            &mut self.lists,
+            &mut self.table,
+            &self.keys,
+            which,
+            attached,
+        );
+        self.outstanding.look_at(&self.lists);
         self.keys.retain(&Lasting { which, attached });
         // The length is what says that each key stands once.
         let _number = self.keys.len();
@@ -332,255 +333,8 @@ impl Stations {
         ensures rows { OnOk result (All (λ i. (d : Backlog) → additional ≤ (slice_index_or self.new.list i d).room) indexes.now) }
         ensures messages { OnOk result (additional ≤ self.new.message_room) }
     {
-        self.backlogs.reserve(indexes, additional)
-    }
-
-    /// Publishes a message: it takes the next place, and comes to what is held under each key with one of those
-    /// indexes; at its limit it is missed there instead. Takes no memory, since room was reserved.
-    pub fn publish(&mut self, message: Message, indexes: &[usize])
-        requires places { self.old.next_place < places_end }
-        requires messages { 0 < self.old.message_room }
-        requires within { All (λ i. i < length self.old.list) indexes.now }
-        requires once { IsDistinct nat_eq indexes.now }
-        requires rows { All (λ i. (d : Backlog) → 0 < (slice_index_or self.old.list i d).room) indexes.now }
-        ensures keys { self.new.keys ≡ self.old.keys }
-        ensures list { spec.IsPublished indexes.now self.old.next_place message self.old.list self.new.list }
-        ensures next_place { self.new.next_place ≡ self.old.next_place + 1 }
-        ensures room { self.old.message_room ≤ self.new.message_room + 1 }
-    {
-        self.backlogs.publish(message, indexes);
-    }
-
-    /// A row that was held elsewhere takes the next place with its state and the count of its deliveries, and comes to
-    /// what is held under the key with that index; at its limit it is missed there instead. Takes no memory, since room
-    /// was reserved.
-    #[tactic(auto, using(crate::proofs::Indexes::as_many_changed))]
-    pub fn load(&mut self, index: usize, row: Row)
-        requires places { self.old.next_place < places_end }
-        requires messages { 0 < self.old.message_room }
-        requires within { index < length self.old.list }
-        requires rows { (d : Backlog) → 0 < (slice_index_or self.old.list index d).room }
-        ensures keys { self.new.keys ≡ self.old.keys }
-        ensures list { self.new.list ≡ spec.changed_at index (spec.joined self.old.next_place row) self.old.list }
-        ensures next_place { self.new.next_place ≡ self.old.next_place + 1 }
-        ensures room { self.old.message_room ≤ self.new.message_room + 1 }
-    {
-        self.backlogs.load(index, row);
-    }
-
-    /// A message that was stored takes the next place, with a waiting row under the key of each of those indexes, each with
-    /// the count of its deliveries, and stands once for all of them; at the limit of a key it is missed there instead. Takes
-    /// no memory, since room was reserved.
-    pub fn load_shared(&mut self, message: Message, rows: &[StoredRow])
-        requires places { self.old.next_place < places_end }
-        requires messages { 0 < self.old.message_room }
-        requires within { All (λ (r : StoredRow). r.index < length self.old.list) rows.now }
-        requires once { IsDistinct nat_eq (map (λ (r : StoredRow). r.index) rows.now) }
-        requires rows { All (λ (r : StoredRow). (d : Backlog) → 0 < (slice_index_or self.old.list r.index d).room) rows.now }
-        ensures keys { self.new.keys ≡ self.old.keys }
-        ensures list { AreLoaded rows.now self.old.next_place message self.old.list self.new.list }
-        ensures next_place { self.new.next_place ≡ self.old.next_place + 1 }
-        ensures room { self.old.message_room ≤ self.new.message_room + 1 }
-    {
-        self.backlogs.load_shared(message, rows);
-    }
-
-    /// The next publication, or the next row that is loaded, will be at that place, which is not below the one that it
-    /// would have had. Takes no memory.
-    pub fn skip_to(&mut self, place: u64)
-        requires from { self.old.next_place ≤ place }
-        requires places { place ≤ places_end }
-        ensures { self.new ≡ record self.old { next_place = place } }
-    {
-        self.backlogs.skip_to(place);
-    }
-
-    /// What a delivery from the rows under the key with that index takes at that moment, which settles at once or not: the next
-    /// row, with the copy that it wants, of its message where that is held after it. `AllocError` where a request for memory
-    /// was refused, which comes only where a copy is wanted.
-    pub fn pick(
-        &self,
-        index: usize,
-        now: Moment,
-        settles: bool,
-    ) -> Result<Option<Picked>, AllocError>
-        requires within { index < length self.now.list }
-        ensures picked { (d : Backlog) → IfOk result (λ picked. picked ≡ spec.picked_of settles self.now.list (spec.next_placed now (slice_index_or self.now.list index d).rows)) }
-        ensures err { (d : Backlog) → OnErr result (is_some (spec.copy_wanted settles now self.now.list (slice_index_or self.now.list index d).rows) ≡ true) }
-    {
-        self.backlogs.pick(index, now, settles)
-    }
-
-    /// The same of those of the rows whose messages the selector selects.
-    pub fn pick_where(
-        &self,
-        index: usize,
-        now: Moment,
-        settles: bool,
-        selector: &Selector,
-    ) -> Result<Option<Picked>, AllocError>
-        requires within { index < length self.now.list }
-        ensures picked { IfOk result (spec.IsPicked (matches selector.now) settles now self.now.list index) }
-        ensures err { (d : Backlog) → OnErr result (is_some (spec.copy_wanted_where (matches selector.now) settles now self.now.list (slice_index_or self.now.list index d).rows) ≡ true) }
-    {
-        self.backlogs.pick_where(index, now, settles, selector)
-    }
-
-    /// Drops the waiting rows under the key with that index that are expired at that moment, also those whose messages do not
-    /// pass, and delivers the row that was picked of those that do, which is settled. Its message is moved out where no other
-    /// row holds it, and else the copy stands for it. Takes no memory, and searches nothing but that place.
-    pub fn receive(&mut self, index: usize, now: Moment, picked: Option<Picked>) -> Answer
-        requires within { index < length self.old.list }
-        requires picked { (p : Content → Bool) × spec.IsPicked p true now self.old.list index picked }
-        ensures answer { (p : Content → Bool) (d : Backlog) → spec.IsPicked p true now self.old.list index picked → result ≡ spec.answered_where p now (slice_index_or self.old.list index d).rows }
-        ensures keys { self.new.keys ≡ self.old.keys }
-        ensures list { (p : Content → Bool) → spec.IsPicked p true now self.old.list index picked → self.new.list ≡ spec.changed_at index (spec.received p now) self.old.list }
-        ensures next_place { self.new.next_place ≡ self.old.next_place }
-        ensures room { self.old.message_room ≤ self.new.message_room }
-    {
-        self.backlogs.receive(index, now, picked)
-    }
-
-    /// The same, but that the row goes out to the session through its consumer, and is counted once more. The copy stands for
-    /// its message, which stays held.
-    pub fn deliver(
-        &mut self,
-        index: usize,
-        now: Moment,
-        picked: Option<Picked>,
-        session: SessionId,
-        consumer: ConsumerId,
-    ) -> Answer
-        requires within { index < length self.old.list }
-        requires picked { (p : Content → Bool) × spec.IsPicked p false now self.old.list index picked }
-        ensures answer { (p : Content → Bool) (d : Backlog) → spec.IsPicked p false now self.old.list index picked → result ≡ spec.answered_where p now (slice_index_or self.old.list index d).rows }
-        ensures keys { self.new.keys ≡ self.old.keys }
-        ensures list { (p : Content → Bool) → spec.IsPicked p false now self.old.list index picked → self.new.list ≡ spec.changed_at index (spec.delivered p session consumer now) self.old.list }
-        ensures next_place { self.new.next_place ≡ self.old.next_place }
-        ensures room { self.old.message_room ≤ self.new.message_room }
-    {
-        self.backlogs.deliver(index, now, picked, session, consumer)
-    }
-
-    /// The rows that are out through one of those consumers go, and each message that no other row holds with them.
-    /// Looks at no key but those under which rows are out, and where none is out through them at no row. Takes no memory.
-    #[tactic(auto, using(crate::proofs::Indexes::as_many_mapped))]
-    pub fn settle(&mut self, which: &Consumers)
-        ensures keys { self.new.keys ≡ self.old.keys }
-        ensures list { self.new.list ≡ map (spec.settled (are_meant which.now)) self.old.list }
-        ensures next_place { self.new.next_place ≡ self.old.next_place }
-        ensures room { self.old.message_room ≤ self.new.message_room }
-    {
-        self.backlogs.settle(which);
-    }
-
-    /// The rows that are out through one of those consumers wait again, at their places and with their counts. Looks at no
-    /// key but those under which rows are out, and where none is out through them at no row. Takes no memory.
-    #[tactic(auto, using(crate::proofs::Indexes::as_many_mapped))]
-    pub fn give_back(&mut self, which: &Consumers)
-        ensures keys { self.new.keys ≡ self.old.keys }
-        ensures list { self.new.list ≡ map (spec.returned (are_meant which.now)) self.old.list }
-        ensures next_place { self.new.next_place ≡ self.old.next_place }
-        ensures room { self.old.message_room ≤ self.new.message_room }
-    {
-        self.backlogs.give_back(which);
-    }
-
-    /// The rows under the key with that index that are out through one of those consumers go, and each message that no
-    /// other row holds with them. What is held under another key is not looked at, and where no row is out through them
-    /// no row is. Takes no memory.
-    #[tactic(auto, using(crate::proofs::Indexes::as_many_changed))]
-    pub fn settle_at(&mut self, index: usize, which: &Consumers)
-        requires { index < length self.old.list }
-        ensures keys { self.new.keys ≡ self.old.keys }
-        ensures list { self.new.list ≡ spec.changed_at index (spec.settled (are_meant which.now)) self.old.list }
-        ensures next_place { self.new.next_place ≡ self.old.next_place }
-        ensures room { self.old.message_room ≤ self.new.message_room }
-    {
-        self.backlogs.settle_at(index, which);
-    }
-
-    /// The rows under the key with that index that are out through one of those consumers wait again, at their places and
-    /// with their counts. What is held under another key is not looked at, and where no row is out through them no row is.
-    /// Takes no memory.
-    #[tactic(auto, using(crate::proofs::Indexes::as_many_changed))]
-    pub fn give_back_at(&mut self, index: usize, which: &Consumers)
-        requires { index < length self.old.list }
-        ensures keys { self.new.keys ≡ self.old.keys }
-        ensures list { self.new.list ≡ spec.changed_at index (spec.returned (are_meant which.now)) self.old.list }
-        ensures next_place { self.new.next_place ≡ self.old.next_place }
-        ensures room { self.old.message_room ≤ self.new.message_room }
-    {
-        self.backlogs.give_back_at(index, which);
-    }
-
-    /// The row under the key with that index that stands at that place, with its message, which is not copied.
-    pub fn row_of(&self, index: usize, place: u64) -> Option<Standing<'_>>
-        requires { index < length self.now.list }
-        ensures { (d : Backlog) → option_map standing.row_of result ≡ find (standing.is_at place) (slice_index_or self.now.list index d).rows }
-    {
-        self.backlogs.row_of(index, place)
-    }
-
-    /// The first row under the key with that index by place, from that place on, with its message, which is not copied.
-    /// Takes no memory.
-    pub fn row_from(&self, index: usize, place: u64) -> Option<Standing<'_>>
-        requires within { index < length self.now.list }
-        requires place { place ≤ places_end }
-        ensures { (d : Backlog) → option_map standing.row_of result ≡ find (standing.is_from place) (slice_index_or self.now.list index d).rows }
-    {
-        self.backlogs.row_from(index, place)
-    }
-
-    /// The first row under the key with that index by place, from that place on, that has lapsed at that moment: it waits, and
-    /// its message is expired. Costs what `Held::lapsed_from` says. Takes no memory.
-    pub fn lapsed_from(&self, index: usize, place: u64, now: Moment) -> Option<Standing<'_>>
-        requires { index < length self.now.list }
-        ensures { (d : Backlog) → option_map standing.row_of result ≡ find (standing.lapsed_from place now) (slice_index_or self.now.list index d).rows }
-    {
-        self.backlogs.lapsed_from(index, place, now)
-    }
-
-    /// The first row under the key with that index by place, from that place on, that is out through one of those consumers.
-    /// Costs what `Held::out_from` says: where no row is out through them, no row is looked at. Takes no memory.
-    pub fn out_from(&self, index: usize, place: u64, which: &Consumers) -> Option<Standing<'_>>
-        requires { index < length self.now.list }
-        ensures { (d : Backlog) → option_map standing.row_of result ≡ find (standing.out_from place (are_meant which.now)) (slice_index_or self.now.list index d).rows }
-    {
-        self.backlogs.out_from(index, place, which)
-    }
-
-    /// The row under the key with that index that a delivery at that moment would take.
-    pub fn next(&self, index: usize, now: Moment) -> Option<Standing<'_>>
-        requires { index < length self.now.list }
-        ensures { (d : Backlog) → option_map standing.row_of result ≡ spec.next_placed now (slice_index_or self.now.list index d).rows }
-    {
-        self.backlogs.next(index, now)
-    }
-
-    /// The row under the key with that index that a delivery at that moment would take of those whose messages the selector
-    /// selects.
-    pub fn next_where(&self, index: usize, now: Moment, selector: &Selector) -> Option<Standing<'_>>
-        requires { index < length self.now.list }
-        ensures { (d : Backlog) → option_map standing.row_of result ≡ next_chosen (matches selector.now) now (slice_index_or self.now.list index d).rows }
-    {
-        self.backlogs.next_where(index, now, selector)
-    }
-
-    /// How many rows of all keys stand at that place, each of them a holder of the message there.
-    pub fn holders_of(&self, place: u64) -> u64
-        ensures { result ≡ spec.holders_at place self.now.list }
-    {
-        self.backlogs.holders_of(place)
-    }
-
-    /// The first index from that one on of a key under which a row stands at that place. Looks for it under
-    /// each key in turn, by halves in each of thirty lanes, most of which are empty; where `holders_of` is 1 there is no
-    /// other. Takes no memory.
-    pub fn holder_from(&self, index: usize, place: u64) -> Option<usize>
-        ensures { standing.IsFirstOf (standing.holds place) index self.now.list result }
-    {
-        self.backlogs.holder_from(index, place)
+        self.table.reserve(additional)?;
+        lists::reserve_each(&mut self.lists, indexes, additional)
     }
 
     /// The key with that index, in order of creation.
@@ -589,15 +343,6 @@ impl Stations {
         ensures { (d : Key) → result.now ≡ slice_index_or self.now.keys index d }
     {
         self.keys.key_at(index)
-    }
-
-    /// How many publications were missed under the key with that index, since it was at its limit; at
-    /// 18,446,744,073,709,551,615 it stays.
-    pub fn missed(&self, index: usize) -> u64
-        requires { index < length self.now.list }
-        ensures { (d : Backlog) → result ≡ (slice_index_or self.now.list index d).missed }
-    {
-        self.backlogs.missed(index)
     }
 }
 

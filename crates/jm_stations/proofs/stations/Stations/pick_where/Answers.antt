@@ -1,0 +1,41 @@
+use Rattle.std.proofs.Common.{◌≡◌, ◌∙◌, ◌<◌, ℕ, List, length, Bool, ap, subst, sym, get_or, Option, Some, true}
+use Rattle.std.specs.Prelude.{IfOk, OnErr, is_some}
+use Rattle.std.specs.List.{slice_get}
+use Rattle.std.proofs.lemmas.List.{get_or-map, get_or_default}
+use Rattle.jm_gaps.proofs.Items.{item_read}
+use Rattle.jm_header.specs.declared.content.Content.{Content}
+use Rattle.jm_lane.specs.declared.row.Row.{Row}
+use Rattle.jm_machine.specs.Wants.{next_chosen}
+use Rattle.jm_pending.specs.Chosen.{next_where}
+use Rattle.jm_pending.specs.Rows.{Held}
+use Rattle.jm_selector.specs.Selectors.{matches}
+use Rattle.jm_lane.specs.Holders.{Messages}
+use Rattle.jm_stations.specs.declared.picked.Picked.{Picked}
+use Rattle.jm_stations.specs.Backlogs.{Backlog, copy_wanted_where, picked_of}
+use Rattle.jm_stations.specs.Kept.{shown, all_shown, copied, picked, IsKept}
+use Rattle.jm_stations.proofs.Wanted.{copied_where_is, each_ok, picked_where_is}
+use Rattle.jm_stations.proofs.Receiving.{no_rows, within_shown}
+use Rattle.jm_stations.proofs.stations.Stations.pick_where.Goals as goal
+
+-- what the table has for the next of the rows whose messages pass is what is picked
+found : (p : Content → Bool) (settles : Bool) (t : Messages) (place now k : ℕ) (lists : List Held) (h : Held) (next_row : Option Row) (d : Backlog) → k < length (all_shown t lists) → slice_get lists k ≡ Some h → next_row ≡ next_where p t now h.rows → IsKept t lists place
+    → (copied settles t next_row ≡ copy_wanted_where p settles now (all_shown t lists) (get_or (all_shown t lists) k d).rows) × (picked settles t next_row ≡ picked_of settles (all_shown t lists) (next_chosen p now (get_or (all_shown t lists) k d).rows))
+found p settles t place now k lists h next_row d within at taken kept =
+    let inside = within_shown t lists k within in
+    let this : h ≡ get_or lists k no_rows = item_read lists k h at ∙ get_or_default lists k h no_rows inside in
+    let row : next_row ≡ next_where p t now (get_or lists k no_rows).rows = taken ∙ ap (λ (x : Held). next_where p t now x.rows) this in
+    let seen = sym (get_or-map (shown t) lists k no_rows d inside) in (
+      ap (copied settles t) row ∙ copied_where_is p settles t place now k no_rows lists inside kept ∙ ap (λ (b : Backlog). copy_wanted_where p settles now (all_shown t lists) b.rows) seen,
+      ap (picked settles t) row ∙ picked_where_is p settles t place now k no_rows lists inside kept ∙ ap (λ (b : Backlog). picked_of settles (all_shown t lists) (next_chosen p now b.rows)) seen,
+    )
+
+pub returns-clause-picked : goal.returns-clause-picked
+returns-clause-picked c =
+    let p = matches c.args.selector.now in
+    rw (← c.self.view_is) (each_ok c.pick.result (λ (it : Option Picked) (d : Backlog). it ≡ picked_of c.args.settles (all_shown c.self.inside.table c.self.inside.lists.items) (next_chosen p c.args.now (get_or (all_shown c.self.inside.table c.self.inside.lists.items) c.args.index d).rows)) (λ d. let same = (found p c.args.settles c.self.inside.table c.self.inside.next_place c.args.now c.args.index c.self.inside.lists.items c.at.result.now c.next_where-row.result d (rw (← c.self.view_is) at c.requires.within) c.at.ensures c.next_where-row.ensures.next c.self.invariant.0).1 in
+    subst (λ (o : Option Picked). IfOk c.pick.result (λ it. it ≡ o)) same c.pick.ensures.picked))
+
+pub returns-clause-err : goal.returns-clause-err
+returns-clause-err c = λ d.
+    let same = (found (matches c.args.selector.now) c.args.settles c.self.inside.table c.self.inside.next_place c.args.now c.args.index c.self.inside.lists.items c.at.result.now c.next_where-row.result d (rw (← c.self.view_is) at c.requires.within) c.at.ensures c.next_where-row.ensures.next c.self.invariant.0).0 in
+    rw (← c.self.view_is) (subst (λ (o : Option Content). OnErr c.pick.result (is_some o ≡ true)) same c.pick.ensures.err)
