@@ -23,9 +23,10 @@ use Rattle.jm_sub.specs.Subscriptions.{Subscription, takes}
 use Rattle.jm_plans.specs.Provider.{Provider, state_of}
 use Rattle.jm_parts.specs.Publications.{IsRouted}
 use Rattle.jm_queues.specs.Queues.{IsQueued}
-use Rattle.jm_core.specs.Reading.{AreLasting, CoversRows, IsIndexOf, durable_at, is_accepted, is_durable, is_for, keys_in, lasts_at}
-use Rattle.jm_queues.specs.Rows.{IsAt, rows_under}
+use Rattle.jm_core.specs.Reading.{AreLasting, CoversRows, IsIndexOf, durable_at, is_durable, keys_in}
+use Rattle.jm_queues.specs.Rows.{IsAt}
 use Rattle.jm_machine.specs.Attached.{IsOfSubscription}
+use Rattle.jm_machine.specs.Under.{is_accepted, is_for, lasts_at, placed_under}
 use Rattle.jm_parts.specs.State.{IsSound, keys_of}
 use Rattle.jm_parts.specs.Takings.{is_queue}
 use Rattle.jm_queues.proofs.Indexed.{at_behind, at_first, key_there, place_here}
@@ -109,13 +110,13 @@ module _ (limit place : ℕ) (p : Provider) (h : IsSound limit p.known.consumers
       let none = station_missing key p.subscriptions.list p.held.list (ap (λ keys. index_in keys key) h.same ∙ e) in
       ap (λ (o : Option Station). placed_rows o) (sym none)
 
-  pub queue_missing : (key : Key) → is_queue (Some key) ≡ true → index_in p.queues.keys key ≡ None → rows_under (state_of p) key ≡ []
+  pub queue_missing : (key : Key) → is_queue (Some key) ≡ true → index_in p.queues.keys key ≡ None → placed_under (state_of p) key ≡ []
   queue_missing (Queue name) q e = rows_missing p.queues.keys p.queues.list name e
   queue_missing (Own s c) q e = absurd cc
   queue_missing (SharedOwn client name) q e = absurd cc
   queue_missing (Durable client name) q e = absurd cc
 
-  pub subscription_missing : (key : Key) → is_queue (Some key) ≡ false → index_in p.held.keys key ≡ None → rows_under (state_of p) key ≡ []
+  pub subscription_missing : (key : Key) → is_queue (Some key) ≡ false → index_in p.held.keys key ≡ None → placed_under (state_of p) key ≡ []
   subscription_missing (Queue name) q e = absurd cc
   subscription_missing (Own s c) q e = none_held (Own s c) e
   subscription_missing (SharedOwn client name) q e = none_held (SharedOwn client name) e
@@ -136,7 +137,7 @@ module _ (limit place : ℕ) (p : Provider) (h : IsSound limit p.known.consumers
   pub covered : CoversRows p
   covered key = go (is_queue (Some key)) refl (index_in p.queues.keys key) refl (index_in p.held.keys key) refl
     where
-      go : (b : Bool) → is_queue (Some key) ≡ b → (o : Option ℕ) → index_in p.queues.keys key ≡ o → (s : Option ℕ) → index_in p.held.keys key ≡ s → (rows_under (state_of p) key ≡ []) ⊎ ((i : ℕ) × IsAt (keys_in p) key i)
+      go : (b : Bool) → is_queue (Some key) ≡ b → (o : Option ℕ) → index_in p.queues.keys key ≡ o → (s : Option ℕ) → index_in p.held.keys key ≡ s → (placed_under (state_of p) key ≡ []) ⊎ ((i : ℕ) × IsAt (keys_in p) key i)
       go true q None e s f = inl (queue_missing key q e)
       go true q (Some i) e s f = inr (length p.held.keys + i, queue_at key i e)
       go false q o e None f = inl (subscription_missing key q f)
@@ -149,16 +150,16 @@ module _ (limit place : ℕ) (p : Provider) (h : IsSound limit p.known.consumers
       let found = ap (λ (keys : List Key). position_or_len (λ x. key_eq x key) keys) h.same ∙ place_here p.held.keys i key c h.once at l in
       (key_found key (λ rows. rows) p.subscriptions.list p.held.list d i h.number found (omega (arith, l, ap (λ (keys : List Key). length keys) h.same, length-keys p.subscriptions.list))).1
 
-  rows_held : (key c : Key) (i : ℕ) (d : Backlog) → IsOfSubscription p.known.consumers key → get_or p.held.keys i c ≡ key → i < length p.held.keys → (get_or p.held.list i d).rows ≡ rows_under (state_of p) key
+  rows_held : (key c : Key) (i : ℕ) (d : Backlog) → IsOfSubscription p.known.consumers key → get_or p.held.keys i c ≡ key → i < length p.held.keys → (get_or p.held.list i d).rows ≡ placed_under (state_of p) key
   rows_held (Queue name) c i d of at l = absurd of
   rows_held (Own s n) c i d of at l = sym (rows_here (Own s n) c i d at l)
   rows_held (SharedOwn client name) c i d of at l = sym (rows_here (SharedOwn client name) c i d at l)
   rows_held (Durable client name) c i d of at l = sym (rows_here (Durable client name) c i d at l)
 
-  pub rows_first : (i : ℕ) (c : Key) (d : Backlog) → i < length p.held.keys → (get_or p.held.list i d).rows ≡ rows_under (state_of p) (get_or (keys_in p) i c)
+  pub rows_first : (i : ℕ) (c : Key) (d : Backlog) → i < length p.held.keys → (get_or p.held.list i d).rows ≡ placed_under (state_of p) (get_or (keys_in p) i c)
   rows_first i c d l =
       rows_held (get_or p.held.keys i c) c i d (h.made i c l) refl l
-      ∙ ap (λ (key : Key). rows_under (state_of p) key) (sym (get_or_append_left p.held.keys p.queues.keys c i l))
+      ∙ ap (λ (key : Key). placed_under (state_of p) key) (sym (get_or_append_left p.held.keys p.queues.keys c i l))
 
   pub key_behind : (n i : ℕ) (c : Key) → length p.held.keys ≡ n → n ≤ i → get_or (keys_in p) i c ≡ get_or p.queues.keys (i - n) c
   key_behind n i c e l = get_or-append_right p.held.keys p.queues.keys n i c e l

@@ -8,18 +8,19 @@ use Rattle.jm_machine.specs.declared.state.Consumer.{Consumer}
 use Rattle.jm_machine.specs.declared.state.PlacedRow.{PlacedRow}
 use Rattle.jm_machine.specs.Machine.{key_at, selected_by}
 use Rattle.jm_machine.specs.Wants.{next_chosen, next_placed}
+use Rattle.jm_machine.specs.Under.{next_under, placed_under}
 use Rattle.jm_stations.specs.declared.picked.Picked.{Picked}
-use Rattle.jm_stations.specs.Backlogs.{Backlog, empty, picked_of}
+use Rattle.jm_stations.specs.Backlogs.{Backlog, any, empty, picked_of}
+use Rattle.jm_stations.proofs.Any.{next_any}
 use Rattle.jm_parts.specs.declared.receive.Receiver.{Receiver}
 use Rattle.jm_parts.specs.declared.receive.Taking.{Taking}
 use Rattle.jm_parts.specs.State.{IsSound}
 use Rattle.jm_parts.specs.Takings.{IsTaken, IsTakenFrom, is_queue, settles}
 use Rattle.jm_plans.specs.Provider.{Provider, state_of}
 use Rattle.jm_queues.specs.Queues.{rows_in}
-use Rattle.jm_queues.specs.Rows.{rows_under}
 use Rattle.jm_queues.proofs.Indexed.{key_there}
 use Rattle.jm_queues.proofs.QueueRows.{rows_found, rows_missing}
-use Rattle.jm_core.specs.Reading.{delivery_to, next_under, picked_place, place_taken}
+use Rattle.jm_core.specs.Reading.{delivery_to, picked_place, place_taken}
 use Rattle.jm_core.proofs.ReadKeys.{rows_first, subscription_at, subscription_missing}
 
 -- the place of a row
@@ -53,12 +54,13 @@ module _ (limit place : ℕ) (p : Provider) (h : IsSound limit p.known.consumers
       let d : Backlog = empty None in
       let there = key_there p.held.keys x.key t.index e.0 in
       let at = subscription_at limit place p h x.key t.index e.0 in
-      let rows : (get_or p.held.list t.index d).rows ≡ rows_under (state_of p) x.key =
-      rows_first limit place p h t.index x.key d there.0 ∙ ap (λ (k : Key). rows_under (state_of p) k) (at.1 x.key) in
+      let rows : (get_or p.held.list t.index d).rows ≡ placed_under (state_of p) x.key =
+      rows_first limit place p h t.index x.key d there.0 ∙ ap (λ (k : Key). placed_under (state_of p) k) (at.1 x.key) in
       ap (λ (o : Option Picked). option_map (λ (y : Picked). y.place) o) (e.1 d)
-      ∙ picked_there (settles r) p.held.list (next_placed r.moment (get_or p.held.list t.index d).rows)
+      ∙ picked_there (settles r) p.held.list (next_chosen any r.moment (get_or p.held.list t.index d).rows)
+      ∙ ap place_of (next_any r.moment (get_or p.held.list t.index d).rows)
       ∙ ap (λ rs. place_of (next_placed r.moment rs)) rows
-      ∙ ap place_of (under_subscription (selected_by (Some x)) r.moment x.key (rows_under (state_of p) x.key) q)
+      ∙ ap place_of (under_subscription (selected_by (Some x)) r.moment x.key (placed_under (state_of p) x.key) q)
 
   -- for the consumer that there may be, where none is there nothing is taken
   pub taken_held : (r : Receiver) (source : Option Consumer) (o : Option Taking) → is_queue (key_at source) ≡ false → IsTaken (key_at source) r p.held.keys p.held.list o → picked_place o ≡ place_taken (state_of p) (delivery_to r.moment source)
@@ -78,5 +80,5 @@ module _ (limit place : ℕ) (p : Provider) (h : IsSound limit p.known.consumers
   pub taken_queue : (r : Receiver) (source : Option Consumer) (x : Consumer) (name : List ℕ) (o : Option Taking) → source ≡ Some x → x.key ≡ Queue name → IsTakenFrom name (selected_by (Some x)) r p.queues o → picked_place o ≡ place_taken (state_of p) (delivery_to r.moment source)
   taken_queue r source x name o s k e =
       queue_place r x name o e
-      ∙ ap (λ (key : Key). place_of (next_under (selected_by (Some x)) r.moment key (rows_under (state_of p) key))) (sym k)
+      ∙ ap (λ (key : Key). place_of (next_under (selected_by (Some x)) r.moment key (placed_under (state_of p) key))) (sym k)
       ∙ ap (λ (y : Option Consumer). place_taken (state_of p) (delivery_to r.moment y)) (sym s)

@@ -2,19 +2,15 @@
 -- publishes and takes.
 use Rattle.std.specs.Prelude.{◌≡◌, ◌⊎◌, ◌++◌, ℕ, Bool, true, false, List, [], map, slice_index_or, Option, Some, None, filter, option_map}
 use Rattle.std.specs.List.{list_any}
-use Rattle.jm_dest.specs.declared.destination.Destination.{Destination}
-use Rattle.jm_dest.specs.declared.destination.Destination.TheVariants as destination
 use Rattle.jm_dest.specs.declared.key.Key.{Key}
 use Rattle.jm_dest.specs.declared.key.Key.TheVariants.{Queue, Own, SharedOwn, Durable}
 use Rattle.jm_dest.specs.Keys.{key_eq}
-use Rattle.jm_dest.specs.Names.{text_eq}
 use Rattle.jm_header.specs.declared.content.Content.{Content}
 use Rattle.jm_machine.specs.declared.state.Consumer.{Consumer}
 use Rattle.jm_machine.specs.declared.state.Definition.{Definition}
 use Rattle.jm_machine.specs.declared.state.PlacedRow.{PlacedRow}
-use Rattle.jm_machine.specs.declared.state.Station.{Station}
-use Rattle.jm_machine.specs.Machine.{Publisher, State, accepts, consumer_of, publisher_of, selected_by, station_of}
-use Rattle.jm_machine.specs.Wants.{next_chosen, next_placed}
+use Rattle.jm_machine.specs.Machine.{State, consumer_of, selected_by}
+use Rattle.jm_machine.specs.Under.{lasts_at, next_under, placed_under}
 use Rattle.jm_sub.specs.Subscriptions.{Subscription}
 use Rattle.jm_plans.specs.declared.plan.Change.{Change}
 use Rattle.jm_plans.specs.declared.plan.Change.TheVariants as change
@@ -22,7 +18,7 @@ use Rattle.jm_parts.specs.declared.publish.Publication.{Publication}
 use Rattle.jm_parts.specs.declared.receive.Taking.{Taking}
 use Rattle.jm_parts.specs.Takings.{source_of}
 use Rattle.jm_plans.specs.Provider.{Provider, state_of}
-use Rattle.jm_queues.specs.Rows.{rows_under, IsAt}
+use Rattle.jm_queues.specs.Rows.{IsAt}
 use Rattle.jm_stations.specs.declared.picked.Picked.{Picked}
 
 -- Rows
@@ -33,12 +29,12 @@ keys_in p = p.held.keys ++ p.queues.keys
 
 -- the key stands there among those; or nowhere, and no row stands under it
 abbrev pub IsIndexOf : Provider → Key → Option ℕ → Type 0
-IsIndexOf p key None = rows_under (state_of p) key ≡ []
+IsIndexOf p key None = placed_under (state_of p) key ≡ []
 IsIndexOf p key (Some i) = IsAt (keys_in p) key i
 
 -- each key under which rows stand is one of those
 abbrev pub CoversRows : Provider → Type 0
-CoversRows p = (key : Key) → (rows_under (state_of p) key ≡ []) ⊎ ((i : ℕ) × IsAt (keys_in p) key i)
+CoversRows p = (key : Key) → (placed_under (state_of p) key ≡ []) ⊎ ((i : ℕ) × IsAt (keys_in p) key i)
 
 -- Plans
 
@@ -69,13 +65,6 @@ publishes change = map (λ (x : Publication). x.message) (publications_of change
 
 -- Deliveries
 
--- the row that a delivery takes of those under the key: of a queue's one whose message passes
-abbrev pub next_under : (Content → Bool) → ℕ → Key → List PlacedRow → Option PlacedRow
-next_under p now (Queue name) rows = next_chosen p now rows
-next_under p now (Own s c) rows = next_placed now rows
-next_under p now (SharedOwn client name) rows = next_placed now rows
-next_under p now (Durable client name) rows = next_placed now rows
-
 -- a delivery to the consumer that there may be, at that moment
 abbrev pub delivery_to : ℕ → Option Consumer → Option (ℕ × Consumer)
 delivery_to now source = option_map (λ x. (now, x)) source
@@ -91,7 +80,7 @@ delivery_of state _ = None
 -- the place of the row that a delivery takes, where there is one
 abbrev pub place_taken : State → Option (ℕ × Consumer) → Option ℕ
 place_taken state None = None
-place_taken state (Some d) = option_map (λ (r : PlacedRow). r.place) (next_under (selected_by (Some d.1)) d.0 d.1.key (rows_under state d.1.key))
+place_taken state (Some d) = option_map (λ (r : PlacedRow). r.place) (next_under (selected_by (Some d.1)) d.0 d.1.key (placed_under state d.1.key))
 
 -- the place of the row that the change takes
 abbrev pub takes : State → Change → Option ℕ
@@ -103,24 +92,6 @@ picked_place None = None
 picked_place (Some x) = option_map (λ (y : Picked). y.place) x.picked
 
 -- Publications
-
--- a message that goes there comes to the queue of that name
-abbrev pub is_for : List ℕ → Destination → Bool
-is_for name (destination.Queue queue) = text_eq queue name
-is_for name (destination.Topic topic) = false
-
--- a subscription that there may be accepts the message of its publisher
-abbrev pub is_accepted : Publisher → Content → Option Station → Bool
-is_accepted publisher m None = false
-is_accepted publisher m (Some x) = accepts x.key x.definition publisher m
-
--- the message comes to the key, and what is held there outlasts the process: to its queue, or to a durable subscription that
--- accepts it
-abbrev pub lasts_at : State → Content → Key → Bool
-lasts_at state m (Queue name) = is_for name m.destination
-lasts_at state m (Own s c) = false
-lasts_at state m (SharedOwn client name) = false
-lasts_at state m (Durable client name) = is_accepted (publisher_of state.life m) m (station_of (Durable client name) state.stations)
 
 -- the key is that of a durable subscription
 abbrev pub is_durable : Key → Bool

@@ -6,11 +6,11 @@ ghost use Rattle.jm_dest.specs.declared.key.Key.{Key as KeyShown};
 ghost use Rattle.jm_header.specs.declared.content.Content.{Content};
 ghost use Rattle.jm_machine.specs.Life as life;
 ghost use Rattle.jm_machine.specs.Machine as machine;
+ghost use Rattle.jm_machine.specs.Under.{placed_under};
 ghost use Rattle.jm_plans.specs.Plans.{IsPlanned};
 ghost use Rattle.jm_plans.specs.Provider.{state_of};
 ghost use Rattle.jm_parts.specs.Publications.{IsReady};
 ghost use Rattle.jm_core.specs.Reading as spec;
-ghost use Rattle.jm_queues.specs.Rows.{rows_under};
 ghost use Rattle.jm_parts.specs.Takings.{is_queue};
 
 use crate::planned::Plan;
@@ -111,7 +111,7 @@ fn index_of_queue_in(core: &CoreState, key: &Key) -> Option<usize>
 
 fn rows_at_in(core: &CoreState, index: usize) -> Rows<'_>
     requires { index < length (spec.keys_in core.now) }
-    ensures { (d : KeyShown) → result ≡ rows_under (state_of core.now) (slice_index_or (spec.keys_in core.now) index d) }
+    ensures { (d : KeyShown) → result ≡ placed_under (state_of core.now) (slice_index_or (spec.keys_in core.now) index d) }
 {
     let subscriptions = core.stations.len();
     if index < subscriptions {
@@ -197,7 +197,7 @@ impl Core {
     /// The rows under the key with that index, which are not copied.
     pub fn rows_at(&self, index: usize) -> Rows<'_>
         requires { index < length (spec.keys_in self.now) }
-        ensures { (d : KeyShown) → result ≡ rows_under (state_of self.now) (slice_index_or (spec.keys_in self.now) index d) }
+        ensures { (d : KeyShown) → result ≡ placed_under (state_of self.now) (slice_index_or (spec.keys_in self.now) index d) }
     {
         rows_at_in(&self.state, index)
     }

@@ -11,8 +11,8 @@ use Rattle.jm_machine.specs.declared.state.PlacedRow.{PlacedRow}
 use Rattle.jm_machine.specs.declared.state.Station.{Station}
 use Rattle.jm_machine.specs.Machine.{definition_of, station_of, at_key, missed_of, with_rows, without}
 use Rattle.jm_machine.specs.Rows.{settles_at_once}
-use Rattle.jm_machine.specs.Wants.{holders_of, placed_rows, is_held_after}
-use Rattle.jm_stations.specs.Backlogs.{Backlog, HasMoreRoom, changed_at, holders_at, kept_message, copy_wanted, next_placed, placed_at}
+use Rattle.jm_machine.specs.Wants.{holders_of, next_placed, placed_rows, is_held_after}
+use Rattle.jm_stations.specs.Backlogs.{Backlog, HasMoreRoom, changed_at, holders_at, kept_message, copy_wanted, placed_at}
 use Rattle.jm_sub.specs.Subscriptions as subs
 use Rattle.jm_sub.specs.Subscriptions.{Subscription}
 use Rattle.jm_parts.specs.State.{AreLimited, station, stations_of, keys_of}

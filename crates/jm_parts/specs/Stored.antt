@@ -6,14 +6,13 @@ use Rattle.jm_dest.specs.declared.destination.Destination.TheVariants as destina
 use Rattle.jm_dest.specs.Keys.{key_eq}
 use Rattle.jm_dest.specs.Names.{text_eq}
 use Rattle.jm_header.specs.declared.content.Content.{Content}
-use Rattle.jm_header.specs.declared.content.DeliveryMode.{DeliveryMode}
-use Rattle.jm_header.specs.declared.content.DeliveryMode.TheVariants.{NonPersistent, Persistent}
 use Rattle.jm_machine.specs.declared.state.Definition.{Definition}
 use Rattle.jm_machine.specs.declared.state.PlacedRow.{PlacedRow}
 use Rattle.jm_machine.specs.declared.state.Station.{Station}
 use Rattle.jm_machine.specs.Machine.{State, is_to, places_end}
 use Rattle.jm_machine.specs.Reopened.{is_durable, reopened}
 use Rattle.jm_machine.specs.Rows.{greatest_count}
+use Rattle.jm_machine.specs.Under.{is_persistent}
 use Rattle.jm_selector.specs.Selectors.{matches}
 use Rattle.jm_stations.specs.declared.loading.StoredRow.{StoredRow}
 use Rattle.jm_stations.specs.Loading.{stored_at, stored_row}
@@ -23,11 +22,6 @@ use Rattle.jm_parts.specs.declared.stored.StoredMessage.{StoredMessage}
 use Rattle.jm_parts.specs.declared.stored.StoredSubscription.{StoredSubscription}
 
 -- What may be stored
-
--- the mode stores a message (Jakarta Messaging 3.1, section 3.4.2)
-abbrev pub is_persistent : DeliveryMode → Bool
-is_persistent NonPersistent = false
-is_persistent Persistent = true
 
 -- a durable subscription that asks for that may hold the message: it is PERSISTENT and goes to the topic, and the selector is
 -- absent or TRUE for it

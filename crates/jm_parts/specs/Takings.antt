@@ -14,7 +14,7 @@ use Rattle.jm_machine.specs.Life.{Life, is_started}
 use Rattle.jm_machine.specs.Rows.{deliver_placed, left_of, settles_at_once}
 use Rattle.jm_machine.specs.Machine.{consumer_of, missed_of, station_of}
 use Rattle.jm_machine.specs.Wants.{is_queued_after, next_chosen}
-use Rattle.jm_stations.specs.Backlogs.{Backlog, IsPicked, answered, changed_at, copy_wanted, next_placed, picked_of}
+use Rattle.jm_stations.specs.Backlogs.{Backlog, IsPicked, answered, any, changed_at, copy_wanted}
 use Rattle.jm_stations.specs.Stations.{Stations, index_in}
 use Rattle.jm_parts.specs.declared.receive.Receiver.{Receiver}
 use Rattle.jm_parts.specs.declared.receive.Taking.{Taking}
@@ -41,7 +41,7 @@ left_by r = left_of (Some r.mode) r.session r.consumer
 
 -- what a delivery takes at an index is what is picked there: the next row, where there is one, with the copy that it wants
 abbrev pub IsPickedAt : Receiver → List Backlog → Taking → Type 0
-IsPickedAt r list x = (d : Backlog) → x.picked ≡ picked_of (settles r) list (next_placed r.moment (slice_index_or list x.index d).rows)
+IsPickedAt r list x = IsPicked any (settles r) r.moment list x.index x.picked
 
 -- a delivery takes nothing where there is no key, or nothing stands under it; else what is picked there: the next row, with
 -- the copy that is wanted

@@ -1,26 +1,27 @@
 //! What a delivery hands out, as a copy that is made before it.
 
-ghost use Rattle.std.specs.Prelude.{◌≡◌, ◌<◌, ℕ, List, Some, length, IfOk, IfSome};
+ghost use Rattle.std.specs.Prelude.{◌≡◌, ◌<◌, Bool, ℕ, List, length, option_map, IfOk, IfSome};
+ghost use Rattle.jm_header.specs.declared.content.Content.{Content};
+ghost use Rattle.jm_machine.specs.declared.state.PlacedRow.{PlacedRow};
 ghost use Rattle.jm_machine.specs.Machine.{delivery};
-ghost use Rattle.jm_selector.specs.Selectors.{matches};
-ghost use Rattle.jm_stations.specs.Backlogs.{answered, answered_where};
+ghost use Rattle.jm_stations.specs.Backlogs.{answered_where};
 ghost use Rattle.jm_stations.specs.Standing as standing;
 ghost use Rattle.jm_queues.specs.Queues.{rows_in};
-ghost use Rattle.jm_parts.specs.Takings.{IsTakenFrom, IsTold};
+ghost use Rattle.jm_parts.specs.Takings.{IsPickedAt, IsTakenFrom, IsTold};
 
 use crate::receive::{Receiver, Taking};
-use jm_dest::Moment;
 use jm_machine::{Answer, Row};
 use jm_queues::queues::Queues;
-use jm_queues::rows::Rows;
-use jm_selector::Selector;
 use jm_stations::{Standing, Stations};
 use std::alloc::AllocError;
 
-/// What is handed out of a copy of the row.
-fn copy_handed_out(row: &Standing<'_>) -> Result<Answer, AllocError>
-    ensures { IfOk result (λ answer. answer ≡ delivery (Some (standing.row_of row.now).row)) }
+/// What is handed out of a copy of the row, where there is one.
+fn copy_handed_out(row: &Option<Standing<'_>>) -> Result<Answer, AllocError>
+    ensures { IfOk result (λ answer. answer ≡ delivery (option_map (λ (x : PlacedRow). x.row) (option_map standing.row_of row.now))) }
 {
+    let Some(row) = row else {
+        return Ok(Answer::Nothing);
+    };
     let copy = Row {
         message: row.message.copy()?,
         count: row.count,
@@ -29,56 +30,34 @@ fn copy_handed_out(row: &Standing<'_>) -> Result<Answer, AllocError>
     Ok(copy.hand_out())
 }
 
-/// What a delivery of the next of the rows hands out, from a copy.
-fn copy_next(rows: &Rows<'_>, now: Moment) -> Result<Answer, AllocError>
-    ensures { IfOk result (λ answer. answer ≡ answered now rows.now) }
-{
-    match rows.next(now) {
-        None => Ok(Answer::Nothing),
-        Some(row) => copy_handed_out(&row),
-    }
-}
-
-/// The same of the next one whose message the selector selects.
-fn copy_next_where(rows: &Rows<'_>, now: Moment, selector: &Selector) -> Result<Answer, AllocError>
-    ensures { IfOk result (λ answer. answer ≡ answered_where (matches selector.now) now rows.now) }
-{
-    match rows.next_where(now, selector) {
-        None => Ok(Answer::Nothing),
-        Some(row) => copy_handed_out(&row),
-    }
-}
-
-/// What a delivery that was planned hands out, from a copy.
+/// What a delivery that was planned hands out, from a copy of the row that was picked.
 pub fn copy_delivery(
     stations: &Stations,
     receiver: &Receiver,
     taking: &Option<Taking>,
 ) -> Result<Answer, AllocError>
-    requires { IfSome taking.now (λ x. x.index < length stations.now.list) }
+    requires within { IfSome taking.now (λ x. x.index < length stations.now.list) }
+    requires picked { IfSome taking.now (IsPickedAt receiver.now stations.now.list) }
     ensures { IfOk result (λ answer. IsTold taking.now receiver.now.moment stations.now.list answer) }
 {
     match taking {
         None => Ok(Answer::Nothing),
-        Some(taking) => copy_next(&Rows::new(stations, taking.index), receiver.moment),
+        Some(taking) => copy_handed_out(&stations.row_picked(taking.index, &taking.picked)),
     }
 }
 
-/// The same from a queue, of what the selector selects.
+/// The same from a queue.
 pub fn copy_delivery_from(
     queues: &Queues,
-    selector: &Selector,
     receiver: &Receiver,
     taking: &Option<Taking>,
 ) -> Result<Answer, AllocError>
-    requires { (name : List ℕ) × IsTakenFrom name (matches selector.now) receiver.now queues.now taking.now }
-    ensures { (name : List ℕ) → IsTakenFrom name (matches selector.now) receiver.now queues.now taking.now →
-        IfOk result (λ answer. answer ≡ answered_where (matches selector.now) receiver.now.moment (rows_in queues.now name)) }
+    requires { (name : List ℕ) × (p : Content → Bool) × IsTakenFrom name p receiver.now queues.now taking.now }
+    ensures { (name : List ℕ) (p : Content → Bool) → IsTakenFrom name p receiver.now queues.now taking.now →
+        IfOk result (λ answer. answer ≡ answered_where p receiver.now.moment (rows_in queues.now name)) }
 {
     match taking {
         None => Ok(Answer::Nothing),
-        Some(taking) => {
-            copy_next_where(&queues.rows_at(taking.index), receiver.moment, selector)
-        }
+        Some(taking) => copy_handed_out(&queues.row_picked(taking.index, &taking.picked)),
     }
 }

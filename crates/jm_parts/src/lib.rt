@@ -10,8 +10,8 @@
 //! nothing prepared (starts, stops, closes, `make_settle`, `make_give_back`, listeners).
 //!
 //! A `Publication` is a message with where it goes: a queue's key, or the subscriptions that take it (`IsAimed`), in order. A
-//! `Taking` is a delivery that is prepared: the index of the key, and the copy that it hands out where the row stays, or another
-//! row holds the message. A `Wanted` is a subscription that has a name, as a request asks for it.
+//! `Taking` is a delivery that is prepared: the index of the key, and what was picked there. `copy_delivery` copies its answer
+//! from the row that was picked. A `Wanted` is a subscription that has a name, as a request asks for it.
 //!
 //! What was stored (`StoredSubscription`, `StoredMessage`, `Holders`) is put into empty parts by `add_subscriptions` and
 //! `load_messages`; `admits` and `queue_admits` say what may have been stored so.

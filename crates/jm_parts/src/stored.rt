@@ -1,6 +1,7 @@
 //! What was stored of a provider, and what of it a core is made of again.
 
 ghost use Rattle.std.specs.Prelude.{◌≡◌};
+ghost use Rattle.jm_machine.specs.Under as under;
 ghost use Rattle.jm_parts.specs.Stored as spec;
 
 use jm_dest::{Destination, Key, Name};
@@ -35,7 +36,7 @@ pub struct StoredMessage {
 
 /// Whether the message is stored at all (Jakarta Messaging 3.1, section 3.4.2).
 fn is_persistent(message: &Message) -> bool
-    ensures { result ≡ spec.is_persistent message.now.mode }
+    ensures { result ≡ under.is_persistent message.now.mode }
 {
     match message.mode() {
         DeliveryMode::NonPersistent => false,

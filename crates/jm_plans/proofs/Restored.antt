@@ -38,8 +38,9 @@ use Rattle.jm_parts.specs.declared.stored.StoredSubscription.{StoredSubscription
 use Rattle.jm_queues.specs.Queues.{HasNoLimit, rows_in, rows_at as queue_rows}
 use Rattle.jm_parts.specs.Reopening.{AreMade, HaveLoaded, MayLoad, subscription_of}
 use Rattle.jm_machine.specs.Attached.{IsOfSubscription}
+use Rattle.jm_machine.specs.Under.{is_persistent}
 use Rattle.jm_parts.specs.State.{AreLimited, IsSound, keys_of, limit_of, stations_of}
-use Rattle.jm_parts.specs.Stored.{AreHolders, ArePlaced, IsAdmitted, MayReopen, admits, count_at, count_under, is_persistent, place_after, row_stored, rows_at, rows_stored, rows_under, stations_stored}
+use Rattle.jm_parts.specs.Stored.{AreHolders, ArePlaced, IsAdmitted, MayReopen, admits, count_at, count_under, place_after, row_stored, rows_at, rows_stored, rows_under, stations_stored}
 use Rattle.jm_parts.proofs.Accepted.{selected}
 use Rattle.jm_parts.proofs.Reopening.{keys_made, same_made, stored_keys}
 

@@ -30,15 +30,7 @@ impl CoreState {
         requires { IsPlanned self.now (Change.ReceiveFrom receiver.now taking.now) }
         ensures { IfOk result (λ answer. IsAnswer self.now (Change.ReceiveFrom receiver.now taking.now) answer) }
     {
-        match self
-            .sessions
-            .consumer_of(&receiver.session, receiver.consumer)
-        {
-            None => Ok(Answer::Nothing),
-            Some(consumer) => {
-                copy_delivery_from(&self.queues, &consumer.selector, receiver, taking)
-            }
-        }
+        copy_delivery_from(&self.queues, receiver, taking)
     }
 
     fn copy_taken(&self, receiver: &Receiver, taking: &Option<Taking>) -> Result<Answer, AllocError>
@@ -56,15 +48,7 @@ impl CoreState {
         requires { IsPlanned self.now (Change.TakeFrom receiver.now taking.now) }
         ensures { IfOk result (λ answer. IsAnswer self.now (Change.TakeFrom receiver.now taking.now) answer) }
     {
-        match self
-            .sessions
-            .consumer_of(&receiver.session, receiver.consumer)
-        {
-            None => Ok(Answer::Nothing),
-            Some(consumer) => {
-                copy_delivery_from(&self.queues, &consumer.selector, receiver, taking)
-            }
-        }
+        copy_delivery_from(&self.queues, receiver, taking)
     }
 
     /// A copy of the answer to the change that was planned.

@@ -6,9 +6,9 @@ use Rattle.jm_dest.specs.declared.key.Key.{Key}
 use Rattle.jm_dest.specs.declared.key.Key.TheVariants.{Queue, Own, SharedOwn, Durable}
 use Rattle.jm_dest.specs.Keys.{key_eq}
 use Rattle.jm_machine.specs.Machine.{State}
+use Rattle.jm_machine.specs.Under.{placed_under}
 use Rattle.jm_stations.specs.Backlogs.{Backlog}
 use Rattle.jm_queues.specs.Queues.{IsOfQueue, rows_at}
-use Rattle.jm_queues.specs.Rows.{rows_under}
 use Rattle.jm_queues.proofs.Indexed.{index_here}
 use Rattle.jm_queues.proofs.QueueRows.{rows_found}
 
@@ -22,7 +22,7 @@ keys_push old new name e h = keys_same (old ++ Queue name ∷ []) new e (All-pus
 
 -- the rows under the key with an index are those of its queue
 rows_named : (state : State) (keys : List Key) (list : List Backlog) (i : ℕ) (key c : Key) (d : Backlog) → state.queues ≡ rows_at keys list → IsDistinct key_eq keys → IsOfQueue key → get_or keys i c ≡ key → i < length keys → i < length list →
-    (get_or list i d).rows ≡ rows_under state key
+    (get_or list i d).rows ≡ placed_under state key
 rows_named state keys list i (Queue name) c d q once of at l m =
     sym (rows_found keys list name i d (index_here keys i (Queue name) c once at l) m) ∙ sym (λ j. q j name)
 rows_named state keys list i (Own s n) c d q once of at l m = absurd of
@@ -30,5 +30,5 @@ rows_named state keys list i (SharedOwn client name) c d q once of at l m = absu
 rows_named state keys list i (Durable client name) c d q once of at l m = absurd of
 
 pub rows_there : (state : State) (keys : List Key) (list : List Backlog) (i : ℕ) (c : Key) (d : Backlog) → state.queues ≡ rows_at keys list → IsDistinct key_eq keys → All IsOfQueue keys → i < length keys → i < length list →
-    (get_or list i d).rows ≡ rows_under state (get_or keys i c)
+    (get_or list i d).rows ≡ placed_under state (get_or keys i c)
 rows_there state keys list i c d q once of l m = rows_named state keys list i (get_or keys i c) c d q once (of i c l) refl l m

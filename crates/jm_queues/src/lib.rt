@@ -11,11 +11,11 @@
 //! wanted each key stands where it stood, and the queues hold the same (`HaveMoreRoom`). `publish` and `load` then put a row
 //! under the key with that index, behind all others, at a place from the next one on; they take no memory.
 //!
-//! `pick` is `pick_where` of `Stations`, and `receive`, `deliver`, `settle`, `give_back`, `settle_at` and `give_back_at` are those
-//! of `Stations`, as what each queue holds tells. A `copy` holds the same, by the same keys.
+//! `pick` is `pick_where` of `Stations`, and `row_picked`, `receive`, `deliver`, `settle`, `give_back`, `settle_at` and
+//! `give_back_at` are those of `Stations`, as what each queue holds tells. A `copy` holds the same, by the same keys.
 //!
-//! `Rows` is what stands under one key, lent: the first row from a place on, the first from there that is expired at a moment
-//! or that is out, and the next one to be delivered, of all or of those that a selector selects.
+//! `Rows` is what stands under one key, lent: the first row from a place on, and the first from there that is expired at a moment
+//! or that is out.
 #![tactic(auto)]
 
 pub mod queues;

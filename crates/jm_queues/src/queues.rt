@@ -1,27 +1,27 @@
 //! What the queues hold.
 
-ghost use Rattle.std.specs.Prelude.{◌≡◌, ◌≤◌, ◌<◌, ◌+◌, ◌^◌, ◌++◌, ◌&&◌, Bool, ℕ, true, false, List, [], ◌∷◌, not, is_some, map, length, slice_index_or, None, Some, IfSome, IfOk, OnOk, OnErr};
+ghost use Rattle.std.specs.Prelude.{◌≡◌, ◌≤◌, ◌<◌, ◌+◌, ◌^◌, ◌++◌, ◌&&◌, Bool, ℕ, true, false, List, [], ◌∷◌, not, is_some, map, length, option_map, slice_index_or, None, Some, IfSome, IfOk, OnOk, OnErr};
 ghost use Rattle.jm_dest.specs.declared.key.Key.{Key as KeyShown};
 ghost use Rattle.jm_dest.specs.declared.key.Key.TheVariants as key;
 ghost use Rattle.jm_dest.specs.declared.destination.Destination.TheVariants as destination;
 ghost use Rattle.jm_header.specs.declared.content.Content.{Content};
 ghost use Rattle.jm_machine.specs.Machine.{State, are_meant, at_queue, at_queues, places_end, queued, returned_rows, settled_rows};
-ghost use Rattle.jm_machine.specs.Rows.{bare, chosen, deliver_chosen};
+ghost use Rattle.jm_machine.specs.Rows.{deliver_chosen};
 ghost use Rattle.jm_machine.specs.Wants.{next_chosen};
+ghost use Rattle.jm_machine.specs.Under.{placed_under};
 ghost use Rattle.jm_selector.specs.Selectors.{matches};
 ghost use Rattle.jm_stations.specs.Backlogs as backlogs;
-ghost use Rattle.jm_stations.specs.Backlogs.{Backlog};
 ghost use Rattle.jm_stations.specs.Loading.{stored_row};
+ghost use Rattle.jm_stations.specs.Standing as standing;
 ghost use Rattle.jm_stations.specs.Stations.{index_in};
 ghost use Rattle.jm_queues.specs.Queues.{IsReserved, HaveMoreRoom, rows_in, joins};
-ghost use Rattle.jm_queues.specs.Rows as reading;
 
 use crate::rows::Rows;
 use jm_dest::{ConsumerId, Key, Moment, Name, SessionId};
 use jm_header::Message;
 use jm_machine::{Answer, Consumers, PlacedRow, Row, RowState};
 use jm_selector::Selector;
-use jm_stations::{Picked, Stations};
+use jm_stations::{Picked, Standing, Stations};
 use std::alloc::{AllocError, Global};
 use std::marker::Model;
 use std::slice::from_ref;
@@ -132,7 +132,7 @@ impl Queues {
     pub fn rows_at(&self, index: usize) -> Rows<'_>
         requires { index < length self.now.keys }
         ensures { (state : State) (d : KeyShown) → state.queues ≡ rows_in self.now →
-            result ≡ reading.rows_under state (slice_index_or self.now.keys index d) }
+            result ≡ placed_under state (slice_index_or self.now.keys index d) }
     {
         // The length is what says that each key stands once.
         let _number = self.stations.len();
@@ -220,6 +220,18 @@ impl Queues {
     }
 
     /// What a delivery from the queue with that index takes at that moment, which settles at once or not, of the messages that
+    /// The row that was picked of those of the queue with that index, where one was, which is found at its place and not
+    /// searched a second time.
+    pub fn row_picked(&self, index: usize, picked: &Option<Picked>) -> Option<Standing<'_>>
+        requires within { index < length self.now.list }
+        requires picked { (p : Content → Bool) × (settles : Bool) × (now : ℕ) × backlogs.IsPicked p settles now self.now.list index picked.now }
+        ensures { (p : Content → Bool) (settles : Bool) (now : ℕ) (name : List ℕ) → index_in self.now.keys (key.Queue name) ≡ Some index →
+            backlogs.IsPicked p settles now self.now.list index picked.now →
+            option_map standing.row_of result ≡ next_chosen p now (rows_in self.now name) }
+    {
+        self.stations.row_picked(index, picked)
+    }
+
     /// the selector selects: the next one, with the copy that it wants. `AllocError` where a request for memory was refused,
     /// which comes only where a row stays: a queue's message is held there alone.
     pub fn pick(

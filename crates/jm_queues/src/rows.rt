@@ -2,14 +2,11 @@
 
 ghost use Rattle.std.specs.Prelude.{◌≡◌, ◌≤◌, ◌<◌, find, length, option_map, slice_index_or};
 ghost use Rattle.jm_machine.specs.Machine.{are_meant, places_end};
-ghost use Rattle.jm_machine.specs.Wants.{next_chosen, next_placed};
-ghost use Rattle.jm_selector.specs.Selectors.{matches};
 ghost use Rattle.jm_stations.specs.Backlogs.{Backlog};
 ghost use Rattle.jm_stations.specs.Standing as standing;
 
 use jm_dest::Moment;
 use jm_machine::Consumers;
-use jm_selector::Selector;
 use jm_stations::{Standing, Stations};
 use std::marker::Model;
 
@@ -63,19 +60,5 @@ impl<'a> Rows<'a> {
         ensures { option_map standing.row_of result ≡ find (standing.out_from place (are_meant which.now)) self.now }
     {
         self.stations.out_from(self.index, place, which)
-    }
-
-    /// The row that a delivery at that moment would take.
-    pub fn next(&self, now: Moment) -> Option<Standing<'a>>
-        ensures { option_map standing.row_of result ≡ next_placed now self.now }
-    {
-        self.stations.next(self.index, now)
-    }
-
-    /// The row that a delivery at that moment would take of those whose messages the selector selects.
-    pub fn next_where(&self, now: Moment, selector: &Selector) -> Option<Standing<'a>>
-        ensures { option_map standing.row_of result ≡ next_chosen (matches selector.now) now self.now }
-    {
-        self.stations.next_where(self.index, now, selector)
     }
 }

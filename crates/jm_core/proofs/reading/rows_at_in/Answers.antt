@@ -2,9 +2,9 @@ use Rattle.std.proofs.Common.{◌<◌, ◌≤◌, ◌++◌, ◌∙◌, ap, arith
 use Rattle.std.proofs.lemmas.Bool.Decides.{nat_tests}
 use Rattle.std.proofs.lemmas.List.{length-append}
 use Rattle.jm_dest.specs.declared.key.Key.{Key}
+use Rattle.jm_machine.specs.Under.{placed_under}
 use Rattle.jm_stations.specs.Backlogs.{Backlog, empty}
 use Rattle.jm_plans.specs.Provider.{state_of}
-use Rattle.jm_queues.specs.Rows.{rows_under}
 use Rattle.jm_plans.proofs.Planned.{of_parts}
 use Rattle.jm_core.proofs.ReadKeys.{key_behind, rows_first}
 use Rattle.jm_core.proofs.reading.rows_at_in.Goals as goal
@@ -33,5 +33,5 @@ returns c = λ d.
     let more : c.len-subscriptions.result ≤ c.args.index = grind (arith, nat_tests, c.if-index-subscriptions.false) in
     rw (← c.core.view_is) (
     c.rows_at.ensures (state_of p) d refl
-    ∙ ap (λ (key : Key). rows_under (state_of p) key) (sym (key_behind i.limit i.stations.next_place p c.core.invariant.0 c.len-subscriptions.result c.args.index d (sym c.len-subscriptions.ensures.keys) more))
+    ∙ ap (λ (key : Key). placed_under (state_of p) key) (sym (key_behind i.limit i.stations.next_place p c.core.invariant.0 c.len-subscriptions.result c.args.index d (sym c.len-subscriptions.ensures.keys) more))
     )

@@ -1,9 +1,20 @@
 use Rattle.std.proofs.Common.{refl}
 use Rattle.jm_machine.specs.Machine.{consumer_of, key_at}
 use Rattle.jm_queues.specs.Queues.{rows_in}
+use Rattle.jm_plans.proofs.Fits.{picked_taken}
 use Rattle.jm_plans.proofs.Listening.{take_made}
 use Rattle.jm_parts.proofs.NextRows.{when_ok}
 use Rattle.jm_plans.proofs.state.CoreState.copy_taken.Goals as goal
+
+pub copy_delivery-requires-clause-within : goal.copy_delivery-requires-clause-within
+copy_delivery-requires-clause-within c = rw (← c.self.view_is) at c.requires.2.within
+
+pub copy_delivery-requires-clause-picked : goal.copy_delivery-requires-clause-picked
+copy_delivery-requires-clause-picked c =
+    let i = c.self.inside in
+    let r = c.args.receiver.now in
+    let taken = rw (← c.self.view_is) at c.requires.2.taken in
+    picked_taken i.stations.keys i.stations.list r (key_at (consumer_of i.sessions.consumers r.session r.consumer)) c.args.taking.now taken
 
 pub returns : goal.returns
 returns c =
