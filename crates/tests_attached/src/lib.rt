@@ -9,13 +9,7 @@ mod idle;
 #[cfg(test)]
 mod keys;
 #[cfg(test)]
-mod listening;
-#[cfg(test)]
 mod named;
-#[cfg(test)]
-mod sends;
-#[cfg(test)]
-mod sessions;
 #[cfg(test)]
 mod subscriptions;
 #[cfg(test)]

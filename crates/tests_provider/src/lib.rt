@@ -1,27 +1,18 @@
-//! Tests of the provider of `jm_machine`, `jm_tx`, `jm_core` and `jm_model`, over tables of calls: that calls find memory and
-//! succeed, what they leave, and that what the clauses say was meant. Runs with their lines are cases, and stand in `cases`.
+//! Tests of what the calls of a run answer and leave, in `jm_core`, and of what a session keeps for its commit, in `jm_tx`, over
+//! tables of calls: that calls find memory and succeed, and that what the clauses say was meant. Runs with their lines are
+//! cases, and stand in `cases`.
 #![tactic(auto)]
 
 #[cfg(test)]
 mod acknowledgement;
 #[cfg(test)]
-mod copies;
-#[cfg(test)]
 mod halves;
 #[cfg(test)]
 mod listeners;
 #[cfg(test)]
-mod lone;
-#[cfg(test)]
-mod ops;
-#[cfg(test)]
-mod plans;
-#[cfg(test)]
 mod queues;
 #[cfg(test)]
 mod runs;
-#[cfg(test)]
-mod taken;
 #[cfg(test)]
 mod told;
 #[cfg(test)]

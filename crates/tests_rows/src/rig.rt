@@ -2,7 +2,6 @@
 
 ghost use Rattle.std.specs.Prelude.{◌≡◌};
 
-use crate::messages::{Words, delayed, is_there};
 use jm_base::Refusal;
 use jm_dest::{ConsumerId, Moment, SessionId};
 use jm_machine::{Consumers, RowState};
@@ -10,6 +9,7 @@ use jm_pending::{Held, Row, Table};
 use jm_selector::Selector;
 use std::alloc::Global;
 use std::marker::Model;
+use tests_messages::{Words, delayed, is_there};
 
 /// What is seen of a row: its place, its count, and the number of the session that it is out to, or 0 where it waits.
 pub(crate) type Seen = (u64, u32, u32);

@@ -1,12 +1,12 @@
 //! Rows that go out to sessions, are chosen by selectors, settled, given back and cleared, and that are missed, expire or
 //! are held back.
 
-use crate::messages::{Words, selector, session};
 use crate::rig::{Rig, Seen};
 use crate::told::is_number;
 use jm_base::Refusal;
 use jm_dest::{ConsumerId, Moment};
 use std::alloc::Global;
+use tests_messages::{Words, selector, session};
 
 /// What is done to the rows.
 enum Op {

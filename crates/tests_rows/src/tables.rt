@@ -1,10 +1,10 @@
 //! The table of messages.
 
-use crate::messages::{is_text, is_there, sent};
 use crate::told::is_number;
 use jm_base::Refusal;
 use jm_pending::Table;
 use std::alloc::Global;
+use tests_messages::{is_text, is_there, sent};
 
 /// Puts a message of that text at the place, where none stands.
 fn put(alloc: Global, table: &mut Table, place: u64, text: &'static str) -> Result<(), Refusal> {

@@ -1,7 +1,0 @@
-use Rattle.std.specs.List.{IsDistinct}
-use Rattle.tests_rows.proofs.many.publish.Goals as goal
-
--- the index stands once
-pub publish_to-requires-clause-once : goal.publish_to-requires-clause-once
-unfolding IsDistinct
-publish_to-requires-clause-once c = (tt, tt)
