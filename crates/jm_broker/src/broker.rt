@@ -82,7 +82,7 @@ impl<C: PlannedCore, K: Keep + Drop, L: Ledger> Broker<C, K, L> {
         ensures { Noted pass.old pass.new step.now result }
     {
         let reply = self.traced.lock(rt).apply(pass, step);
-        if reply.is_ok() && step.call.wakes() {
+        if step.call.wakes(&reply) {
             self.wake();
         }
         reply

@@ -26,9 +26,9 @@
 //! or ends above 2^62. `finish` is `Traced`'s.
 //!
 //! The provider's `Core` is such a core: its plan, its copied answer, its listed changes and its install are the
-//! lock's. `Call::wakes` says which accepted calls wake all that wait: a start, a publication, a commit, a rollback, a
-//! recover, the end of a listener's delivery, or a close. Nothing is promised of waiting, of waking, or of the order
-//! between threads.
+//! lock's. `Call::wakes` says which calls wake all that wait: a start, a publication, a commit, a rollback, a recover, the
+//! end of a listener's delivery, or a close, where it is accepted. Nothing is promised of waiting, of waking, or of the
+//! order between threads.
 #![tactic(auto)]
 
 mod advance;

@@ -156,7 +156,7 @@ impl<'r, R: Wait + Clock, B: Backend> Provider<'r, R, B> {
         ensures { Told step.now.who step.now.call result }
     {
         let reply = self.shared.lock(self.rt).tell(step);
-        if reply.is_ok() && step.call.wakes() {
+        if step.call.wakes(&reply) {
             self.changed.notify_all();
         }
         reply

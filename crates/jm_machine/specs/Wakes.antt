@@ -1,5 +1,6 @@
 -- Which calls wake the callers that wait for a message.
-use Rattle.std.specs.Prelude.{Bool, true, false}
+use Rattle.std.specs.Prelude.{Bool, true, false, Result, Ok, Err}
+use Rattle.jm_machine.specs.declared.answer.Answer.{Answer}
 use Rattle.jm_machine.specs.declared.call.Call.{Call}
 use Rattle.jm_machine.specs.declared.call.Call.TheVariants.{Ask, Publish, Commit}
 use Rattle.jm_machine.specs.declared.call.Request.{Request}
@@ -16,8 +17,9 @@ may_wake requests.CloseSession = true
 may_wake (requests.CloseConsumer consumer) = true
 may_wake request = false
 
--- after the call, where it is accepted
-abbrev pub wakes : Call → Bool
-wakes (Publish messages) = true
-wakes (Commit messages) = true
-wakes (Ask request) = may_wake request
+-- the call is accepted, and it carries messages or is such a request
+abbrev pub wakes : {E : Type 0} → Call → Result Answer E → Bool
+wakes (Publish messages) (Ok answer) = true
+wakes (Commit messages) (Ok answer) = true
+wakes (Ask request) (Ok answer) = may_wake request
+wakes call (Err error) = false

@@ -1,6 +1,7 @@
 ghost use Rattle.std.specs.Prelude.{◌≡◌, ◌↔◌, IfOk, IsTrue};
 ghost use Rattle.jm_machine.specs.Wakes as waiting;
 
+use crate::answer::Answer;
 use jm_base::{List, Mode, Str};
 use jm_dest::{
     ClientId, ConnectionId, ConsumerId, Destination, Moment, SessionId, SubscriptionName,
@@ -205,10 +206,14 @@ impl Request {
 }
 
 impl Call {
-    /// Whether others that wait may find a message after the call, where it is accepted, or their wait ends (ours).
-    pub fn wakes(&self) -> bool
-        ensures { result ≡ waiting.wakes self.now }
+    /// Whether the call, answered so, is accepted, and others that wait may find a message after it, or their wait ends
+    /// (ours).
+    pub fn wakes<E>(&self, reply: &Result<Answer, E>) -> bool
+        ensures { result ≡ waiting.wakes self.now reply.now }
     {
+        if reply.is_err() {
+            return false;
+        }
         match self {
             Call::Publish(_) | Call::Commit(_) => true,
             Call::Ask(request) => request.may_wake(),

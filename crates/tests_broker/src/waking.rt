@@ -1,8 +1,8 @@
-//! Which calls wake those that wait for a message, where they are accepted.
+//! Which calls wake those that wait for a message: of those that are accepted some, of those that are refused none.
 
 use crate::steps::holds;
 use jm_base::{List, Mode, Refusal};
-use jm_machine::{Call, ClientCall};
+use jm_machine::{Answer, Call, ClientCall, Reply};
 use std::alloc::Global;
 use tests_calls::{Op, call};
 
@@ -32,18 +32,18 @@ static ROWS: [(Op, bool); 20] = [
     (Op::Take(S, 1), false),
 ];
 
-/// Whether the call wakes those that wait.
-fn wakes(heap: Global, op: Op) -> Result<bool, Refusal> {
+/// Whether the call, answered so, wakes those that wait.
+fn wakes(heap: Global, op: Op, reply: &Reply) -> Result<bool, Refusal> {
     let call = match call(heap, op)? {
         ClientCall::Ask { who: _, request } => Call::Ask(request),
         ClientCall::Send { .. } => Call::Publish(List::new(Vec::new(heap))),
         ClientCall::CommitSession(_) => Call::Commit(List::new(Vec::new(heap))),
     };
-    Ok(call.wakes())
+    Ok(call.wakes(reply))
 }
 
-fn wakes_as(heap: Global, op: Op, wanted: bool) -> bool {
-    match wakes(heap, op) {
+fn wakes_as(heap: Global, op: Op, reply: &Reply, wanted: bool) -> bool {
+    match wakes(heap, op, reply) {
         Ok(told) => told == wanted,
         Err(_) => false,
     }
@@ -52,7 +52,15 @@ fn wakes_as(heap: Global, op: Op, wanted: bool) -> bool {
 #[test]
 fn what_may_bring_a_message_wakes(rt: HostRuntime) {
     for row in &ROWS {
-        let is_so = wakes_as(rt.alloc(), row.0, row.1);
+        let is_so = wakes_as(rt.alloc(), row.0, &Ok(Answer::Done), row.1);
         holds(&rt, "a call that wakes", is_so);
+    }
+}
+
+#[test]
+fn what_is_refused_wakes_nobody(rt: HostRuntime) {
+    for row in &ROWS {
+        let is_so = wakes_as(rt.alloc(), row.0, &Err(Refusal::Memory), false);
+        holds(&rt, "a refused call", is_so);
     }
 }
