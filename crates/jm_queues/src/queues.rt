@@ -219,7 +219,6 @@ impl Queues {
         self.stations.load(index, row);
     }
 
-    /// What a delivery from the queue with that index takes at that moment, which settles at once or not, of the messages that
     /// The row that was picked of those of the queue with that index, where one was, which is found at its place and not
     /// searched a second time.
     pub fn row_picked(&self, index: usize, picked: &Option<Picked>) -> Option<Standing<'_>>
@@ -232,6 +231,7 @@ impl Queues {
         self.stations.row_picked(index, picked)
     }
 
+    /// What a delivery from the queue with that index takes at that moment, which settles at once or not, of the messages that
     /// the selector selects: the next one, with the copy that it wants. `AllocError` where a request for memory was refused,
     /// which comes only where a row stays: a queue's message is held there alone.
     pub fn pick(
